@@ -1,0 +1,6 @@
+-- Laws that more than one proof cites, and the order theorem.
+pub mod Tests
+pub mod Bytes
+pub mod Moves
+pub mod Refusals
+pub mod Order

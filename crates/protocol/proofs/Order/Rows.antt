@@ -1,0 +1,158 @@
+-- What the order asks of the tables' rows, each as a small fact: where a commit stands to the leases, and what a grant or a writeback carries.
+use Prim.Native.Nat.{ℕ, _≤_, _<_}
+use mathlib.Core.Path.{_≡_, refl, ap}
+use mathlib.Core.Bool.{Bool, true, false}
+use native.Mathlib.Omega.{arith}
+use borrow.Author.Tests.{eqb-true}
+use Rattle.protocol.specs.Stamps.{stamp}
+use Rattle.protocol.specs.Machine.{Pieces}
+use Rattle.protocol.specs.Tables.{loadOwned, loadShared, storeTable, evictTable, sameVersion, leasedTo, serveLoad, yieldTable}
+use Rattle.protocol.specs.declared.Stamp.{Stamp}
+use Rattle.protocol.specs.declared.Copy.{Copy}
+use Rattle.protocol.specs.declared.Copy.the-variants.{None as NoCopy, Shared as CopyShared, Owned as CopyOwned}
+use Rattle.protocol.specs.declared.Held.{Held}
+use Rattle.protocol.specs.declared.Held.the-variants.{None as NothingHeld, Version}
+use Rattle.protocol.specs.declared.Slot.{Slot}
+use Rattle.protocol.specs.declared.Slot.the-variants.{Empty, Asked, Answered}
+use Rattle.protocol.specs.declared.Manager.{Manager}
+use Rattle.protocol.specs.declared.Manager.the-variants.{Shared, Owned}
+use Rattle.protocol.specs.declared.Writeback.{Writeback}
+use Rattle.protocol.specs.declared.Writeback.the-variants.{None as NoWriteback, Flight}
+use Rattle.protocol.specs.declared.Answer.{Answer}
+use Rattle.protocol.specs.declared.Answer.the-variants.{Refused, Open, Ask, Recall, Share, Renew, Own, Drop, Evict, Advance, Yield, Take, CommitLoad, CommitStore, CommitFence}
+use Rattle.protocol.specs.declared.Move.{Move}
+use Rattle.protocol.specs.declared.Move.the-variants.{Still, Store as MoveStore, Answer as MoveAnswer, Receive as MoveReceive, Writeback as MoveWriteback, Take as MoveTake}
+
+-- ---- the timestamps in a row
+
+-- the timestamp of a commit
+abbrev pub timeOf : Answer → ℕ
+timeOf (Refused n) = 0
+timeOf Open = 0
+timeOf Ask = 0
+timeOf Recall = 0
+timeOf Share = 0
+timeOf Renew = 0
+timeOf Own = 0
+timeOf Drop = 0
+timeOf Evict = 0
+timeOf Advance = 0
+timeOf Yield = 0
+timeOf Take = 0
+timeOf (CommitLoad c l t) = t .0
+timeOf (CommitStore c l t) = t .0
+timeOf (CommitFence c t) = t .0
+
+-- the end of the lease of a copy, of an answer, of the manager's version, of a writeback
+abbrev pub copyRts : Copy → ℕ
+copyRts NoCopy = 0
+copyRts (CopyShared w r) = r .0
+copyRts (CopyOwned w r d) = r .0
+
+abbrev pub slotRts : Slot → ℕ
+slotRts Empty = 0
+slotRts (Asked a l t h) = 0
+slotRts (Answered g l w r) = r .0
+
+abbrev pub managerRts : Manager → ℕ
+managerRts (Shared w r) = r .0
+managerRts (Owned c) = 0
+
+abbrev pub writebackRts : Writeback → ℕ
+writebackRts NoWriteback = 0
+writebackRts (Flight w r) = r .0
+
+-- ---- load
+
+module _ (c l : ℕ) (w r : Stamp) (p : Pieces) where
+  -- an owner's read stands within the lease that its copy has after it
+  pub read-within : (d : Bool) → timeOf (loadOwned d c l w r p .answer) ≤ copyRts (loadOwned d c l w r p .copy)
+  unfolding loadOwned
+  read-within true = omega arith
+  read-within false = omega arith
+
+  -- the copy's lease does not shrink
+  pub lease-grows : (d : Bool) → r .0 ≤ copyRts (loadOwned d c l w r p .copy)
+  unfolding loadOwned
+  lease-grows true = omega arith
+  lease-grows false = omega arith
+
+  -- a read stands at or after the core's lts, and at or before its lts after the step
+  pub read-after : (d : Bool) → p .core .clocks .lts .0 ≤ timeOf (loadOwned d c l w r p .answer)
+  unfolding loadOwned
+  read-after true = omega arith
+  read-after false = omega arith
+
+  pub read-clocked : (d : Bool) → timeOf (loadOwned d c l w r p .answer) ≤ loadOwned d c l w r p .core .clocks .lts .0
+  unfolding loadOwned
+  read-clocked true = omega arith
+  read-clocked false = omega arith
+
+  -- a read of a copy that is not dirty stands at or after the store that made it
+  pub read-version : w .0 ≤ timeOf (loadOwned false c l w r p .answer)
+  unfolding loadOwned
+  read-version = omega arith
+
+  -- the same of a shared copy within its lease
+  pub shared-version : w .0 ≤ timeOf (loadShared c l w p .answer)
+  shared-version = omega arith
+
+  pub shared-within : w .0 ≤ r .0 → p .core .clocks .lts .0 ≤ r .0 → timeOf (loadShared c l w p .answer) ≤ r .0
+  shared-within h k = omega arith
+
+  -- ---- store
+
+  -- a store stands past the lease of its copy, and at or after both clocks
+  pub store-past : (d : Bool) → r .0 < timeOf (storeTable (CopyOwned w r d) c l p .answer)
+  unfolding storeTable
+  store-past d = omega arith
+
+  pub store-after-loads : (d : Bool) → p .core .clocks .lts .0 ≤ timeOf (storeTable (CopyOwned w r d) c l p .answer)
+  unfolding storeTable
+  store-after-loads d = omega arith
+
+  pub store-after-stores : (d : Bool) → p .core .clocks .sts .0 ≤ timeOf (storeTable (CopyOwned w r d) c l p .answer)
+  unfolding storeTable
+  store-after-stores d = omega arith
+
+-- ---- serve
+
+-- a renewal is of the version that the core holds
+pub same-version : (h : Held) (w : Stamp) → sameVersion h w ≡ true → h ≡ Version w
+same-version NothingHeld w e = let n : _≡_ {A = ℕ} 0 1 = cc in absurd (omega arith)
+same-version (Version v) w e = let q : v .0 ≡ w .0 = omega (arith, eqb-true) in ap (λ (n : ℕ). Version (stamp n)) q
+
+module _ (l : ℕ) (w r : Stamp) (p : Pieces) where
+  -- the lease that is handed out is the manager's too
+  pub grant-within : (d : Bool) → slotRts (serveLoad d l w r p .core .slot) ≤ managerRts (serveLoad d l w r p .line .manager)
+  unfolding serveLoad
+  grant-within true = omega arith
+  grant-within false = omega arith
+
+-- the manager's lease does not shrink
+pub manager-grows : (l : ℕ) (w r t : Stamp) (lease : ℕ) (p : Pieces) (d : Bool)
+    → r .0 ≤ managerRts (serveLoad d l w (leasedTo r t lease) p .line .manager)
+unfolding serveLoad
+manager-grows l w r t lease p true = omega arith
+manager-grows l w r t lease p false = omega arith
+
+-- ---- evict, yield and take
+
+module _ (w r : Stamp) (d : Bool) (p : Pieces) where
+  -- the writeback has the whole lease of the owner's copy
+  pub evict-lease : r .0 ≤ writebackRts (evictTable (CopyOwned w r d) p .line .writeback)
+  unfolding evictTable
+  evict-lease = omega arith
+
+  pub yield-lease : r .0 ≤ writebackRts (yieldTable (CopyOwned w r d) p .line .writeback)
+  unfolding yieldTable
+  yield-lease = omega arith
+
+  -- its bytes come along
+  pub evict-moves : evictTable (CopyOwned w r d) p .moves ≡ MoveWriteback
+  unfolding evictTable
+  evict-moves = refl
+
+  pub yield-moves : yieldTable (CopyOwned w r d) p .moves ≡ MoveWriteback
+  unfolding yieldTable
+  yield-moves = refl

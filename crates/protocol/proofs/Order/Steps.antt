@@ -1,0 +1,601 @@
+-- Each row of the nine tables keeps the invariant, and what it commits fits the log.
+use Prim.Native.Nat.{ℕ, _+_, _*_, _≤_, _<_, max}
+use mathlib.Core.Path.{_≡_, refl, sym, _∙_, ap}
+use mathlib.Core.Logic.{_⊎_, inl, inr, ⊎-elim}
+use mathlib.Core.Bool.{Bool, true, false}
+use mathlib.Core.List.{List, [], _∷_}
+use native.Mathlib.Omega.{arith}
+use native.Mathlib.Decide.{ℕ-discrete}
+use lib.Dec.{leb, eqb}
+use borrow.Author.Tests.{leb-true}
+use lib.ListN.{length}
+use Rattle.protocol.specs.Pick.{pick}
+use Rattle.protocol.specs.Stamps.{stamp, later}
+use Rattle.protocol.specs.Clock.{storeTime}
+use Rattle.protocol.specs.Buffers.{Bytes, copyBytes, managerBytes, writebackBytes, answerBytes}
+use Rattle.protocol.specs.Machine.{Machine, Pieces, piecesAt, coreAt, copyAt, lineAt, applied, slotLine}
+use Rattle.protocol.specs.Tables.{row, noRow, heldOf, asking, loadOwned, loadShared, loadTable, storeTable, fenceTable, advanceTable, evictTable, sameVersion, leasedTo, serveLoad, serveAsked, serveTable, receiveRenew, receiveGrant, receiveTable, yielded, yieldTable, takeTable, written-back, managed, slotted}
+use Rattle.protocol.specs.Step.{Op, load, store, fence, Reply, refused, done, commit, meaning, commitBytes, Outcome, accepted}
+use Rattle.protocol.specs.Run.{place, Commit, commitAt}
+use Rattle.protocol.specs.Order.{TsoKeeps, Stores}
+use Rattle.protocol.specs.declared.Stamp.{Stamp}
+use Rattle.protocol.specs.declared.Clocks.{Clocks}
+use Rattle.protocol.specs.declared.Copy.{Copy}
+use Rattle.protocol.specs.declared.Copy.the-variants.{None as NoCopy, Shared as CopyShared, Owned as CopyOwned}
+use Rattle.protocol.specs.declared.Want.{Want}
+use Rattle.protocol.specs.declared.Want.the-variants.{Load as WantLoad, Store as WantStore}
+use Rattle.protocol.specs.declared.Held.{Held}
+use Rattle.protocol.specs.declared.Held.the-variants.{None as NothingHeld, Version}
+use Rattle.protocol.specs.declared.Grant.{Grant}
+use Rattle.protocol.specs.declared.Grant.the-variants.{Share as GrantShare, Renew as GrantRenew, Own as GrantOwn}
+use Rattle.protocol.specs.declared.Slot.{Slot}
+use Rattle.protocol.specs.declared.Slot.the-variants.{Empty, Asked, Answered}
+use Rattle.protocol.specs.declared.Core.{Core}
+use Rattle.protocol.specs.declared.Manager.{Manager}
+use Rattle.protocol.specs.declared.Manager.the-variants.{Shared, Owned}
+use Rattle.protocol.specs.declared.Recall.{Recall}
+use Rattle.protocol.specs.declared.Recall.the-variants.{None as NoRecall, Downgrade, Flush}
+use Rattle.protocol.specs.declared.Writeback.{Writeback}
+use Rattle.protocol.specs.declared.Writeback.the-variants.{None as NoWriteback, Flight}
+use Rattle.protocol.specs.declared.Call.{Call}
+use Rattle.protocol.specs.declared.Answer.{Answer}
+use Rattle.protocol.specs.declared.Answer.the-variants.{Evict as AnswerEvict, Yield as AnswerYield, Own, Drop}
+use Rattle.protocol.specs.declared.Move.{Move}
+use Rattle.protocol.specs.declared.Move.the-variants.{Still, Answer as MoveAnswer, Writeback as MoveWriteback}
+use Rattle.protocol.specs.declared.Effect.{Effect}
+use Rattle.protocol.proofs.Moves.{GivenFits, managerAfter, writebackAfter, copyAfter, answerAfter}
+use Rattle.protocol.proofs.Order.Log.{All, none, more, all-map, Touches, Fits, OpFits}
+use Rattle.protocol.proofs.Order.Versions.{Spot, atManager, atWriteback, atCopy, atSlot, Mark, clean, mine, Content, nothing, snapshot, renewal, newest, put, put-at, Newest, Stands, NotNewest, ContentFits, LineFits, Lease, keep, put-newest, move, demote, quiet, write, sees-snapshot, sees-clean, sees-mine, lease-of, lease-renewed}
+use Rattle.protocol.proofs.Order.Look.{look, viewCopy, viewSlot, viewGrant, viewManager, viewWriteback, granted, view-at, SlotStep, core-at, look-manager, look-writeback, look-copy, look-slot}
+use Rattle.protocol.proofs.Order.Rows.{read-within, lease-grows, read-after, read-clocked, read-version, shared-version, shared-within, store-past, store-after-loads, store-after-stores, same-version, grant-within, manager-grows, evict-lease, yield-lease, evict-moves, yield-moves}
+use Rattle.protocol.proofs.Order.Invariant.{On, ClockFits, AskFits, NotOwned, PairFits, Within, Inv, clocks-applied, inv-applied, none-changes, one-changes, two-change}
+
+-- the commit of core c at t
+abbrev pub commitBy : ℕ → ℕ → Stamp → Op Bytes → Commit Bytes
+commitBy p c t o = record { place = place p; core = c; ts = t; op = o }
+
+-- a call's answer and the machine after it keep the invariant; a commit is the call's own, and fits the log
+abbrev pub Good : Bytes → ℕ → List (Commit Bytes) → Call → Bytes → Reply → Machine → Type 0
+Good z p H call given (refused n) m = Inv z H m
+Good z p H call given (done d) m = Inv z H m
+Good z p H call given (commit c t o) m =
+    (commitAt (place p) call given t o ≡ commitBy p c t o ∷ []) × Fits TsoKeeps z (commitBy p c t o) H × Inv z (commitBy p c t o ∷ H) m
+
+-- ---- a slot and a copy
+
+pair-none : (l : ℕ) (v : Slot) → PairFits l v NoCopy
+pair-none l Empty = tt
+pair-none l (Asked a n t h) = λ e. tt
+pair-none l (Answered GrantShare n w r) = λ e. tt
+pair-none l (Answered GrantRenew n w r) = λ e. tt
+pair-none l (Answered GrantOwn n w r) = λ e. tt
+
+-- beside an owned copy any copy may come that is asked nothing of
+pair-owned : (l : ℕ) (v : Slot) (w r : Stamp) (d : Bool) (u : Copy) → PairFits l v (CopyOwned w r d) → PairFits l v u
+pair-owned l Empty w r d u p = tt
+pair-owned l (Asked a n t h) w r d u p = λ e. absurd (p e)
+pair-owned l (Answered GrantShare n x y) w r d u p = λ e. absurd (p e)
+pair-owned l (Answered GrantRenew n x y) w r d u p = λ e. absurd (p e)
+pair-owned l (Answered GrantOwn n x y) w r d u p = λ e. absurd (p e)
+
+-- an owner's slot has nothing on its line
+slot-nothing : (l : ℕ) (v : Slot) (w r : Stamp) (d : Bool) (b : Bytes) → PairFits l v (CopyOwned w r d) → viewSlot l v b ≡ nothing
+slot-nothing l Empty w r d b p = refl
+slot-nothing l (Asked a n t h) w r d b p = refl
+slot-nothing l (Answered g n x y) w r d b p = go g (ℕ-discrete n l) p
+  where
+    go : (g : Grant) (k : Dec (n ≡ l)) → PairFits l (Answered g n x y) (CopyOwned w r d) → viewGrant k g x y b ≡ nothing
+    go GrantShare (yes q) p = absurd (p q)
+    go GrantRenew (yes q) p = absurd (p q)
+    go GrantOwn (yes q) p = absurd (p q)
+    go GrantShare (no q) p = refl
+    go GrantRenew (no q) p = refl
+    go GrantOwn (no q) p = refl
+
+ask-not-owned : (h : Held) (v : Copy) → AskFits h v → NotOwned v
+ask-not-owned h NoCopy a = tt
+ask-not-owned h (CopyShared w r) a = tt
+ask-not-owned h (CopyOwned w r d) a = a
+
+-- ---- the order of one core's commits
+
+-- a load comes after its core's loads and fences
+kept-load : (o : Op Bytes) (t′ t : ℕ) (l : ℕ) (b : Bytes) (k : Clocks) → k .lts .0 ≤ t → ClockFits o t′ k → TsoKeeps o (load l b) → t′ ≤ t
+kept-load (load n d) t′ t l b k h f q = omega arith
+kept-load (store n d) t′ t l b k h f q = absurd q
+kept-load fence t′ t l b k h f q = omega arith
+
+-- what is at or after both clocks comes after all its core's commits
+kept-all : (o : Op Bytes) (t′ t : ℕ) (k : Clocks) → k .lts .0 ≤ t → k .sts .0 ≤ t → ClockFits o t′ k → t′ ≤ t
+kept-all (load n d) t′ t k h h′ f = omega arith
+kept-all (store n d) t′ t k h h′ f = omega arith
+kept-all fence t′ t k h h′ f = omega arith
+
+-- ---- a row of a table on core c and line l
+module _ (z : Bytes) (p : ℕ) {H : List (Commit Bytes)} (call : Call) (given : Bytes) {m : Machine} (I : Inv z H m) (c l : ℕ)
+    (hc : c < m .state .opening .cores) (hl : l < m .state .opening .lines) where
+  abbrev k : Core
+  k = coreAt (m .state) c
+
+  abbrev ps : Pieces
+  ps = piecesAt (m .state) c l
+
+  abbrev bytes : Bytes
+  bytes = copyBytes (m .state .opening) (m .private) c l
+
+  abbrev g : Newest Bytes
+  g = I .lines l hl .0
+
+  J : LineFits z (Stores l) (On l) H (look m l) g
+  J = I .lines l hl .1
+
+  abbrev GivenOk : Effect → Type 0
+  GivenOk d = GivenFits (m .state .opening) (m .private) (m .shared) c l given (d .moves)
+
+  -- the row is good: its answer and the machine after it
+  abbrev pub GoodRow : Effect → Type 0
+  GoodRow d = Good z p H call given (accepted m call given c l d .reply) (accepted m call given c l d .machine)
+
+  -- ---- what stands at the spots
+  at-copy : (v : Copy) → copyAt (m .state) c l ≡ v → ContentFits z (Stores l) (On l) H g (atCopy c) (viewCopy c v bytes)
+  unfolding look
+  at-copy v e = rw e at (J .spots (atCopy c))
+
+  at-slot : (v : Slot) → k .slot ≡ v → ContentFits z (Stores l) (On l) H g (atSlot c) (viewSlot l v (answerBytes (m .state .opening) (m .shared) c))
+  unfolding look
+  at-slot v e = rw e at (J .spots (atSlot c))
+
+  at-manager : (v : Manager) → lineAt (m .state) l .manager ≡ v
+      → ContentFits z (Stores l) (On l) H g atManager (viewManager v (managerBytes (m .state .opening) (m .shared) l))
+  unfolding look
+  at-manager v e = rw e at (J .spots atManager)
+
+  at-writeback : (v : Writeback) → lineAt (m .state) l .writeback ≡ v
+      → ContentFits z (Stores l) (On l) H g atWriteback (viewWriteback v (writebackBytes (m .state .opening) (m .shared) l))
+  unfolding look
+  at-writeback v e = rw e at (J .spots atWriteback)
+
+  pair-at : (v : Copy) → copyAt (m .state) c l ≡ v → PairFits l (k .slot) v
+  pair-at v e = rw e at (I .rest .pairs c l hl)
+
+  owner-slot : (w r : Stamp) (d : Bool) → copyAt (m .state) c l ≡ CopyOwned w r d → look m l (atSlot c) ≡ nothing
+  unfolding look
+  owner-slot w r d e = slot-nothing l (k .slot) w r d (answerBytes (m .state .opening) (m .shared) c) (pair-at (CopyOwned w r d) e)
+
+  owned-stands : (w r : Stamp) (d : Bool) → copyAt (m .state) c l ≡ CopyOwned w r d → Stands g (atCopy c) (w .0) (r .0) bytes
+  owned-stands w r true e = at-copy (CopyOwned w r true) e .0
+  owned-stands w r false e = at-copy (CopyOwned w r false) e .0
+
+  -- ---- the invariant after a row that commits nothing, and after one that commits
+  keeps : {g′ : Newest Bytes} (d : Effect) (hg : GivenOk d) → SlotStep m (I .rest .shape) c l hc hl given d hg → PairFits l (d .core .slot) (d .copy)
+      → k .clocks .lts .0 ≤ d .core .clocks .lts .0 → k .clocks .sts .0 ≤ d .core .clocks .sts .0
+      → LineFits z (Stores l) (On l) H (look (applied m c l given d) l) g′ → Inv z H (applied m c l given d)
+  keeps d hg st pr a b this =
+      inv-applied I c l hc hl given d hg H st pr (clocks-applied I c l hc hl given d hg a b) (λ l′ g n f. f) this
+
+  commits-keeps : {g′ : Newest Bytes} (d : Effect) (hg : GivenOk d) (t : Stamp) (o : Op Bytes)
+      → SlotStep m (I .rest .shape) c l hc hl given d hg → PairFits l (d .core .slot) (d .copy)
+      → k .clocks .lts .0 ≤ d .core .clocks .lts .0 → k .clocks .sts .0 ≤ d .core .clocks .sts .0 → ClockFits o (t .0) (d .core .clocks)
+      → ((l′ : ℕ) → (l′ ≡ l → ⊥) → (x : Bytes) → o ≡ store l′ x → ⊥) → ((l′ : ℕ) → (l′ ≡ l → ⊥) → Touches l′ o → ⊥)
+      → LineFits z (Stores l) (On l) (commitBy p c t o ∷ H) (look (applied m c l given d) l) g′
+      → Inv z (commitBy p c t o ∷ H) (applied m c l given d)
+  commits-keeps d hg t o st pr a b ck nw nt this =
+      inv-applied I c l hc hl given d hg (commitBy p c t o ∷ H) st pr
+      (λ c′. more {e = commitBy p c t o} (λ e. own c′ e) (clocks-applied I c l hc hl given d hg a b c′))
+      (λ l′ g′ n f. quiet z (Stores l′) (On l′) f (commitBy p c t o) (nw l′ n) (λ i. absurd (nt l′ n i)))
+      this
+    where
+      own : (c′ : ℕ) → c ≡ c′ → ClockFits o (t .0) (coreAt (applied m c l given d .state) c′ .clocks)
+      own c′ e = rw (← e, core-at m (I .rest .shape) c l hc hl given d hg) ck
+
+  -- ---- the four spots after a row
+  managerSpot : (d : Effect) (hg : GivenOk d)
+      → look (applied m c l given d) l atManager ≡ viewManager (d .line .manager) (managerAfter (m .state .opening) (m .private) (m .shared) c l given (d .moves))
+  managerSpot d hg = look-manager m (I .rest .shape) c l hc hl given d hg
+
+  writebackSpot : (d : Effect) (hg : GivenOk d)
+      → look (applied m c l given d) l atWriteback ≡ viewWriteback (d .line .writeback) (writebackAfter (m .state .opening) (m .private) (m .shared) c l given (d .moves))
+  writebackSpot d hg = look-writeback m (I .rest .shape) c l hc hl given d hg
+
+  copySpot : (d : Effect) (hg : GivenOk d)
+      → look (applied m c l given d) l (atCopy c) ≡ viewCopy c (d .copy) (copyAfter (m .state .opening) (m .private) (m .shared) c l given (d .moves))
+  copySpot d hg = look-copy m (I .rest .shape) c l hc hl given d hg
+
+  slotSpot : (d : Effect) (hg : GivenOk d)
+      → look (applied m c l given d) l (atSlot c) ≡ viewSlot l (d .core .slot) (answerAfter (m .state .opening) (m .private) (m .shared) c l given (d .moves))
+  slotSpot d hg = look-slot m (I .rest .shape) c l hc hl given d hg
+
+  -- ---- rows that no accepted call has, and ask
+  no-row : GoodRow (noRow ps)
+  unfolding accepted meaning look
+  no-row =
+      keeps (noRow ps) tt (inl (refl, tt)) (pair-at (copyAt (m .state) c l) refl) (omega arith) (omega arith)
+      (none-changes I c l hc hl given (noRow ps) tt (inr (managerSpot (noRow ps) tt)) (inr (writebackSpot (noRow ps) tt)) (inr (copySpot (noRow ps) tt)) (inr (slotSpot (noRow ps) tt)) J)
+
+  asks : (a : Want) → AskFits (heldOf (copyAt (m .state) c l)) (copyAt (m .state) c l) → GoodRow (asking a l ps)
+  unfolding accepted meaning look
+  asks a f =
+      let d = asking a l ps in
+      keeps d tt (inr refl) (λ _. f) (omega arith) (omega arith)
+      (one-changes I c l hc hl given d tt (atSlot c) nothing (slotSpot d tt) (inr (managerSpot d tt)) (inr (writebackSpot d tt)) (inr (copySpot d tt)) (inl refl)
+      (keep z (Stores l) (On l) J (atSlot c) nothing tt))
+
+  -- ---- load
+
+  -- a load by core c at t of the bytes b fits the log
+  fits-load : (t : Stamp) (b : Bytes) → k .clocks .lts .0 ≤ t .0 → OpFits z (load l b) (commitBy p c t (load l b)) H
+      → Fits TsoKeeps z (commitBy p c t (load l b)) H
+  fits-load t b h f = record { inOrder = all-map (λ a i j q. kept-load (a .op) (a .ts .0) (t .0) l b (k .clocks) h (i j) q) (I .rest .clocks c); opFits = f }
+
+  -- a load writes nothing, and touches its own line alone
+  load-still : (b : Bytes) (l′ : ℕ) (x : Bytes) → load l b ≡ store l′ x → ⊥
+  load-still b l′ x e = let n : _≡_ {A = ℕ} 0 1 = cc in omega arith
+
+  module _ (mk : (t : Stamp) (b : Bytes) → commitAt (place p) call given t (load l b) ≡ commitBy p c t (load l b) ∷ [])
+      (cb : commitBytes call given bytes ≡ bytes) where
+    -- the invariant after a load at t that leaves the line's spots fit, t within the newest version's lease
+    load-keeps : {g′ : Newest Bytes} (d : Effect) (hg : GivenOk d) (t : Stamp) → SlotStep m (I .rest .shape) c l hc hl given d hg
+        → PairFits l (d .core .slot) (d .copy) → k .clocks .lts .0 ≤ d .core .clocks .lts .0 → k .clocks .sts .0 ≤ d .core .clocks .sts .0
+        → t .0 ≤ d .core .clocks .lts .0 → t .0 ≤ g′ .r → LineFits z (Stores l) (On l) H (look (applied m c l given d) l) g′
+        → Inv z (commitBy p c t (load l bytes) ∷ H) (applied m c l given d)
+    load-keeps d hg t st pr a b ck h this =
+        commits-keeps d hg t (load l bytes) st pr a b ck (λ l′ n x e. load-still bytes l′ x e) (λ l′ n i. n (sym i))
+        (quiet z (Stores l) (On l) this (commitBy p c t (load l bytes)) (λ x e. load-still bytes l x e) (λ _. h))
+
+    load-shared : (w r : Stamp) → copyAt (m .state) c l ≡ CopyShared w r → k .clocks .lts .0 ≤ r .0 → GoodRow (loadShared c l w ps)
+    unfolding accepted meaning look
+    load-shared w r e h = rw cb (
+      mk t bytes,
+      fits-load t bytes (omega arith)
+          (sees-snapshot z (Stores l) (On l) (t .0) (shared-version c l w r ps) (shared-within c l w r ps (lease .wr) h) lease),
+      load-keeps d tt t (inl (refl, tt)) (pair-at (copyAt (m .state) c l) refl) (omega arith) (omega arith) (omega arith)
+          (omega (arith, shared-within c l w r ps (lease .wr) h, lease .top, J .lr))
+          (none-changes I c l hc hl given d tt (inr (managerSpot d tt)) (inr (writebackSpot d tt)) (inr (copySpot d tt)) (inr (slotSpot d tt)) J),
+    )
+      where
+        d : Effect
+        d = loadShared c l w ps
+
+        t : Stamp
+        t = later (k .clocks .lts) w
+
+        lease : Lease z (Stores l) (On l) H g c (w .0) (r .0) bytes
+        lease = at-copy (CopyShared w r) e
+
+    load-dirty : (w r : Stamp) → copyAt (m .state) c l ≡ CopyOwned w r true → GoodRow (loadOwned true c l w r ps)
+    unfolding accepted meaning look loadOwned
+    load-dirty w r e = rw cb (
+      mk t bytes,
+      fits-load t bytes (read-after c l w r ps true) (sees-mine z (Stores l) (On l) c (t .0) (v .1 .0)),
+      load-keeps d tt t (inl (refl, tt)) (pair-owned l (k .slot) w r true (CopyOwned w r′ true) (pair-at (CopyOwned w r true) e))
+          (omega arith) (omega arith) (read-clocked c l w r ps true) (read-within c l w r ps true)
+          (one-changes I c l hc hl given d tt (atCopy c) (newest (mine c) (w .0) (r′ .0) bytes) (copySpot d tt)
+          (inr (managerSpot d tt)) (inr (writebackSpot d tt)) (inl refl) (inr (slotSpot d tt))
+          (put-newest z (Stores l) (On l) J (atCopy c) (atCopy c) (mine c) (w .0) (w .0) (r .0) (r′ .0) (g .leased) bytes (v .0) (inl refl)
+          (omega arith) (omega (arith, J .wr, v .0 .isW, v .0 .isR, lease-grows c l w r ps true)) (lease-grows c l w r ps true) (omega arith)
+          (omega (arith, J .lr, v .0 .isR, lease-grows c l w r ps true)) (v .1 .0, omega (arith, v .1 .1, v .0 .isW)))),
+    )
+      where
+        d : Effect
+        d = loadOwned true c l w r ps
+
+        t : Stamp
+        t = k .clocks .lts
+
+        r′ : Stamp
+        r′ = later r t
+
+        v : ContentFits z (Stores l) (On l) H g (atCopy c) (newest (mine c) (w .0) (r .0) bytes)
+        v = at-copy (CopyOwned w r true) e
+
+    load-clean : (w r : Stamp) → copyAt (m .state) c l ≡ CopyOwned w r false → GoodRow (loadOwned false c l w r ps)
+    unfolding accepted meaning look loadOwned
+    load-clean w r e = rw cb (
+      mk t bytes,
+      fits-load t bytes (read-after c l w r ps false)
+          (rw (v .0 .isX) at (sees-clean z (Stores l) (On l) c (t .0) (omega (arith, v .0 .isW, read-version c l w r ps)) J)),
+      load-keeps d tt t (inl (refl, tt)) (pair-owned l (k .slot) w r false (CopyOwned w r′ false) (pair-at (CopyOwned w r false) e))
+          (omega arith) (omega arith) (read-clocked c l w r ps false) (read-within c l w r ps false)
+          (one-changes I c l hc hl given d tt (atCopy c) (newest clean (w .0) (r′ .0) bytes) (copySpot d tt)
+          (inr (managerSpot d tt)) (inr (writebackSpot d tt)) (inl refl) (inr (slotSpot d tt))
+          (put-newest z (Stores l) (On l) J (atCopy c) (atCopy c) clean (w .0) (w .0) (r .0) (r′ .0) (g .leased) bytes (v .0) (inl refl)
+          (omega arith) (omega (arith, J .wr, v .0 .isW, v .0 .isR, lease-grows c l w r ps false)) (lease-grows c l w r ps false) (omega arith)
+          (omega (arith, J .lr, v .0 .isR, lease-grows c l w r ps false)) tt)),
+    )
+      where
+        d : Effect
+        d = loadOwned false c l w r ps
+
+        t : Stamp
+        t = later (k .clocks .lts) w
+
+        r′ : Stamp
+        r′ = later r t
+
+        v : ContentFits z (Stores l) (On l) H g (atCopy c) (newest clean (w .0) (r .0) bytes)
+        v = at-copy (CopyOwned w r false) e
+
+    pub load-good : (v : Copy) → copyAt (m .state) c l ≡ v → GoodRow (loadTable v c l ps)
+    unfolding loadTable
+    load-good NoCopy e = asks WantLoad (rw e tt)
+    load-good (CopyOwned w r true) e = load-dirty w r e
+    load-good (CopyOwned w r false) e = load-clean w r e
+    load-good (CopyShared w r) e = go (leb (k .clocks .lts .0) (r .0)) refl
+      where
+        go : (b : Bool) → leb (k .clocks .lts .0) (r .0) ≡ b → GoodRow (pick b (loadShared c l w ps) (asking WantLoad l ps))
+        go true q = load-shared w r e (leb-true (k .clocks .lts .0) (r .0) q)
+        go false q = asks WantLoad (rw e refl)
+
+  -- ---- store
+
+  store-owned : (w r : Stamp) (b : Bool) → copyAt (m .state) c l ≡ CopyOwned w r b → length given ≡ m .state .opening .width
+      → ((t : Stamp) → commitAt (place p) call given t (store l given) ≡ commitBy p c t (store l given) ∷ []) → commitBytes call given bytes ≡ given
+      → GoodRow (storeTable (CopyOwned w r b) c l ps)
+  unfolding accepted meaning look storeTable
+  store-owned w r b e n mk cb = rw cb (
+    mk t,
+    record {
+      inOrder = all-map (λ a i j q. kept-all (a .op) (a .ts .0) (t .0) (k .clocks) (store-after-loads c l w r ps b) (store-after-stores c l w r ps b) (i j)) (I .rest .clocks c);
+      opFits = all-map (λ a f q. omega (arith, f q, v .isR, store-past c l w r ps b)) (J .top);
+    },
+    commits-keeps d n t (store l given) (inl (refl, tt)) (pair-owned l (k .slot) w r b (CopyOwned t t true) (pair-at (CopyOwned w r b) e))
+        (omega arith) (store-after-stores c l w r ps b) (omega arith) (λ l′ i x q. i (cc)) (λ l′ i q. i (sym q))
+        (one-changes I c l hc hl given d n {g = record { spot = atCopy c; w = t .0; r = t .0; leased = g .leased; x = given }} (atCopy c) (newest (mine c) (t .0) (t .0) given) (copySpot d n)
+        (inr (managerSpot d n)) (inr (writebackSpot d n)) (inl refl) (inr (slotSpot d n))
+        (write z (Stores l) (On l) J (commitBy p c t (store l given)) given refl (v .isSpot)
+        (omega (arith, v .isR, J .lr, store-past c l w r ps b)) (omega (arith, v .isR, store-past c l w r ps b)) (owner-slot w r b e))),
+  )
+    where
+      d : Effect
+      d = storeTable (CopyOwned w r b) c l ps
+
+      t : Stamp
+      t = storeTime (k .clocks) r
+
+      v : Stands g (atCopy c) (w .0) (r .0) bytes
+      v = owned-stands w r b e
+
+  pub store-good : (v : Copy) → copyAt (m .state) c l ≡ v → length given ≡ m .state .opening .width
+      → ((t : Stamp) → commitAt (place p) call given t (store l given) ≡ commitBy p c t (store l given) ∷ []) → commitBytes call given bytes ≡ given
+      → GoodRow (storeTable v c l ps)
+  unfolding storeTable
+  store-good (CopyOwned w r b) e n mk cb = store-owned w r b e n mk cb
+  store-good NoCopy e n mk cb = asks WantStore (rw e tt)
+  store-good (CopyShared w r) e n mk cb = asks WantStore (rw e refl)
+
+  -- ---- fence and advance
+
+  pub fence-good : ((t : Stamp) → commitAt (place p) call given t fence ≡ commitBy p c t fence ∷ []) → GoodRow (fenceTable c ps)
+  unfolding accepted meaning look fenceTable
+  fence-good mk = (
+    mk t,
+    record {
+      inOrder = all-map (λ a i j q. kept-all (a .op) (a .ts .0) (t .0) (k .clocks) (omega arith) (omega arith) (i j)) (I .rest .clocks c);
+      opFits = tt;
+    },
+    commits-keeps d tt t fence (inl (refl, tt)) (pair-at (copyAt (m .state) c l) refl) (omega arith) (omega arith) (omega arith)
+        (λ l′ n x e. still l′ x e) (λ l′ n i. i)
+        (quiet z (Stores l) (On l)
+        (none-changes I c l hc hl given d tt (inr (managerSpot d tt)) (inr (writebackSpot d tt)) (inr (copySpot d tt)) (inr (slotSpot d tt)) J)
+        (commitBy p c t fence) (λ x e. still l x e) (λ i. absurd i)),
+  )
+    where
+      d : Effect
+      d = fenceTable c ps
+
+      t : Stamp
+      t = later (k .clocks .lts) (k .clocks .sts)
+
+      still : (l′ : ℕ) (x : Bytes) → fence ≡ store l′ x → ⊥
+      still l′ x e = let n : _≡_ {A = ℕ} 0 1 = cc in omega arith
+
+  pub advance-good : (by : ℕ) → GoodRow (advanceTable by ps)
+  unfolding accepted meaning look advanceTable
+  advance-good by =
+      let d = advanceTable by ps in
+      keeps d tt (inl (refl, tt)) (pair-at (copyAt (m .state) c l) refl) (omega arith) (omega arith)
+      (none-changes I c l hc hl given d tt (inr (managerSpot d tt)) (inr (writebackSpot d tt)) (inr (copySpot d tt)) (inr (slotSpot d tt)) J)
+
+  -- ---- evict and yield
+
+  -- an owner's version goes to the writeback, with its bytes and its whole lease; u is what its copy becomes
+  writes-back : {g′ : Newest Bytes} (a : Answer) (v : Move) (w r r′ : Stamp) (u : Copy) → v ≡ MoveWriteback → r .0 ≤ r′ .0 → PairFits l (k .slot) u
+      → NotNewest (viewCopy c u bytes) → Stands g′ (atCopy c) (w .0) (r .0) bytes
+      → LineFits z (Stores l) (On l) H (put (atCopy c) (viewCopy c u bytes) (look m l)) g′
+      → Inv z H (applied m c l given (row a v k u (written-back (lineAt (m .state) l) w r′)))
+  unfolding look
+  writes-back a v w r r′ u q h pr n i K = rw q
+      (keeps d tt (inl (refl, tt)) pr (omega arith) (omega arith)
+      (two-change I c l hc hl given d tt (atCopy c) atWriteback (viewCopy c u bytes) (newest clean (w .0) (r′ .0) bytes) (copySpot d tt) (writebackSpot d tt)
+      (inr (managerSpot d tt)) (inl (inr refl)) (inl (inl refl)) (inr (slotSpot d tt))
+      (move z (Stores l) (On l) K (atCopy c) atWriteback (w .0) (r .0) (r′ .0) bytes i
+      (put-at NotNewest (atCopy c) (viewCopy c u bytes) (look m l) n) h)))
+    where
+      d : Effect
+      d = row a MoveWriteback k u (written-back (lineAt (m .state) l) w r′)
+
+  pub evict-good : (v : Copy) → copyAt (m .state) c l ≡ v → GoodRow (evictTable v ps)
+  unfolding accepted meaning look evictTable
+  evict-good NoCopy e = no-row
+  evict-good (CopyShared w r) e =
+      let d = evictTable (CopyShared w r) ps in
+      keeps d tt (inl (refl, tt)) (pair-none l (k .slot)) (omega arith) (omega arith)
+      (one-changes I c l hc hl given d tt (atCopy c) nothing (copySpot d tt) (inr (managerSpot d tt)) (inr (writebackSpot d tt)) (inl refl) (inr (slotSpot d tt))
+      (keep z (Stores l) (On l) J (atCopy c) nothing tt))
+  evict-good (CopyOwned w r b) e =
+      writes-back AnswerEvict (evictTable (CopyOwned w r b) ps .moves) w r r NoCopy (evict-moves w r b ps) (evict-lease w r b ps)
+      (pair-none l (k .slot)) tt (owned-stands w r b e) (keep z (Stores l) (On l) J (atCopy c) nothing tt)
+
+  pub yield-good : (v : Copy) → copyAt (m .state) c l ≡ v → GoodRow (yieldTable v ps)
+  unfolding accepted meaning look yieldTable
+  yield-good NoCopy e = no-row
+  yield-good (CopyShared w r) e = no-row
+  yield-good (CopyOwned w r b) e = go (lineAt (m .state) l .recall)
+    where
+      i : Stands g (atCopy c) (w .0) (r .0) bytes
+      i = owned-stands w r b e
+
+      yields : {g′ : Newest Bytes} (u : Copy) → PairFits l (k .slot) u → NotNewest (viewCopy c u bytes) → Stands g′ (atCopy c) (w .0) (r .0) bytes
+          → LineFits z (Stores l) (On l) H (put (atCopy c) (viewCopy c u bytes) (look m l)) g′
+          → Inv z H (applied m c l given (row AnswerYield MoveWriteback k u (written-back (lineAt (m .state) l) w r)))
+      yields u pr n j K =
+          writes-back AnswerYield (yieldTable (CopyOwned w r b) ps .moves) w r r u (yield-moves w r b ps) (yield-lease w r b ps) pr n j K
+
+      flushed : Inv z H (applied m c l given (row AnswerYield MoveWriteback k NoCopy (written-back (lineAt (m .state) l) w r)))
+      flushed = yields NoCopy (pair-none l (k .slot)) tt i (keep z (Stores l) (On l) J (atCopy c) nothing tt)
+
+      go : (q : Recall) → Inv z H (applied m c l given (row AnswerYield MoveWriteback k (yielded q w r) (written-back (lineAt (m .state) l) w r)))
+      go NoRecall = flushed
+      go Flush = flushed
+      go Downgrade =
+          yields (CopyShared w r) (pair-owned l (k .slot) w r b (CopyShared w r) (pair-at (CopyOwned w r b) e)) tt
+          (record { isSpot = i .isSpot; isW = i .isW; isR = i .isR; isX = i .isX }) (demote z (Stores l) (On l) J c (w .0) (r .0) bytes i)
+
+  -- ---- take
+
+  pub take-good : (v : Writeback) → lineAt (m .state) l .writeback ≡ v → GoodRow (takeTable v ps)
+  unfolding accepted meaning look takeTable
+  take-good NoWriteback e = no-row
+  take-good (Flight w r) e =
+      let d = takeTable (Flight w r) ps in
+      let b = writebackBytes (m .state .opening) (m .shared) l in
+      keeps d tt (inl (refl, tt)) (pair-at (copyAt (m .state) c l) refl) (omega arith) (omega arith)
+      (two-change I c l hc hl given d tt atWriteback atManager nothing (newest clean (w .0) (r .0) b) (writebackSpot d tt) (managerSpot d tt)
+      (inl (inr refl)) (inl (inl refl)) (inr (copySpot d tt)) (inr (slotSpot d tt))
+      (move z (Stores l) (On l) (keep z (Stores l) (On l) J atWriteback nothing tt) atWriteback atManager (w .0) (r .0) (r .0) b (at-writeback (Flight w r) e .0)
+      (put-at NotNewest atWriteback nothing (look m l) tt) (omega arith)))
+
+  -- ---- serve
+
+  -- a request that speaks of line l, so its core's copy of it is not owned
+  module _ (a : Want) (t : Stamp) (h : Held) (e : k .slot ≡ Asked a l t h) where
+    abbrev line : Bytes
+    line = managerBytes (m .state .opening) (m .shared) l
+
+    asked-fits : AskFits h (copyAt (m .state) c l)
+    asked-fits = (rw e at (I .rest .pairs c l hl)) refl
+
+    -- the manager's version with its lease up to r′, all of it handed out
+    leased : (w r r′ : Stamp) → lineAt (m .state) l .manager ≡ Shared w r → r .0 ≤ r′ .0
+        → LineFits z (Stores l) (On l) H (put atManager (newest clean (w .0) (r′ .0) line) (look m l))
+        (record { spot = atManager; w = w .0; r = r′ .0; leased = r′ .0; x = line })
+    leased w r r′ i n =
+        let v = at-manager (Shared w r) i .0 in
+        put-newest z (Stores l) (On l) J atManager atManager clean (w .0) (w .0) (r .0) (r′ .0) (r′ .0) line v (inl refl)
+        (omega arith) (omega (arith, J .wr, v .isW, v .isR)) n (omega (arith, J .lr, v .isR)) (omega arith) tt
+
+    serve-renew : (w r r′ : Stamp) → lineAt (m .state) l .manager ≡ Shared w r → r .0 ≤ r′ .0 → h ≡ Version w → GoodRow (serveLoad true l w r′ ps)
+    unfolding accepted meaning look serveLoad
+    serve-renew w r r′ i n q =
+        let d = serveLoad true l w r′ ps in
+        let K = leased w r r′ i n in
+        keeps d tt (inr refl) (λ _. rw q at asked-fits) (omega arith) (omega arith)
+        (two-change I c l hc hl given d tt atManager (atSlot c) (newest clean (w .0) (r′ .0) line) (renewal (w .0) (r′ .0))
+        (managerSpot d tt) (slotSpot d tt ∙ view-at l GrantRenew w r′ (answerBytes (m .state .opening) (m .shared) c))
+        (inl (inl refl)) (inr (writebackSpot d tt)) (inr (copySpot d tt)) (inl (inr refl))
+        (keep z (Stores l) (On l) K (atSlot c) (renewal (w .0) (r′ .0)) (line, lease-of z (Stores l) (On l) c (grant-within l w r′ ps true) K)))
+
+    serve-share : (w r r′ : Stamp) → lineAt (m .state) l .manager ≡ Shared w r → r .0 ≤ r′ .0 → GoodRow (serveLoad false l w r′ ps)
+    unfolding accepted meaning look serveLoad
+    serve-share w r r′ i n =
+        let d = serveLoad false l w r′ ps in
+        let K = leased w r r′ i n in
+        keeps d tt (inr refl) (λ _. ask-not-owned h (copyAt (m .state) c l) asked-fits) (omega arith) (omega arith)
+        (two-change I c l hc hl given d tt atManager (atSlot c) (newest clean (w .0) (r′ .0) line) (snapshot (w .0) (r′ .0) line)
+        (managerSpot d tt) (slotSpot d tt ∙ view-at l GrantShare w r′ line)
+        (inl (inl refl)) (inr (writebackSpot d tt)) (inr (copySpot d tt)) (inl (inr refl))
+        (keep z (Stores l) (On l) K (atSlot c) (snapshot (w .0) (r′ .0) line) (lease-of z (Stores l) (On l) c (grant-within l w r′ ps false) K)))
+
+    serve-own : (w r : Stamp) → lineAt (m .state) l .manager ≡ Shared w r
+        → GoodRow (row Own MoveAnswer (slotted k (Answered GrantOwn l w r)) (copyAt (m .state) c l) (managed (lineAt (m .state) l) (Owned c)))
+    unfolding accepted meaning look
+    serve-own w r i =
+        let d = row Own MoveAnswer (slotted k (Answered GrantOwn l w r)) (copyAt (m .state) c l) (managed (lineAt (m .state) l) (Owned c)) in
+        keeps d tt (inr refl) (λ _. ask-not-owned h (copyAt (m .state) c l) asked-fits) (omega arith) (omega arith)
+        (two-change I c l hc hl given d tt atManager (atSlot c) nothing (newest clean (w .0) (r .0) line)
+        (managerSpot d tt) (slotSpot d tt ∙ view-at l GrantOwn w r line)
+        (inl (inl refl)) (inr (writebackSpot d tt)) (inr (copySpot d tt)) (inl (inr refl))
+        (move z (Stores l) (On l) (keep z (Stores l) (On l) J atManager nothing tt) atManager (atSlot c) (w .0) (r .0) (r .0) line (at-manager (Shared w r) i .0)
+        (put-at NotNewest atManager nothing (look m l) tt) (omega arith)))
+
+    serve-recall : (o : ℕ) → lineAt (m .state) l .manager ≡ Owned o → (lease : ℕ) → GoodRow (serveAsked (Owned o) a c l t h ps lease)
+    unfolding accepted meaning look serveAsked
+    serve-recall o i lease =
+        let d = serveAsked (Owned o) a c l t h ps lease in
+        keeps d tt (inl (refl, tt)) (pair-at (copyAt (m .state) c l) refl) (omega arith) (omega arith)
+        (none-changes I c l hc hl given d tt (inr (managerSpot d tt)) (inr (writebackSpot d tt)) (inr (copySpot d tt)) (inr (slotSpot d tt)) J)
+
+  serve-line : (v : Manager) (a : Want) (t : Stamp) (h : Held) (lease : ℕ) → lineAt (m .state) l .manager ≡ v → k .slot ≡ Asked a l t h
+      → GoodRow (serveAsked v a c l t h ps lease)
+  unfolding serveAsked serveLoad
+  serve-line (Owned o) a t h lease i e = serve-recall a t h e o i lease
+  serve-line (Shared w r) WantStore t h lease i e = serve-own WantStore t h e w r i
+  serve-line (Shared w r) WantLoad t h lease i e = go (sameVersion h w) refl
+    where
+      go : (b : Bool) → sameVersion h w ≡ b → GoodRow (serveLoad b l w (leasedTo r t lease) ps)
+      go true q = serve-renew WantLoad t h e w r (leasedTo r t lease) i (manager-grows l w r t lease ps true) (same-version h w q)
+      go false q = serve-share WantLoad t h e w r (leasedTo r t lease) i (manager-grows l w r t lease ps false)
+
+  pub serve-good : (v : Slot) (lease : ℕ) → k .slot ≡ v → slotLine v ≡ l → GoodRow (serveTable v c ps lease)
+  unfolding serveTable
+  serve-good Empty lease e q = no-row
+  serve-good (Answered y n w r) lease e q = no-row
+  serve-good (Asked a n t h) lease e q = rw q (serve-line (lineAt (m .state) l .manager) a t h lease refl (rw q at e))
+
+  -- ---- receive
+
+  -- a renewal that finds no shared copy
+  dropped : (w r : Stamp) (d : Effect) → d ≡ row Drop Still (slotted k Empty) (copyAt (m .state) c l) (lineAt (m .state) l)
+      → GoodRow d
+  unfolding accepted meaning look
+  dropped w r d q = rw q
+      (keeps d′ tt (inr tt) tt (omega arith) (omega arith)
+      (one-changes I c l hc hl given d′ tt (atSlot c) nothing (slotSpot d′ tt) (inr (managerSpot d′ tt)) (inr (writebackSpot d′ tt)) (inr (copySpot d′ tt)) (inl refl)
+      (keep z (Stores l) (On l) J (atSlot c) nothing tt)))
+    where
+      d′ : Effect
+      d′ = row Drop Still (slotted k Empty) (copyAt (m .state) c l) (lineAt (m .state) l)
+
+  receive-renew : (v : Copy) (w r : Stamp) → copyAt (m .state) c l ≡ v → k .slot ≡ Answered GrantRenew l w r → GoodRow (receiveRenew v r ps)
+  unfolding accepted meaning look receiveRenew
+  receive-renew NoCopy w r i e = dropped w r (receiveRenew NoCopy r ps) refl
+  receive-renew (CopyOwned w₁ r₁ b) w r i e = dropped w r (receiveRenew (CopyOwned w₁ r₁ b) r ps) refl
+  receive-renew (CopyShared w₁ r₁) w r i e =
+      let d = receiveRenew (CopyShared w₁ r₁) r ps in
+      let f : AskFits (Version w) (CopyShared w₁ r₁) = (rw (e, i) at (I .rest .pairs c l hl)) refl in
+      let q : w ≡ w₁ = cc in
+      let y = rw view-at at (at-slot (Answered GrantRenew l w r) e) in
+      keeps d tt (inr tt) tt (omega arith) (omega arith)
+      (two-change I c l hc hl given d tt (atCopy c) (atSlot c) (snapshot (w₁ .0) (r .0) bytes) nothing (copySpot d tt) (slotSpot d tt)
+      (inr (managerSpot d tt)) (inr (writebackSpot d tt)) (inl (inl refl)) (inl (inr refl))
+      (keep z (Stores l) (On l)
+      (keep z (Stores l) (On l) J (atCopy c) (snapshot (w₁ .0) (r .0) bytes)
+      (lease-renewed z (Stores l) (On l) (λ e x y p q. cc) (ap (λ (s : Stamp). s .0) q) (at-copy (CopyShared w₁ r₁) i) (y .1)))
+      (atSlot c) nothing tt))
+
+  receive-grant : (y : Grant) (w r : Stamp) → k .slot ≡ Answered y l w r → GoodRow (receiveGrant y w r ps)
+  unfolding accepted meaning look receiveGrant
+  receive-grant GrantRenew w r e = receive-renew (copyAt (m .state) c l) w r refl e
+  receive-grant GrantShare w r e =
+      let d = receiveGrant GrantShare w r ps in
+      let b = answerBytes (m .state .opening) (m .shared) c in
+      keeps d tt (inr tt) tt (omega arith) (omega arith)
+      (two-change I c l hc hl given d tt (atCopy c) (atSlot c) (snapshot (w .0) (r .0) b) nothing (copySpot d tt) (slotSpot d tt)
+      (inr (managerSpot d tt)) (inr (writebackSpot d tt)) (inl (inl refl)) (inl (inr refl))
+      (keep z (Stores l) (On l)
+      (keep z (Stores l) (On l) J (atCopy c) (snapshot (w .0) (r .0) b) (rw view-at at (at-slot (Answered GrantShare l w r) e)))
+      (atSlot c) nothing tt))
+  receive-grant GrantOwn w r e =
+      let d = receiveGrant GrantOwn w r ps in
+      let b = answerBytes (m .state .opening) (m .shared) c in
+      keeps d tt (inr tt) tt (omega arith) (omega arith)
+      (two-change I c l hc hl given d tt (atSlot c) (atCopy c) nothing (newest clean (w .0) (r .0) b) (slotSpot d tt) (copySpot d tt)
+      (inr (managerSpot d tt)) (inr (writebackSpot d tt)) (inl (inr refl)) (inl (inl refl))
+      (move z (Stores l) (On l) (keep z (Stores l) (On l) J (atSlot c) nothing tt) (atSlot c) (atCopy c) (w .0) (r .0) (r .0) b
+      ((rw view-at at (at-slot (Answered GrantOwn l w r) e)) .0) (put-at NotNewest (atSlot c) nothing (look m l) tt) (omega arith)))
+
+  pub receive-good : (v : Slot) → k .slot ≡ v → slotLine v ≡ l → GoodRow (receiveTable v ps)
+  unfolding receiveTable
+  receive-good Empty e q = no-row
+  receive-good (Asked a n t h) e q = no-row
+  receive-good (Answered y n w r) e q = receive-grant y w r (rw q at e)

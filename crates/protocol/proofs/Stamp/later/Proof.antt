@@ -1,0 +1,13 @@
+-- The later of two timestamps is the greater number.
+use native.Mathlib.Nat.{max-eq-left, max-eq-right, le-of-lt}
+use Rattle.protocol.proofs.Stamp.later.Statement.{statement}
+use Rattle.protocol.proofs.Stamp.later.Tie as tie
+
+returns : tie.Need-returns
+returns c = rw (max-eq-right (le-of-lt (c .if1 .taken)))
+
+returns-2 : tie.Need-returns-2
+returns-2 c = rw (max-eq-left (c .if1 .left))
+
+pub later-spec : {M : Type 1} → statement M
+later-spec = tie.close (tie.spec returns returns-2)

@@ -1,0 +1,27 @@
+-- Laws of tests: two tests of one fact, what a call's negated answer says, and what a list of rules says where none applies.
+use Prim.Native.Nat.{ℕ, _≤_, _<_}
+use mathlib.Core.Path.{_≡_, refl, sym, _∙_}
+use mathlib.Core.Bool.{Bool, true, false, not}
+use native.Mathlib.Omega.{arith}
+use native.Mathlib.Decide.{decLe}
+use lib.Dec.{leb}
+use borrow.Author.Tests.{not-true, not-false, le-leb, lt-leb}
+
+-- two orders that hold together are one test
+pub leb-same : (a b c d : ℕ) → (a ≤ b → c ≤ d) → (c ≤ d → a ≤ b) → leb a b ≡ leb c d
+leb-same a b c d f g = go (decLe a b)
+  where
+    go : Dec (a ≤ b) → leb a b ≡ leb c d
+    go (yes p) = le-leb a b p ∙ sym (le-leb c d (f p))
+    go (no n) = lt-leb a b (omega arith) ∙ sym (lt-leb c d (other (decLe c d)))
+      where
+        other : Dec (c ≤ d) → d < c
+        other (yes q) = absurd (n (g q))
+        other (no m) = omega arith
+
+-- a test that was found false, or true, by the negated answer of a call
+pub was-false : {t b : Bool} → t ≡ b → not t ≡ true → b ≡ false
+was-false {t} p e = sym p ∙ not-true t e
+
+pub was-true : {t b : Bool} → t ≡ b → not t ≡ false → b ≡ true
+was-true {t} p e = sym p ∙ not-false t e

@@ -1,0 +1,34 @@
+-- "Fresh, for given sizes and lease: every timestamp 0, slots empty, no copies, manager lines shared, no recall, no writeback. One fresh
+-- core and one fresh line are fixed values that every opening uses."
+use lib.ListN.{replicate}
+use Rattle.protocol.specs.Stamps.{stamp}
+use Rattle.protocol.specs.declared.Copy.the-variants.{None as NoCopy}
+use Rattle.protocol.specs.declared.Slot.the-variants.{Empty}
+use Rattle.protocol.specs.declared.Manager.the-variants.{Shared}
+use Rattle.protocol.specs.declared.Recall.the-variants.{None as NoRecall}
+use Rattle.protocol.specs.declared.Writeback.the-variants.{None as NoWriteback}
+use Rattle.protocol.specs.declared.Core.{Core}
+use Rattle.protocol.specs.declared.Cell.{Cell}
+use Rattle.protocol.specs.declared.Line.{Line}
+use Rattle.protocol.specs.declared.Opening.{Opening}
+use Rattle.protocol.specs.declared.State.{State}
+
+-- the fresh core: both clocks 0, the slot empty
+abbrev pub freshCore : Core
+freshCore = record { clocks = record { lts = stamp 0; sts = stamp 0 }; slot = Empty }
+
+-- no copy
+abbrev pub freshCell : Cell
+freshCell = record { copy = NoCopy }
+
+-- the fresh line: shared, no recall, no writeback
+abbrev pub freshLine : Line
+freshLine = record { manager = Shared (stamp 0) (stamp 0); recall = NoRecall; writeback = NoWriteback }
+
+-- the fresh state of an opening
+abbrev pub freshState : Opening → State
+freshState o = record { opening = o; core = replicate 16 freshCore; cell = replicate 1024 freshCell; line = replicate 64 freshLine }
+
+-- "the fresh state of 1 core, 1 line, width 1, lease 1": its opening
+abbrev pub smallest : Opening
+smallest = record { cores = 1; lines = 1; width = 1; lease = 1 }

@@ -1,0 +1,12 @@
+pub mod Pick
+pub mod Stamps
+pub mod Clock
+pub mod Limits
+pub mod Fresh
+pub mod Buffers
+pub mod Machine
+pub mod Refusals
+pub mod Tables
+pub mod Step
+pub mod Run
+pub mod Order

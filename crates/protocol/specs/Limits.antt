@@ -1,0 +1,14 @@
+-- The limits of an opening: "An engine has 1 to 16 cores, 1 to 64 lines, a width of 1 to 64 bytes a line, a lease of 1 to 1,000."
+use Prim.Native.Nat.{ℕ}
+use mathlib.Core.Bool.{Bool}
+use lib.Dec.{leb}
+use Rattle.protocol.specs.Pick.{both}
+use Rattle.protocol.specs.declared.Opening.{Opening}
+
+-- n lies from 1 to most
+abbrev pub within : ℕ → ℕ → Bool
+within n most = both (leb 1 n) (leb n most)
+
+-- the sizes and the lease lie inside the limits
+unfoldable pub openingFits : Opening → Bool
+openingFits o = both (within (o .cores) 16) (both (within (o .lines) 64) (both (within (o .width) 64) (within (o .lease) 1000)))

@@ -1,0 +1,98 @@
+-- Demand 3, the sorted order.
+--
+-- Sort the commits of a run by timestamp, ties by place in the list. This one order obeys total store order (TSO):
+--
+--   order  Of two commits of one core, the one made earlier stands first, unless it is a store and the other a load.
+--   reads  A load gives the bytes of the last store to its line, among the stores that precede the load in the sorted order and those that
+--          its own core made earlier; zeros where there is none. Of several stores the last is the one that all the others precede.
+--
+-- `OrderTheorem` claims it for every opening that is accepted and every list of calls, with any numbers and any bytes, refused calls
+-- included. `SortTheorem` claims that the order is one: each two commits of a run stand in it, one before the other.
+use Prim.Native.Nat.{ℕ, _<_}
+use mathlib.Core.Path.{_≡_}
+use mathlib.Core.Bool.{true}
+use mathlib.Core.Logic.{_⊎_}
+use mathlib.Core.List.{List, [], _∷_}
+use lib.ListN.{replicate}
+use Rattle.protocol.specs.Stamps.{Precedes, precedes}
+use Rattle.protocol.specs.Limits.{openingFits}
+use Rattle.protocol.specs.Buffers.{Bytes}
+use Rattle.protocol.specs.Machine.{freshMachine}
+use Rattle.protocol.specs.Step.{Op, load, store, fence}
+use Rattle.protocol.specs.Run.{Given, run, Commit, commits}
+use Rattle.protocol.specs.declared.Key.{Key}
+use Rattle.protocol.specs.declared.Opening.{Opening}
+
+-- a stands in the list
+pub data In {A : Type 0} (a : A) : List A → Type 0 where
+  here : {x : A} {xs : List A} → a ≡ x → In a (x ∷ xs)
+  there : {x : A} {xs : List A} → In a xs → In a (x ∷ xs)
+
+-- what a commit is sorted by: its timestamp, and its place
+abbrev pub key : {A : Type 0} → Commit A → Key
+key e = record { 0 = e .ts; 1 = e .place }
+
+-- a stands before b in the sorted order
+abbrev pub Before : {A : Type 0} → Commit A → Commit A → Type 0
+Before a b = Precedes (key a) (key b)
+
+-- "Made earlier means at a smaller place."
+abbrev pub Earlier : {A : Type 0} → Commit A → Commit A → Type 0
+Earlier a b = a .place .0 < b .place .0
+
+-- which commits of one core keep the order that they were made in: all but a store and then a load
+abbrev pub TsoKeeps : {A : Type 0} → Op A → Op A → Type 0
+TsoKeeps (load l x) b = Unit {0}
+TsoKeeps fence b = Unit {0}
+TsoKeeps (store l x) (load m y) = ⊥
+TsoKeeps (store l x) (store m y) = Unit {0}
+TsoKeeps (store l x) fence = Unit {0}
+
+-- the commit stores x to line l
+abbrev pub Stores : {A : Type 0} → ℕ → Commit A → A → Type 0
+Stores l e x = e .op ≡ store l x
+
+-- the commit loads x from line l
+abbrev pub Loads : {A : Type 0} → ℕ → Commit A → A → Type 0
+Loads l e x = e .op ≡ load l x
+
+-- a store s that the load e may see: it precedes the load, or the load's core made it earlier
+abbrev pub MaySee : {A : Type 0} → Commit A → Commit A → Type 0
+MaySee e s = Before s e ⊎ ((s .core ≡ e .core) × Earlier s e)
+
+-- x is what the last of the writes that meet K wrote, the one that all the others precede; `zero` where no write meets K.
+-- `Writes s y`: the commit s writes y
+abbrev pub LastWrite : {A X : Type 0} → List (Commit A) → (Commit A → X → Type 0) → (Commit A → Type 0) → X → X → Type 0
+LastWrite {A} {X} H Writes K zero x =
+    ((s : Commit A) × In s H × Writes s x × K s × ((s′ : Commit A) → In s′ H → (y : X) → Writes s′ y → K s′ → (s′ ≡ s) ⊎ Before s′ s))
+    ⊎ (((s : Commit A) → In s H → (y : X) → Writes s y → K s → ⊥) × (x ≡ zero))
+
+-- the sorted order of these commits obeys a memory model: `Keeps a b`, a core's b made after its a stands after it
+pub record Obeys {A : Type 0} (Keeps : Op A → Op A → Type 0) (zero : A) (H : List (Commit A)) : Type 0 where
+  pub order : (a b : Commit A) → In a H → In b H → a .core ≡ b .core → Earlier a b → Keeps (a .op) (b .op) → Before a b
+  pub reads : (e : Commit A) → In e H → (l : ℕ) (x : A) → Loads l e x → LastWrite H (Stores l) (MaySee e) zero x
+
+abbrev pub TSO : {A : Type 0} → A → List (Commit A) → Type 0
+TSO = Obeys TsoKeeps
+
+-- the commits of a list of calls on the fresh engine of an opening; the first call's place is 1
+abbrev pub commitsOf : Opening → List Given → List (Commit Bytes)
+commitsOf o gs = commits (run gs 1 (freshMachine o) .records)
+
+-- demand 3
+abbrev pub OrderTheorem : Type 0
+OrderTheorem = (o : Opening) → openingFits o ≡ true → (gs : List Given) → TSO (replicate (o .width) 0) (commitsOf o gs)
+
+-- a relation puts the elements of a list into one order
+pub record StrictTotal {A : Type 0} (R : A → A → Type 0) (H : List A) : Type 0 where
+  pub irreflexive : (a : A) → In a H → R a a → ⊥
+  pub transitive : (a b c : A) → In a H → In b H → In c H → R a b → R b c → R a c
+  pub total : (a b : A) → In a H → In b H → (a ≡ b) ⊎ (R a b ⊎ R b a)
+
+-- the sort is well defined: of two commits of a run one precedes the other
+abbrev pub SortTheorem : Type 0
+SortTheorem = (o : Opening) (gs : List Given) → StrictTotal Before (commitsOf o gs)
+
+-- the test `precedes`, which Key::precedes answers, decides whether one key precedes another
+abbrev pub KeyTheorem : Type 0
+KeyTheorem = (a b : Key) → (precedes a b ≡ true → Precedes a b) × (Precedes a b → precedes a b ≡ true)

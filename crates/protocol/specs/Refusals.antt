@@ -1,0 +1,191 @@
+-- The refusals of the calls, in the scope document's order: "Checked in this order; first that applies."
+use Prim.Native.Nat.{ℕ}
+use mathlib.Core.Bool.{Bool, true, false}
+use mathlib.Core.List.{List, [], _∷_}
+use lib.Dec.{ltb, leb, eqb}
+use lib.ListN.{length, take}
+use Rattle.protocol.specs.Pick.{pick, both, not, every, Rule, first, _gives_}
+use Rattle.protocol.specs.Stamps.{fits}
+use Rattle.protocol.specs.Limits.{openingFits}
+use Rattle.protocol.specs.Buffers.{Bytes, privateLength, sharedLength}
+use Rattle.protocol.specs.Machine.{Machine, Pieces, piecesAt, coreOf, lineOf}
+use Rattle.protocol.specs.declared.Stamp.{Stamp}
+use Rattle.protocol.specs.declared.Copy.{Copy}
+use Rattle.protocol.specs.declared.Copy.the-variants.{None as NoCopy, Shared as CopyShared, Owned as CopyOwned}
+use Rattle.protocol.specs.declared.Want.the-variants.{Load as WantLoad, Store as WantStore}
+use Rattle.protocol.specs.declared.Slot.{Slot}
+use Rattle.protocol.specs.declared.Slot.the-variants.{Empty, Asked, Answered}
+use Rattle.protocol.specs.declared.Core.{Core}
+use Rattle.protocol.specs.declared.Manager.{Manager}
+use Rattle.protocol.specs.declared.Manager.the-variants.{Shared, Owned}
+use Rattle.protocol.specs.declared.Recall.{Recall}
+use Rattle.protocol.specs.declared.Recall.the-variants.{None as NoRecall, Downgrade, Flush}
+use Rattle.protocol.specs.declared.Writeback.{Writeback}
+use Rattle.protocol.specs.declared.Writeback.the-variants.{None as NoWriteback, Flight}
+use Rattle.protocol.specs.declared.Line.{Line}
+use Rattle.protocol.specs.declared.Opening.{Opening}
+use Rattle.protocol.specs.declared.State.{State}
+use Rattle.protocol.specs.declared.Call.{Call}
+use Rattle.protocol.specs.declared.Call.the-variants.{Load, Store, Fence, Evict, Advance, Serve, Receive, Yield, Take}
+
+-- ---- Refused because of the input
+
+-- 7: the opening's sizes or lease outside the limits
+unfoldable pub openRefusal : Opening → ℕ
+openRefusal o = first ((not (openingFits o) gives 7) ∷ [])
+
+-- an owner ≥ cores does not fit
+abbrev pub ownerFits : ℕ → Manager → Bool
+ownerFits cores (Shared w r) = true
+ownerFits cores (Owned c) = ltb c cores
+
+-- a slot's line ≥ lines does not fit
+abbrev pub slotFits : ℕ → Slot → Bool
+slotFits lines Empty = true
+slotFits lines (Asked a l t h) = ltb l lines
+slotFits lines (Answered g l w r) = ltb l lines
+
+-- "only lines and cores inside the sizes are looked at"
+unfoldable pub ownersFit : Opening → List Line → Bool
+ownersFit o ls = every (λ (l : Line). ownerFits (o .cores) (l .manager)) (take (o .lines) ls)
+
+unfoldable pub slotsFit : Opening → List Core → Bool
+slotsFit o ks = every (λ (k : Core). slotFits (o .lines) (k .slot)) (take (o .cores) ks)
+
+-- 1: the state's sizes or lease lie outside the limits, or an owner ≥ cores, or a slot's line ≥ lines
+unfoldable pub stateFits : State → Bool
+stateFits s = both (openingFits (s .opening)) (both (ownersFit (s .opening) (s .line)) (slotsFit (s .opening) (s .core)))
+
+-- 2: a buffer not of its exact length
+unfoldable pub buffersFit : Opening → ℕ → ℕ → Bool
+buffersFit o private shared = both (eqb private (privateLength o)) (eqb shared (sharedLength o))
+
+-- 1 and 2
+unfoldable pub machineRefusal : Machine → ℕ
+machineRefusal m =
+    first
+    ((not (stateFits (m .state)) gives 1)
+    ∷ (not (buffersFit (m .state .opening) (length (m .private)) (length (m .shared))) gives 2)
+    ∷ [])
+
+-- 3: core ≥ cores
+abbrev pub coreRule : ℕ → Opening → Rule
+coreRule c o = leb (o .cores) c gives 3
+
+-- 4: line ≥ lines
+abbrev pub lineRule : ℕ → Opening → Rule
+lineRule l o = leb (o .lines) l gives 4
+
+-- 3 to 6, for each call those that speak of what it names; n is the count of the store bytes.
+-- 5: store bytes not width in count. 6: advance by 0
+unfoldable pub callRules : Call → Opening → ℕ → List Rule
+callRules (Load c l) o n = coreRule c o ∷ lineRule l o ∷ []
+callRules (Store c l) o n = coreRule c o ∷ lineRule l o ∷ (not (eqb n (o .width)) gives 5) ∷ []
+callRules (Fence c) o n = coreRule c o ∷ []
+callRules (Evict c l) o n = coreRule c o ∷ lineRule l o ∷ []
+callRules (Advance c by) o n = coreRule c o ∷ (eqb by 0 gives 6) ∷ []
+callRules (Serve c) o n = coreRule c o ∷ []
+callRules (Receive c) o n = coreRule c o ∷ []
+callRules (Yield l) o n = lineRule l o ∷ []
+callRules (Take l) o n = lineRule l o ∷ []
+
+unfoldable pub callRefusal : Call → Opening → ℕ → ℕ
+callRefusal call o n = first (callRules call o n)
+
+-- ---- Refused because of the state
+
+abbrev pub isEmpty : Slot → Bool
+isEmpty Empty = true
+isEmpty (Asked a l t h) = false
+isEmpty (Answered g l w r) = false
+
+abbrev pub isAsked : Slot → Bool
+isAsked Empty = false
+isAsked (Asked a l t h) = true
+isAsked (Answered g l w r) = false
+
+abbrev pub isAnswered : Slot → Bool
+isAnswered Empty = false
+isAnswered (Asked a l t h) = false
+isAnswered (Answered g l w r) = true
+
+-- a copy is held
+abbrev pub isHeld : Copy → Bool
+isHeld NoCopy = false
+isHeld (CopyShared w r) = true
+isHeld (CopyOwned w r d) = true
+
+abbrev pub isOwned : Copy → Bool
+isOwned NoCopy = false
+isOwned (CopyShared w r) = false
+isOwned (CopyOwned w r d) = true
+
+-- the line is owned
+abbrev pub hasOwner : Manager → Bool
+hasOwner (Shared w r) = false
+hasOwner (Owned c) = true
+
+-- a recall stands
+abbrev pub stands : Recall → Bool
+stands NoRecall = false
+stands Downgrade = true
+stands Flush = true
+
+-- a writeback is in flight
+abbrev pub inFlight : Writeback → Bool
+inFlight NoWriteback = false
+inFlight (Flight w r) = true
+
+-- a load must ask: "shared, lts > rts, or none"
+abbrev pub loadAsks : Copy → Stamp → Bool
+loadAsks NoCopy lts = true
+loadAsks (CopyShared w r) lts = ltb (r .0) (lts .0)
+loadAsks (CopyOwned w r d) lts = false
+
+-- rts + 1 passes the greatest timestamp (store to an owned line)
+abbrev pub storePasses : Copy → Bool
+storePasses NoCopy = false
+storePasses (CopyShared w r) = false
+storePasses (CopyOwned w r d) = not (fits r 1)
+
+-- asked lts + lease passes the greatest timestamp (serve of a load on a shared line)
+abbrev pub servePasses : Slot → Manager → ℕ → Bool
+servePasses Empty m lease = false
+servePasses (Asked WantLoad l t h) (Shared w r) lease = not (fits t lease)
+servePasses (Asked WantLoad l t h) (Owned c) lease = false
+servePasses (Asked WantStore l t h) m lease = false
+servePasses (Answered g l w r) m lease = false
+
+-- 20 to 27, for each call those that speak of it.
+-- 20: load or store must ask, slot not empty. 21: serve, slot not asked. 22: receive, slot not answered. 23: yield, line not owned or no
+-- recall. 24: yield, owner's copy not owned. 25: take, no writeback. 26: evict, no copy. 27: rts + 1 (store to an owned line), lts + by
+-- (advance) or asked lts + lease (serve of a load on a shared line) passes the greatest timestamp
+unfoldable pub stateRules : Call → Pieces → ℕ → List Rule
+stateRules (Load c l) p lease = (both (loadAsks (p .copy) (p .core .clocks .lts)) (not (isEmpty (p .core .slot))) gives 20) ∷ []
+stateRules (Store c l) p lease =
+    (both (not (isOwned (p .copy))) (not (isEmpty (p .core .slot))) gives 20) ∷ (storePasses (p .copy) gives 27) ∷ []
+stateRules (Fence c) p lease = []
+stateRules (Evict c l) p lease = (not (isHeld (p .copy)) gives 26) ∷ []
+stateRules (Advance c by) p lease = (not (fits (p .core .clocks .lts) by) gives 27) ∷ []
+stateRules (Serve c) p lease =
+    (not (isAsked (p .core .slot)) gives 21) ∷ (servePasses (p .core .slot) (p .line .manager) lease gives 27) ∷ []
+stateRules (Receive c) p lease = (not (isAnswered (p .core .slot)) gives 22) ∷ []
+stateRules (Yield l) p lease =
+    (not (both (hasOwner (p .line .manager)) (stands (p .line .recall))) gives 23) ∷ (not (isOwned (p .copy)) gives 24) ∷ []
+stateRules (Take l) p lease = (not (inFlight (p .line .writeback)) gives 25) ∷ []
+
+unfoldable pub stateRefusal : Call → Pieces → ℕ → ℕ
+stateRefusal call p lease = first (stateRules call p lease)
+
+-- ---- All of them
+
+-- a number of the first kind, or, where that is 0, one of the second
+abbrev pub orElse : ℕ → ℕ → ℕ
+orElse a b = pick (eqb a 0) b a
+
+-- the number that a call is refused with, or 0 where it is accepted: 1 and 2, then 3 to 6, then 20 to 27; n is the count of the store bytes
+unfoldable pub refusal : Machine → Call → ℕ → ℕ
+refusal m call n =
+    orElse (machineRefusal m)
+    (orElse (callRefusal call (m .state .opening) n)
+    (stateRefusal call (piecesAt (m .state) (coreOf call (m .state)) (lineOf call (m .state))) (m .state .opening .lease)))

@@ -1,0 +1,79 @@
+-- A list of calls run from a machine: the record of each call, and the commits read off the records.
+use Prim.Native.Nat.{ℕ, suc}
+use mathlib.Core.List.{List, [], _∷_, _++_}
+use Rattle.protocol.specs.Buffers.{Bytes}
+use Rattle.protocol.specs.Machine.{Machine}
+use Rattle.protocol.specs.Step.{Op, load, store, fence, Reply, refused, done, commit, step}
+use Rattle.protocol.specs.declared.Stamp.{Stamp}
+use Rattle.protocol.specs.declared.Place.{Place}
+use Rattle.protocol.specs.declared.Call.{Call}
+use Rattle.protocol.specs.declared.Call.the-variants.{Load, Store, Fence, Evict, Advance, Serve, Receive, Yield, Take}
+
+-- a call of a list, with the bytes given to it (a store's; any other call passes over them)
+pub record Given : Type 0 where
+  pub call : Call
+  pub bytes : Bytes
+
+-- what is known of a call after it was made: its place in the list, the call, its answer
+pub record Record : Type 0 where
+  pub place : Place
+  pub given : Given
+  pub reply : Reply
+
+-- the records of a list of calls, in the list's order, and the last machine
+pub record Run : Type 0 where
+  pub records : List Record
+  pub last : Machine
+
+-- a number as a place
+abbrev pub place : ℕ → Place
+place n = record { 0 = n }
+
+-- "Each call gets the state and both buffers that the call before returned; a refused one hands on what it got. A call that is refused
+-- or commits nothing still has its place." The first call's place is p
+unfoldable pub run : List Given → ℕ → Machine → Run
+run [] p m = record { records = []; last = m }
+run (g ∷ gs) p m =
+    record {
+      records =
+          record { place = place p; given = g; reply = step m (g .call) (g .bytes) .reply }
+          ∷ run gs (suc p) (step m (g .call) (g .bytes) .machine) .records;
+      last = run gs (suc p) (step m (g .call) (g .bytes) .machine) .last;
+    }
+
+-- "A commit carries kind, core, timestamp and, but for a fence, line and bytes"; and the place of its call
+pub record Commit (A : Type 0) : Type 0 where
+  pub place : Place
+  pub core : ℕ
+  pub ts : Stamp
+  pub op : Op A
+
+-- the bytes that an answer carries
+abbrev pub bytesOf : Op Bytes → Bytes
+bytesOf (load l b) = b
+bytesOf (store l b) = b
+bytesOf fence = []
+
+-- the commit of a call that committed at t. "A commit's kind, core and line, and a store's bytes, are those that its call was given";
+-- of the answer only the timestamp enters, and a load's bytes, which are there to be compared. "Commits come from load, store and fence only."
+abbrev pub commitAt : Place → Call → Bytes → Stamp → Op Bytes → List (Commit Bytes)
+commitAt p (Load c l) given t o = record { place = p; core = c; ts = t; op = load l (bytesOf o) } ∷ []
+commitAt p (Store c l) given t o = record { place = p; core = c; ts = t; op = store l given } ∷ []
+commitAt p (Fence c) given t o = record { place = p; core = c; ts = t; op = fence } ∷ []
+commitAt p (Evict c l) given t o = []
+commitAt p (Advance c by) given t o = []
+commitAt p (Serve c) given t o = []
+commitAt p (Receive c) given t o = []
+commitAt p (Yield l) given t o = []
+commitAt p (Take l) given t o = []
+
+-- the commit of a call by its answer, or none
+abbrev pub commitOf : Place → Given → Reply → List (Commit Bytes)
+commitOf p g (refused n) = []
+commitOf p g (done d) = []
+commitOf p g (commit c t o) = commitAt p (g .call) (g .bytes) t o
+
+-- the commits of a list of records
+unfoldable pub commits : List Record → List (Commit Bytes)
+commits [] = []
+commits (r ∷ rs) = commitOf (r .place) (r .given) (r .reply) ++ commits rs

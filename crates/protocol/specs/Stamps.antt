@@ -1,0 +1,40 @@
+-- Timestamps, and the keys that commits are sorted by.
+--
+-- "Timestamps are 0 to 4,294,967,295. A place is a call's position in the list, from 1. A timestamp is compared only with a
+-- timestamp, a place only with a place."
+use Prim.Native.Nat.{ℕ, _+_, _<_, max}
+use mathlib.Core.Path.{_≡_}
+use mathlib.Core.Bool.{Bool, true, false}
+use mathlib.Core.Logic.{_⊎_}
+use lib.Dec.{ltb, leb, eqb}
+use Rattle.protocol.specs.Pick.{pick}
+use Rattle.protocol.specs.declared.Stamp.{Stamp}
+use Rattle.protocol.specs.declared.Key.{Key}
+
+-- a number as a timestamp
+abbrev pub stamp : ℕ → Stamp
+stamp n = record { 0 = n }
+
+-- the greatest timestamp
+abbrev pub greatest : Stamp
+greatest = stamp 4294967295
+
+-- the later of two timestamps
+abbrev pub later : Stamp → Stamp → Stamp
+later a b = stamp (max (a .0) (b .0))
+
+-- the timestamp n later does not pass the greatest (refusal 27 where it does)
+abbrev pub fits : Stamp → ℕ → Bool
+fits t n = leb (t .0 + n) (greatest .0)
+
+-- the timestamp n later, or the same one where that does not fit
+abbrev pub after : Stamp → ℕ → Stamp
+after t n = pick (fits t n) (stamp (t .0 + n)) t
+
+-- "One commit precedes another if its timestamp is smaller, or if the timestamps are equal and its place is smaller."
+abbrev pub Precedes : Key → Key → Type 0
+Precedes a b = (a .0 .0 < b .0 .0) ⊎ ((a .0 .0 ≡ b .0 .0) × (a .1 .0 < b .1 .0))
+
+-- the same as a test
+abbrev pub precedes : Key → Key → Bool
+precedes a b = pick (ltb (a .0 .0) (b .0 .0)) true (pick (eqb (a .0 .0) (b .0 .0)) (ltb (a .1 .0) (b .1 .0)) false)

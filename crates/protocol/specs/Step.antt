@@ -1,0 +1,119 @@
+-- One call on the machine, for every machine, call and bytes: what it answers, in the scope document's numbers and values, and the
+-- machine after it. And `show`.
+use Prim.Native.Nat.{ℕ, _+_}
+use mathlib.Core.Bool.{Bool, true, false}
+use mathlib.Core.List.{[]}
+use lib.Dec.{eqb}
+use lib.ListN.{length}
+use Rattle.protocol.specs.Pick.{pick}
+use Rattle.protocol.specs.Fresh.{freshState, smallest}
+use Rattle.protocol.specs.Buffers.{Bytes, copyStart, managerStart, copyBytes}
+use Rattle.protocol.specs.Machine.{Machine, Pieces, piecesAt, copyAt, coreOf, lineOf, applied}
+use Rattle.protocol.specs.Refusals.{openRefusal, machineRefusal, callRefusal, refusal, orElse, isHeld}
+use Rattle.protocol.specs.Tables.{tableOf}
+use Rattle.protocol.specs.declared.Stamp.{Stamp}
+use Rattle.protocol.specs.declared.Opening.{Opening}
+use Rattle.protocol.specs.declared.State.{State}
+use Rattle.protocol.specs.declared.Call.{Call}
+use Rattle.protocol.specs.declared.Call.the-variants.{Load, Store, Fence, Evict, Advance, Serve, Receive, Yield, Take}
+use Rattle.protocol.specs.declared.Answer.{Answer}
+use Rattle.protocol.specs.declared.Answer.the-variants.{Refused, Open, Ask, Recall, Share, Renew, Own, Drop, Evict as AnswerEvict, Advance as AnswerAdvance, Yield as AnswerYield, Take as AnswerTake, CommitLoad, CommitStore, CommitFence}
+use Rattle.protocol.specs.declared.Effect.{Effect}
+use Rattle.protocol.specs.declared.Buffer.the-variants.{Private as InPrivate, Shared as InShared}
+use Rattle.protocol.specs.declared.Shown.{Shown}
+
+-- ---- answers
+
+-- the names that an answer which is no commit goes by
+pub data Done : Type 0 where
+  «open» ask recall share renew own drop evict advance yield take : Done
+
+-- what a commit did: its kind and, but for a fence, its line and value. The value of a line is its bytes
+pub data Op (A : Type 0) : Type 0 where
+  load : ℕ → A → Op A
+  store : ℕ → A → Op A
+  fence : Op A
+
+-- an answer: the number of a refusal, a name, or a commit with core, timestamp and what it did
+pub data Reply : Type 0 where
+  refused : ℕ → Reply
+  done : Done → Reply
+  commit : ℕ → Stamp → Op Bytes → Reply
+
+-- the scope document's number and values for each case of an answer; a commit's bytes stand beside it
+unfoldable pub meaning : Answer → Bytes → Reply
+meaning (Refused n) bytes = refused n
+meaning Open bytes = done «open»
+meaning Ask bytes = done ask
+meaning Recall bytes = done recall
+meaning Share bytes = done share
+meaning Renew bytes = done renew
+meaning Own bytes = done own
+meaning Drop bytes = done drop
+meaning AnswerEvict bytes = done evict
+meaning AnswerAdvance bytes = done advance
+meaning AnswerYield bytes = done yield
+meaning AnswerTake bytes = done take
+meaning (CommitLoad c l t) bytes = commit c t (load l bytes)
+meaning (CommitStore c l t) bytes = commit c t (store l bytes)
+meaning (CommitFence c t) bytes = commit c t fence
+
+-- ---- open
+
+-- "7 opening sizes or lease outside the limits"; a refused opening gives the fresh state of the smallest one
+abbrev pub opened : Opening → State
+opened o = pick (eqb (openRefusal o) 0) (freshState o) (freshState smallest)
+
+abbrev pub openReply : Opening → Reply
+openReply o = pick (eqb (openRefusal o) 0) (done «open») (refused (openRefusal o))
+
+-- ---- step
+
+-- what a call gives: its answer and the machine after it
+pub record Outcome : Type 0 where
+  pub reply : Reply
+  pub machine : Machine
+
+-- "a load's bytes are its copy's"; a store's are those that it was given
+abbrev pub commitBytes : Call → Bytes → Bytes → Bytes
+commitBytes (Store c l) given copy = given
+commitBytes (Load c l) given copy = copy
+commitBytes (Fence c) given copy = copy
+commitBytes (Evict c l) given copy = copy
+commitBytes (Advance c by) given copy = copy
+commitBytes (Serve c) given copy = copy
+commitBytes (Receive c) given copy = copy
+commitBytes (Yield l) given copy = copy
+commitBytes (Take l) given copy = copy
+
+-- an accepted call on core c and line l: the answer and the machine of its table's row
+unfoldable pub accepted : Machine → Call → Bytes → ℕ → ℕ → Effect → Outcome
+accepted m call given c l d =
+    record {
+      reply = meaning (d .answer) (commitBytes call given (copyBytes (m .state .opening) (m .private) c l));
+      machine = applied m c l given d;
+    }
+
+-- one call; `given` are the bytes given to a store. "A refused call returns its number, the state it got, both buffers byte for byte."
+unfoldable pub step : Machine → Call → Bytes → Outcome
+step m call given =
+    pick (eqb (refusal m call (length given)) 0)
+    (accepted m call given (coreOf call (m .state)) (lineOf call (m .state))
+    (tableOf call (piecesAt (m .state) (coreOf call (m .state)) (lineOf call (m .state))) (m .state .opening .lease)))
+    (record { reply = refused (refusal m call (length given)); machine = m })
+
+-- ---- show
+
+-- 1 to 4, as they apply to a core and a line
+abbrev pub showRefusal : Machine → ℕ → ℕ → ℕ
+showRefusal m c l = orElse (machineRefusal m) (callRefusal (Load c l) (m .state .opening) 0)
+
+-- "the line's bytes as a part of the private buffer if that core holds a copy, else as a part of the shared buffer, the manager line's
+-- place .. under 1 to 4 it gives the empty part at the start of the shared buffer"
+unfoldable pub shown : Machine → ℕ → ℕ → Shown
+shown m c l =
+    pick (eqb (showRefusal m c l) 0)
+    (pick (isHeld (copyAt (m .state) c l))
+    (record { buffer = InPrivate; start = copyStart (m .state .opening) c l; end = copyStart (m .state .opening) c l + m .state .opening .width })
+    (record { buffer = InShared; start = managerStart (m .state .opening) l; end = managerStart (m .state .opening) l + m .state .opening .width }))
+    (record { buffer = InShared; start = 0; end = 0 })

@@ -1,0 +1,227 @@
+-- The step tables, one for each of the nine steps, on the pieces that a step looks at: core c, its copy of line l, the manager's line l.
+-- A row gives the answer, the new pieces, and which line of bytes moves. They are read only where no refusal applies.
+use Prim.Native.Nat.{ℕ, _+_}
+use mathlib.Core.Bool.{Bool, true, false}
+use lib.Dec.{leb, eqb}
+use Rattle.protocol.specs.Pick.{pick}
+use Rattle.protocol.specs.Stamps.{stamp, later}
+use Rattle.protocol.specs.Clock.{loaded, storeTime, stored, fenced, advanced}
+use Rattle.protocol.specs.Machine.{Pieces}
+use Rattle.protocol.specs.Refusals.{stateRefusal}
+use Rattle.protocol.specs.declared.Stamp.{Stamp}
+use Rattle.protocol.specs.declared.Clocks.{Clocks}
+use Rattle.protocol.specs.declared.Copy.{Copy}
+use Rattle.protocol.specs.declared.Copy.the-variants.{None as NoCopy, Shared as CopyShared, Owned as CopyOwned}
+use Rattle.protocol.specs.declared.Want.{Want}
+use Rattle.protocol.specs.declared.Want.the-variants.{Load as WantLoad, Store as WantStore}
+use Rattle.protocol.specs.declared.Held.{Held}
+use Rattle.protocol.specs.declared.Held.the-variants.{None as NothingHeld, Version}
+use Rattle.protocol.specs.declared.Grant.{Grant}
+use Rattle.protocol.specs.declared.Grant.the-variants.{Share as GrantShare, Renew as GrantRenew, Own as GrantOwn}
+use Rattle.protocol.specs.declared.Slot.{Slot}
+use Rattle.protocol.specs.declared.Slot.the-variants.{Empty, Asked, Answered}
+use Rattle.protocol.specs.declared.Core.{Core}
+use Rattle.protocol.specs.declared.Manager.{Manager}
+use Rattle.protocol.specs.declared.Manager.the-variants.{Shared, Owned}
+use Rattle.protocol.specs.declared.Recall.{Recall}
+use Rattle.protocol.specs.declared.Recall.the-variants.{None as NoRecall, Downgrade, Flush}
+use Rattle.protocol.specs.declared.Writeback.{Writeback}
+use Rattle.protocol.specs.declared.Writeback.the-variants.{None as NoWriteback, Flight}
+use Rattle.protocol.specs.declared.Line.{Line}
+use Rattle.protocol.specs.declared.Call.{Call}
+use Rattle.protocol.specs.declared.Call.the-variants.{Load, Store, Fence, Evict, Advance, Serve, Receive, Yield, Take}
+use Rattle.protocol.specs.declared.Answer.{Answer}
+use Rattle.protocol.specs.declared.Answer.the-variants.{Refused, Ask, Recall as AnswerRecall, Share, Renew, Own, Drop, Evict as AnswerEvict, Advance as AnswerAdvance, Yield as AnswerYield, Take as AnswerTake, CommitLoad, CommitStore, CommitFence}
+use Rattle.protocol.specs.declared.Move.{Move}
+use Rattle.protocol.specs.declared.Move.the-variants.{Still, Store as MoveStore, Answer as MoveAnswer, Receive as MoveReceive, Writeback as MoveWriteback, Take as MoveTake}
+use Rattle.protocol.specs.declared.Effect.{Effect}
+
+-- an answer, the bytes that move, and the pieces after the step
+abbrev pub row : Answer → Move → Core → Copy → Line → Effect
+row a v k x m = record { answer = a; moves = v; core = k; copy = x; line = m }
+
+-- the core with other clocks, or with another slot
+abbrev pub clocked : Core → Clocks → Core
+clocked k t = record { clocks = t; slot = k .slot }
+
+abbrev pub slotted : Core → Slot → Core
+slotted k s = record { clocks = k .clocks; slot = s }
+
+-- no row has these pieces: a call that finds them is refused (number 0 is no number)
+abbrev pub noRow : Pieces → Effect
+noRow p = row (Refused 0) Still (p .core) (p .copy) (p .line)
+
+-- ---- ask
+
+-- "the wts of the shared copy held, or none"
+abbrev pub heldOf : Copy → Held
+heldOf NoCopy = NothingHeld
+heldOf (CopyShared w r) = Version w
+heldOf (CopyOwned w r d) = NothingHeld
+
+-- "ask. The slot becomes asked": load or store, line, the lts when asked, the wts of the shared copy held
+abbrev pub asking : Want → ℕ → Pieces → Effect
+asking a l p = row Ask Still (slotted (p .core) (Asked a l (p .core .clocks .lts) (heldOf (p .copy)))) (p .copy) (p .line)
+
+-- ---- load
+
+-- "lts becomes max(lts, wts)"
+abbrev pub raised : Stamp → Pieces → Core
+raised w p = clocked (p .core) (loaded (p .core .clocks) w)
+
+-- "owned, dirty: commit at lts; copy's rts becomes max(rts, lts)"
+-- "owned, not dirty: lts becomes max(lts, wts), commit there; rts becomes max(rts, lts)"
+unfoldable pub loadOwned : Bool → ℕ → ℕ → Stamp → Stamp → Pieces → Effect
+loadOwned true c l w r p =
+    row (CommitLoad c l (p .core .clocks .lts)) Still (p .core) (CopyOwned w (later r (p .core .clocks .lts)) true) (p .line)
+loadOwned false c l w r p =
+    row (CommitLoad c l (loaded (p .core .clocks) w .lts)) Still (raised w p) (CopyOwned w (later r (loaded (p .core .clocks) w .lts)) false) (p .line)
+
+-- "shared, lts ≤ rts: lts becomes max(lts, wts), commit there"
+abbrev pub loadShared : ℕ → ℕ → Stamp → Pieces → Effect
+loadShared c l w p =
+    row (CommitLoad c l (loaded (p .core .clocks) w .lts)) Still (raised w p) (p .copy) (p .line)
+
+-- "shared, lts > rts, or none: ask"
+unfoldable pub loadTable : Copy → ℕ → ℕ → Pieces → Effect
+loadTable (CopyOwned w r d) c l p = loadOwned d c l w r p
+loadTable (CopyShared w r) c l p = pick (leb (p .core .clocks .lts .0) (r .0)) (loadShared c l w p) (asking WantLoad l p)
+loadTable NoCopy c l p = asking WantLoad l p
+
+-- ---- store
+
+-- "owned: ts = max(lts, sts, rts + 1); sts, wts and rts become ts, bytes replaced, dirty; commit at ts. Else: ask."
+unfoldable pub storeTable : Copy → ℕ → ℕ → Pieces → Effect
+storeTable (CopyOwned w r d) c l p =
+    row (CommitStore c l (storeTime (p .core .clocks) r)) MoveStore (clocked (p .core) (stored (p .core .clocks) r))
+    (CopyOwned (storeTime (p .core .clocks) r) (storeTime (p .core .clocks) r) true) (p .line)
+storeTable (CopyShared w r) c l p = asking WantStore l p
+storeTable NoCopy c l p = asking WantStore l p
+
+-- ---- fence and advance
+
+-- "fence (core): lts becomes max(lts, sts); commit there"
+unfoldable pub fenceTable : ℕ → Pieces → Effect
+fenceTable c p = row (CommitFence c (fenced (p .core .clocks) .lts)) Still (clocked (p .core) (fenced (p .core .clocks))) (p .copy) (p .line)
+
+-- "advance (core, by): lts grows by that amount. No commit."
+unfoldable pub advanceTable : ℕ → Pieces → Effect
+advanceTable by p = row AnswerAdvance Still (clocked (p .core) (advanced (p .core .clocks) by)) (p .copy) (p .line)
+
+-- ---- evict
+
+-- the line with a writeback in flight
+abbrev pub written-back : Line → Stamp → Stamp → Line
+written-back m w r = record { manager = m .manager; recall = m .recall; writeback = Flight w r }
+
+-- "shared: copy becomes none. Owned: its wts, rts and bytes become the writeback, copy none."
+unfoldable pub evictTable : Copy → Pieces → Effect
+evictTable (CopyShared w r) p = row AnswerEvict Still (p .core) NoCopy (p .line)
+evictTable (CopyOwned w r d) p = row AnswerEvict MoveWriteback (p .core) NoCopy (written-back (p .line) w r)
+evictTable NoCopy p = noRow p
+
+-- ---- serve
+
+-- "a store sets flush, a load sets downgrade if no recall stands"
+abbrev pub recalled : Want → Recall → Recall
+recalled WantStore k = Flush
+recalled WantLoad NoRecall = Downgrade
+recalled WantLoad Downgrade = Downgrade
+recalled WantLoad Flush = Flush
+
+-- "the asked wts equals the manager's"
+abbrev pub sameVersion : Held → Stamp → Bool
+sameVersion NothingHeld w = false
+sameVersion (Version v) w = eqb (v .0) (w .0)
+
+-- the line with another manager part
+abbrev pub managed : Line → Manager → Line
+managed m v = record { manager = v; recall = m .recall; writeback = m .writeback }
+
+-- the lease's end after serving a load: "rts becomes max(rts, asked lts + lease)"
+abbrev pub leasedTo : Stamp → Stamp → ℕ → Stamp
+leasedTo r t lease = later r (stamp (t .0 + lease))
+
+-- "the slot becomes renew, no bytes move; otherwise share, with bytes"; r is the new end of the lease
+unfoldable pub serveLoad : Bool → ℕ → Stamp → Stamp → Pieces → Effect
+serveLoad true l w r p = row Renew Still (slotted (p .core) (Answered GrantRenew l w r)) (p .copy) (managed (p .line) (Shared w r))
+serveLoad false l w r p = row Share MoveAnswer (slotted (p .core) (Answered GrantShare l w r)) (p .copy) (managed (p .line) (Shared w r))
+
+-- "line owned: answer recall .. Slot stays."
+-- "shared, load: rts becomes max(rts, asked lts + lease). If the asked wts equals the manager's, the slot becomes renew .. otherwise share"
+-- "shared, store: manager line becomes owned by that core; slot becomes own, with bytes"
+unfoldable pub serveAsked : Manager → Want → ℕ → ℕ → Stamp → Held → Pieces → ℕ → Effect
+serveAsked (Owned o) a c l t h p lease =
+    row AnswerRecall Still (p .core) (p .copy)
+    (record { manager = p .line .manager; recall = recalled a (p .line .recall); writeback = p .line .writeback })
+serveAsked (Shared w r) WantLoad c l t h p lease = serveLoad (sameVersion h w) l w (leasedTo r t lease) p
+serveAsked (Shared w r) WantStore c l t h p lease =
+    row Own MoveAnswer (slotted (p .core) (Answered GrantOwn l w r)) (p .copy) (managed (p .line) (Owned c))
+
+-- serve (core with an asked slot)
+unfoldable pub serveTable : Slot → ℕ → Pieces → ℕ → Effect
+serveTable (Asked a l t h) c p lease = serveAsked (p .line .manager) a c l t h p lease
+serveTable (Answered g l w r) c p lease = noRow p
+serveTable Empty c p lease = noRow p
+
+-- ---- receive
+
+-- "Renew: a shared copy takes the slot's rts, answer renew; no copy, or an owned one: no copy changes, answer drop."
+unfoldable pub receiveRenew : Copy → Stamp → Pieces → Effect
+receiveRenew (CopyShared w r) rts p = row Renew Still (slotted (p .core) Empty) (CopyShared w rts) (p .line)
+receiveRenew (CopyOwned w r d) rts p = row Drop Still (slotted (p .core) Empty) (p .copy) (p .line)
+receiveRenew NoCopy rts p = row Drop Still (slotted (p .core) Empty) (p .copy) (p .line)
+
+-- "share or own: copy becomes shared or owned with the slot's wts, rts and bytes, not dirty; answer share or own. .. Slot becomes empty."
+unfoldable pub receiveGrant : Grant → Stamp → Stamp → Pieces → Effect
+receiveGrant GrantShare w r p = row Share MoveReceive (slotted (p .core) Empty) (CopyShared w r) (p .line)
+receiveGrant GrantOwn w r p = row Own MoveReceive (slotted (p .core) Empty) (CopyOwned w r false) (p .line)
+receiveGrant GrantRenew w r p = receiveRenew (p .copy) r p
+
+-- receive (core with an answered slot)
+unfoldable pub receiveTable : Slot → Pieces → Effect
+receiveTable (Answered g l w r) p = receiveGrant g w r p
+receiveTable (Asked a l t h) p = noRow p
+receiveTable Empty p = noRow p
+
+-- ---- yield
+
+-- "Downgrade: its copy becomes shared, not dirty. Flush: none."
+abbrev pub yielded : Recall → Stamp → Stamp → Copy
+yielded Downgrade w r = CopyShared w r
+yielded Flush w r = NoCopy
+yielded NoRecall w r = NoCopy
+
+-- "the owner's wts, rts and bytes become the writeback"
+unfoldable pub yieldTable : Copy → Pieces → Effect
+yieldTable (CopyOwned w r d) p = row AnswerYield MoveWriteback (p .core) (yielded (p .line .recall) w r) (written-back (p .line) w r)
+yieldTable (CopyShared w r) p = noRow p
+yieldTable NoCopy p = noRow p
+
+-- ---- take
+
+-- "manager takes the writeback, becomes shared; recall none, writeback none"
+unfoldable pub takeTable : Writeback → Pieces → Effect
+takeTable (Flight w r) p =
+    row AnswerTake MoveTake (p .core) (p .copy) (record { manager = Shared w r; recall = NoRecall; writeback = NoWriteback })
+takeTable NoWriteback p = noRow p
+
+-- ---- the nine
+
+-- the table of a call
+unfoldable pub tableOf : Call → Pieces → ℕ → Effect
+tableOf (Load c l) p lease = loadTable (p .copy) c l p
+tableOf (Store c l) p lease = storeTable (p .copy) c l p
+tableOf (Fence c) p lease = fenceTable c p
+tableOf (Evict c l) p lease = evictTable (p .copy) p
+tableOf (Advance c by) p lease = advanceTable by p
+tableOf (Serve c) p lease = serveTable (p .core .slot) c p lease
+tableOf (Receive c) p lease = receiveTable (p .core .slot) p
+tableOf (Yield l) p lease = yieldTable (p .copy) p
+tableOf (Take l) p lease = takeTable (p .line .writeback) p
+
+-- what a call makes of the pieces: its table's row, or, with the pieces as they are, the number that it is refused with (20 to 27)
+unfoldable pub effectOf : Call → Pieces → ℕ → Effect
+effectOf call p lease =
+    pick (eqb (stateRefusal call p lease) 0) (tableOf call p lease)
+    (row (Refused (stateRefusal call p lease)) Still (p .core) (p .copy) (p .line))

@@ -1,0 +1,402 @@
+// The parts of the machine: timestamps, clocks, copies, request slots, manager lines, the state by
+// value, the calls and their answers.
+//
+// What each step does to these parts is written in specs/, in the words of the scope document; this
+// crate's code is what every other crate shares: comparing timestamps, stepping a core's clocks,
+// and the fixed values that a fresh engine starts from. No function here has a `requires`.
+ghost use mathlib.Core.Path.{_≡_};
+ghost use Rattle.protocol.specs.Stamps.{greatest, later, fits, after, precedes};
+ghost use Rattle.protocol.specs.Clock.{loaded, stored, storedIfFits, fenced, advancedIfFits};
+ghost use Rattle.protocol.specs.Fresh.{freshCore, freshCell, freshLine, freshState, smallest};
+ghost use Rattle.protocol.specs.Limits.{within, openingFits};
+
+// A logical timestamp. It is compared only with another timestamp.
+pub struct Stamp(pub u32);
+
+// A call's position in the list of calls, from 1. It is compared only with another place.
+pub struct Place(pub u64);
+
+// What commits are sorted by: the timestamp, and the place among equal timestamps.
+pub struct Key(pub Stamp, pub Place);
+
+impl Stamp {
+    // The greatest timestamp.
+    pub const GREATEST: Stamp = Stamp(4294967295);
+
+    pub fn greatest() -> Stamp
+        ensures { λ r. ⌜ r ≡ greatest ⌝ }
+    {
+        Stamp::GREATEST
+    }
+
+    // The later of two timestamps.
+    pub fn later(self, other: Stamp) -> Stamp
+        ensures { λ r. ⌜ r ≡ later self other ⌝ }
+    {
+        if self.0 < other.0 { other } else { self }
+    }
+
+    // Whether the timestamp n later is still one.
+    pub fn fits(self, n: u32) -> bool
+        ensures { λ r. ⌜ r ≡ fits self n ⌝ }
+    {
+        let most = Stamp::GREATEST;
+        n <= most.0 - self.0
+    }
+
+    // The timestamp n later, or the same one where that does not fit.
+    pub fn after(self, n: u32) -> Stamp
+        ensures { λ r. ⌜ r ≡ after self n ⌝ }
+    {
+        if self.fits(n) {
+            Stamp(self.0 + n)
+        } else {
+            self
+        }
+    }
+}
+
+impl Key {
+    // Whether a commit with this key stands before one with the other in the sorted order.
+    pub fn precedes(self, other: Key) -> bool
+        ensures { λ r. ⌜ r ≡ precedes self other ⌝ }
+    {
+        if self.0.0 < other.0.0 {
+            return true;
+        }
+        if other.0.0 < self.0.0 {
+            return false;
+        }
+        self.1.0 < other.1.0
+    }
+}
+
+// A core's pair of clocks: the timestamp of its last load or fence, and of its last store.
+pub struct Clocks {
+    pub lts: Stamp,
+    pub sts: Stamp,
+}
+
+impl Clocks {
+    // After a load of a version made at wts.
+    pub fn load(mut self, wts: Stamp) -> Clocks
+        ensures { λ r. ⌜ r ≡ loaded self wts ⌝ }
+    {
+        self.lts = self.lts.later(wts);
+        self
+    }
+
+    // After a store to a copy whose lease ends at rts; unchanged where `rts.fits(1)` is false.
+    pub fn store(mut self, rts: Stamp) -> Clocks
+        ensures { λ r. ⌜ r ≡ storedIfFits self rts ⌝ }
+    {
+        if rts.fits(1) {
+            let past = rts.after(1);
+            let last = self.lts.later(self.sts);
+            self.sts = last.later(past);
+        }
+        self
+    }
+
+    // After a fence.
+    pub fn fence(mut self) -> Clocks
+        ensures { λ r. ⌜ r ≡ fenced self ⌝ }
+    {
+        self.lts = self.lts.later(self.sts);
+        self
+    }
+
+    // After an advance; unchanged where `self.lts.fits(by)` is false.
+    pub fn advance(mut self, by: u32) -> Clocks
+        ensures { λ r. ⌜ r ≡ advancedIfFits self by ⌝ }
+    {
+        self.lts = self.lts.after(by);
+        self
+    }
+}
+
+// A core's private copy of a line: wts is the timestamp of the store that made it, rts the end of
+// its lease, dirty whether this core has stored to it since it became owned.
+pub enum Copy {
+    None,
+    Shared { wts: Stamp, rts: Stamp },
+    Owned { wts: Stamp, rts: Stamp, dirty: bool },
+}
+
+// What a request asks for.
+pub enum Want {
+    Load,
+    Store,
+}
+
+// The version of the shared copy that a core held when it asked.
+pub enum Held {
+    None,
+    Version(Stamp),
+}
+
+// What the manager grants.
+pub enum Grant {
+    Share,
+    Renew,
+    Own,
+}
+
+// A core's request slot.
+pub enum Slot {
+    Empty,
+    Asked {
+        want: Want,
+        line: usize,
+        lts: Stamp,
+        held: Held,
+    },
+    Answered {
+        grant: Grant,
+        line: usize,
+        wts: Stamp,
+        rts: Stamp,
+    },
+}
+
+pub struct Core {
+    pub clocks: Clocks,
+    pub slot: Slot,
+}
+
+impl Core {
+    // The core that every opening starts with.
+    pub const FRESH: Core = Core {
+        clocks: Clocks {
+            lts: Stamp(0),
+            sts: Stamp(0),
+        },
+        slot: Slot::Empty,
+    };
+
+    pub fn fresh() -> Core
+        ensures { λ r. ⌜ r ≡ freshCore ⌝ }
+    {
+        Core::FRESH
+    }
+}
+
+// An element of the state's array of copies.
+pub struct Cell {
+    pub copy: Copy,
+}
+
+impl Cell {
+    // No copy: what every opening starts with.
+    pub const FRESH: Cell = Cell { copy: Copy::None };
+
+    pub fn fresh() -> Cell
+        ensures { λ r. ⌜ r ≡ freshCell ⌝ }
+    {
+        Cell::FRESH
+    }
+}
+
+// Who has the newest version of a line: the manager, or the core that owns it.
+pub enum Manager {
+    Shared { wts: Stamp, rts: Stamp },
+    Owned { core: usize },
+}
+
+// What the manager has asked a line's owner for.
+pub enum Recall {
+    None,
+    Downgrade,
+    Flush,
+}
+
+// A version on its way back to the manager.
+pub enum Writeback {
+    None,
+    Flight { wts: Stamp, rts: Stamp },
+}
+
+// A line as the manager keeps it.
+pub struct Line {
+    pub manager: Manager,
+    pub recall: Recall,
+    pub writeback: Writeback,
+}
+
+impl Line {
+    // The line that every opening starts with.
+    pub const FRESH: Line = Line {
+        manager: Manager::Shared {
+            wts: Stamp(0),
+            rts: Stamp(0),
+        },
+        recall: Recall::None,
+        writeback: Writeback::None,
+    };
+
+    pub fn fresh() -> Line
+        ensures { λ r. ⌜ r ≡ freshLine ⌝ }
+    {
+        Line::FRESH
+    }
+}
+
+// What an engine is opened with: its sizes and its lease.
+pub struct Opening {
+    pub cores: usize,
+    pub lines: usize,
+    pub width: usize,
+    pub lease: u32,
+}
+
+impl Opening {
+    // The greatest sizes and the longest lease.
+    pub const MOST_CORES: usize = 16;
+
+    pub const MOST_LINES: usize = 64;
+
+    pub const MOST_WIDTH: usize = 64;
+
+    pub const MOST_LEASE: usize = 1000;
+
+    // The opening of the state that a refused opening hands back.
+    pub const SMALLEST: Opening = Opening {
+        cores: 1,
+        lines: 1,
+        width: 1,
+        lease: 1,
+    };
+
+    pub fn smallest() -> Opening
+        ensures { λ r. ⌜ r ≡ smallest ⌝ }
+    {
+        Opening::SMALLEST
+    }
+
+    // Whether the sizes and the lease lie inside the limits.
+    pub fn fits(self) -> bool
+        ensures { λ r. ⌜ r ≡ openingFits self ⌝ }
+    {
+        let lease = self.lease as usize;
+        if !within(self.cores, Opening::MOST_CORES) {
+            return false;
+        }
+        if !within(self.lines, Opening::MOST_LINES) {
+            return false;
+        }
+        if !within(self.width, Opening::MOST_WIDTH) {
+            return false;
+        }
+        within(lease, Opening::MOST_LEASE)
+    }
+}
+
+// Whether n lies from 1 to most.
+fn within(n: usize, most: usize) -> bool
+    ensures { λ r. ⌜ r ≡ within n most ⌝ }
+{
+    if n < 1 {
+        return false;
+    }
+    n <= most
+}
+
+// The engine's state. The copy of core c, line l is cell c × 64 + l. Only cores and lines inside
+// the opening's sizes take part.
+pub struct State {
+    pub opening: Opening,
+    pub core: [Core; 16],
+    pub cell: [Cell; 1024],
+    pub line: [Line; 64],
+}
+
+impl State {
+    // The fresh state of an opening.
+    pub fn fresh(opening: Opening) -> State
+        ensures { λ r. ⌜ r ≡ freshState opening ⌝ }
+    {
+        let k = Core::FRESH;
+        let e = Cell::FRESH;
+        let l = Line::FRESH;
+        let core = [k; 16];
+        let cell = [e; 1024];
+        let line = [l; 64];
+        State {
+            opening,
+            core,
+            cell,
+            line,
+        }
+    }
+}
+
+// The nine steps. A store's bytes stand beside the call.
+pub enum Call {
+    Load { core: usize, line: usize },
+    Store { core: usize, line: usize },
+    Fence { core: usize },
+    Evict { core: usize, line: usize },
+    Advance { core: usize, by: u32 },
+    Serve { core: usize },
+    Receive { core: usize },
+    Yield { line: usize },
+    Take { line: usize },
+}
+
+// What a call answers: the number of its refusal, the name of what was done, or a commit. The bytes
+// of a load's or a store's commit stand beside the answer.
+pub enum Answer {
+    Refused(u8),
+    Open,
+    Ask,
+    Recall,
+    Share,
+    Renew,
+    Own,
+    Drop,
+    Evict,
+    Advance,
+    Yield,
+    Take,
+    CommitLoad { core: usize, line: usize, ts: Stamp },
+    CommitStore { core: usize, line: usize, ts: Stamp },
+    CommitFence { core: usize, ts: Stamp },
+}
+
+// Which line of bytes a step moves, and where to.
+pub enum Move {
+    // No bytes move.
+    Still,
+    // The bytes given to a store become the core's copy.
+    Store,
+    // The manager's line becomes the answer to the core.
+    Answer,
+    // The answer to the core becomes its copy.
+    Receive,
+    // The core's copy becomes the line's writeback.
+    Writeback,
+    // The writeback becomes the manager's line.
+    Take,
+}
+
+// What a step makes of the core, the copy and the manager's line that it looks at.
+pub struct Effect {
+    pub answer: Answer,
+    pub moves: Move,
+    pub core: Core,
+    pub copy: Copy,
+    pub line: Line,
+}
+
+// One of the two lent buffers.
+pub enum Buffer {
+    Private,
+    Shared,
+}
+
+// The part of a buffer that `show` hands out.
+pub struct Shown {
+    pub buffer: Buffer,
+    pub start: usize,
+    pub end: usize,
+}

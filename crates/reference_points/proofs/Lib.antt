@@ -1,0 +1,2 @@
+-- The proof of the reference points.
+pub mod Theorem
