@@ -13,7 +13,7 @@ use Rattle.protocol.specs.Limits.{within, openingFits}
 use Rattle.protocol.specs.Fresh.{freshCore, freshLine}
 use Rattle.protocol.specs.Buffers.{Bytes, privateLength, sharedLength}
 use Rattle.protocol.specs.Machine.{Machine, coreAt, lineAt, slotLine, ownerOf, coreOf, lineOf, piecesAt}
-use Rattle.protocol.specs.Refusals.{ownerFits, slotFits, ownersFit, slotsFit, stateFits, buffersFit, machineRefusal, callRules, callRefusal, stateRefusal, orElse, refusal}
+use Rattle.protocol.specs.Refusals.{openRefusal, ownerFits, slotFits, ownersFit, slotsFit, stateFits, buffersFit, machineRefusal, callRules, callRefusal, stateRefusal, orElse, refusal}
 use Rattle.protocol.specs.declared.Slot.{Slot}
 use Rattle.protocol.specs.declared.Slot.the-variants.{Empty, Asked, Answered}
 use Rattle.protocol.specs.declared.Core.{Core}
@@ -96,6 +96,11 @@ inside o e =
       someLease = s .0;
       mostLease = s .1;
     }
+
+-- an opening that is accepted
+pub opening-fit : (o : Opening) → openRefusal o ≡ 0 → openingFits o ≡ true
+unfolding openRefusal
+opening-fit o e = not-true (openingFits o) (passed (not (openingFits o)) 7 [] (omega arith) e .0)
 
 -- a machine that neither 1 nor 2 refuses
 pub record Fit (m : Machine) : Type 0 where

@@ -1,5 +1,5 @@
--- "Fresh, for given sizes and lease: every timestamp 0, slots empty, no copies, manager lines shared, no recall, no writeback. One fresh
--- core and one fresh line are fixed values that every opening uses."
+-- "Fresh, for given sizes and lease: every timestamp 0, slots empty, no copies, manager lines shared, no recall, no writeback, .. One fresh
+-- core and one fresh line are fixed values that every opening uses." (`freshMachine` adds "all bytes 0".)
 use lib.ListN.{replicate}
 use Rattle.protocol.specs.Stamps.{stamp}
 use Rattle.protocol.specs.declared.Copy.the-variants.{None as NoCopy}

@@ -15,10 +15,10 @@ use mathlib.Core.Logic.{_⊎_}
 use mathlib.Core.List.{List, [], _∷_}
 use lib.ListN.{replicate}
 use Rattle.protocol.specs.Stamps.{Precedes, precedes}
-use Rattle.protocol.specs.Limits.{openingFits}
 use Rattle.protocol.specs.Buffers.{Bytes}
 use Rattle.protocol.specs.Machine.{freshMachine}
-use Rattle.protocol.specs.Step.{Op, load, store, fence}
+use Rattle.protocol.specs.Refusals.{openRefusal}
+use Rattle.protocol.specs.Step.{Op, load, store, fence, opened}
 use Rattle.protocol.specs.Run.{Given, run, Commit, commits}
 use Rattle.protocol.specs.declared.Key.{Key}
 use Rattle.protocol.specs.declared.Opening.{Opening}
@@ -79,9 +79,13 @@ TSO = Obeys TsoKeeps
 abbrev pub commitsOf : Opening → List Given → List (Commit Bytes)
 commitsOf o gs = commits (run gs 1 (freshMachine o) .records)
 
--- demand 3
+-- an opening that is accepted gives the state that the runs start from
+abbrev pub OpenTheorem : Type 0
+OpenTheorem = (o : Opening) → openRefusal o ≡ 0 → opened o ≡ freshMachine o .state
+
+-- demand 3, for every opening that `open` accepts
 abbrev pub OrderTheorem : Type 0
-OrderTheorem = (o : Opening) → openingFits o ≡ true → (gs : List Given) → TSO (replicate (o .width) 0) (commitsOf o gs)
+OrderTheorem = (o : Opening) → openRefusal o ≡ 0 → (gs : List Given) → TSO (replicate (o .width) 0) (commitsOf o gs)
 
 -- a relation puts the elements of a list into one order
 pub record StrictTotal {A : Type 0} (R : A → A → Type 0) (H : List A) : Type 0 where

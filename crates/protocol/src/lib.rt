@@ -197,7 +197,7 @@ impl Cell {
     }
 }
 
-// Who has the newest version of a line: the manager, or the core that owns it.
+// A line at the manager: shared with wts and rts, or owned by a core.
 pub enum Manager {
     Shared { wts: Stamp, rts: Stamp },
     Owned { core: usize },

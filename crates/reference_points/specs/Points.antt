@@ -18,7 +18,7 @@ use Rattle.protocol.specs.declared.Grant.the-variants.{Share as GrantShare}
 use Rattle.protocol.specs.declared.Slot.{Slot}
 use Rattle.protocol.specs.declared.Slot.the-variants.{Empty, Asked, Answered}
 use Rattle.protocol.specs.declared.Core.{Core}
-use Rattle.protocol.specs.declared.Manager.the-variants.{Shared}
+use Rattle.protocol.specs.declared.Manager.the-variants.{Shared, Owned}
 use Rattle.protocol.specs.declared.Recall.the-variants.{None as NoRecall}
 use Rattle.protocol.specs.declared.Writeback.the-variants.{None as NoWriteback}
 use Rattle.protocol.specs.declared.Line.{Line}
@@ -67,26 +67,30 @@ managed wts rts = record { manager = Shared (stamp wts) (stamp rts); recall = No
 abbrev pub pieces : Core → Copy → Line → Pieces
 pieces k x m = record { core = k; copy = x; line = m }
 
+-- the line at the manager while the core owns it
+abbrev pub owned : Line
+owned = record { manager = Owned 0; recall = NoRecall; writeback = NoWriteback }
+
 -- a store to an owned line, not dirty: lts, sts and rts before it, and its ts
 abbrev pub storeRow : ℕ → ℕ → ℕ → ℕ → Point
 storeRow lts sts rts ts =
     record {
       lease = 10;
-      before = pieces (core lts sts Empty) (CopyOwned (stamp 0) (stamp rts) false) freshLine;
+      before = pieces (core lts sts Empty) (CopyOwned (stamp 0) (stamp rts) false) owned;
       call = Store 0 0;
       reply = commit 0 (stamp ts) (store 0 given);
-      after = pieces (core lts ts Empty) (CopyOwned (stamp ts) (stamp ts) true) freshLine;
+      after = pieces (core lts ts Empty) (CopyOwned (stamp ts) (stamp ts) true) owned;
     }
 
--- a load that commits: lts and the copy before it, its ts, and the copy after it
-abbrev pub loadRow : ℕ → Copy → ℕ → Copy → Point
-loadRow lts x ts y =
+-- a load that commits: the line at the manager, lts and the copy before it, its ts, and the copy after it
+abbrev pub loadRow : Line → ℕ → Copy → ℕ → Copy → Point
+loadRow m lts x ts y =
     record {
       lease = 10;
-      before = pieces (core lts 0 Empty) x freshLine;
+      before = pieces (core lts 0 Empty) x m;
       call = Load 0 0;
       reply = commit 0 (stamp ts) (load 0 (0 ∷ []));
-      after = pieces (core ts 0 Empty) y freshLine;
+      after = pieces (core ts 0 Empty) y m;
     }
 
 -- a load of a shared copy with wts 4 and rts 9 that asks: lts before it
@@ -94,10 +98,10 @@ abbrev pub askRow : ℕ → Point
 askRow lts =
     record {
       lease = 10;
-      before = pieces (core lts 0 Empty) (CopyShared (stamp 4) (stamp 9)) freshLine;
+      before = pieces (core lts 0 Empty) (CopyShared (stamp 4) (stamp 9)) (managed 4 9);
       call = Load 0 0;
       reply = done ask;
-      after = pieces (core lts 0 (Asked WantLoad 0 (stamp lts) (Version (stamp 4)))) (CopyShared (stamp 4) (stamp 9)) freshLine;
+      after = pieces (core lts 0 (Asked WantLoad 0 (stamp lts) (Version (stamp 4)))) (CopyShared (stamp 4) (stamp 9)) (managed 4 9);
     }
 
 -- the serve of a load asked at `lts` by a core that holds nothing, on a shared line with wts 0: its rts before and after
@@ -153,7 +157,7 @@ w4 = storeRow 0 30 10 30
 
 -- Shared wts 4, rts 9: W5 lts 9: ts 9
 abbrev pub w5 : Point
-w5 = loadRow 9 (CopyShared (stamp 4) (stamp 9)) 9 (CopyShared (stamp 4) (stamp 9))
+w5 = loadRow (managed 4 9) 9 (CopyShared (stamp 4) (stamp 9)) 9 (CopyShared (stamp 4) (stamp 9))
 
 -- W6 lts 10: ask
 abbrev pub w6 : Point
@@ -161,15 +165,15 @@ w6 = askRow 10
 
 -- W7 lts 2: ts 4
 abbrev pub w7 : Point
-w7 = loadRow 2 (CopyShared (stamp 4) (stamp 9)) 4 (CopyShared (stamp 4) (stamp 9))
+w7 = loadRow (managed 4 9) 2 (CopyShared (stamp 4) (stamp 9)) 4 (CopyShared (stamp 4) (stamp 9))
 
 -- W8 dirty, wts and rts 11, lts 0: ts 0
 abbrev pub w8 : Point
-w8 = loadRow 0 (CopyOwned (stamp 11) (stamp 11) true) 0 (CopyOwned (stamp 11) (stamp 11) true)
+w8 = loadRow owned 0 (CopyOwned (stamp 11) (stamp 11) true) 0 (CopyOwned (stamp 11) (stamp 11) true)
 
 -- W9 owned, not dirty, wts 3, rts 7, lts 12: ts 12, rts 12
 abbrev pub w9 : Point
-w9 = loadRow 12 (CopyOwned (stamp 3) (stamp 7) false) 12 (CopyOwned (stamp 3) (stamp 12) false)
+w9 = loadRow owned 12 (CopyOwned (stamp 3) (stamp 7) false) 12 (CopyOwned (stamp 3) (stamp 12) false)
 
 -- W10 serve, asked lts 12, lease 10, rts 1: rts 22
 abbrev pub w10 : Point

@@ -14,11 +14,12 @@ use Rattle.protocol.specs.Pick.{pick}
 use Rattle.protocol.specs.Stamps.{Precedes, precedes}
 use Rattle.protocol.specs.Limits.{openingFits}
 use Rattle.protocol.specs.Fresh.{freshCore, freshCell, freshLine}
+use Rattle.protocol.specs.Refusals.{openRefusal}
 use Rattle.protocol.specs.Buffers.{Bytes, privateLength, sharedLength, managerBytes}
 use Rattle.protocol.specs.Machine.{Machine, freshMachine, coreAt, copyAt, lineAt}
 use Rattle.protocol.specs.Step.{Op, Reply, refused, done, commit, step}
 use Rattle.protocol.specs.Run.{Given, Record, place, run, Commit, commitAt, commitOf, commits}
-use Rattle.protocol.specs.Order.{In, here, there, Before, Earlier, TsoKeeps, Stores, Loads, MaySee, LastWrite, Obeys, TSO, commitsOf, OrderTheorem, StrictTotal, SortTheorem, KeyTheorem}
+use Rattle.protocol.specs.Order.{In, here, there, Before, Earlier, TsoKeeps, Stores, Loads, MaySee, LastWrite, Obeys, TSO, commitsOf, OpenTheorem, OrderTheorem, StrictTotal, SortTheorem, KeyTheorem}
 use Rattle.protocol.specs.declared.Key.{Key}
 use Rattle.protocol.specs.declared.Cell.{Cell}
 use Rattle.protocol.specs.declared.Copy.the-variants.{None as NoCopy}
@@ -26,7 +27,7 @@ use Rattle.protocol.specs.declared.Opening.{Opening}
 use Rattle.protocol.specs.declared.Call.{Call}
 use Rattle.protocol.specs.declared.Call.the-variants.{Load, Store, Fence, Evict, Advance, Serve, Receive, Yield, Take}
 use Rattle.protocol.proofs.Bytes.{row-le, zeros, zeros-part}
-use Rattle.protocol.proofs.Refusals.{Inside, inside}
+use Rattle.protocol.proofs.Refusals.{Inside, inside, opening-fit}
 use Rattle.protocol.proofs.Order.Log.{All, none, more, all-map, all-at, in-nil, in-cons, Last, fresh, Fits, LogFits, start, log-obeys}
 use Rattle.protocol.proofs.Order.Log.{step as log-step}
 use Rattle.protocol.proofs.Order.Versions.{Spot, atManager, atWriteback, atCopy, atSlot, clean, Newest, LineFits, ContentFits}
@@ -168,13 +169,16 @@ module _ (o : Opening) (fit : openingFits o ≡ true) where
 
 -- ---- demand 3
 
+pub open-theorem : OpenTheorem
+open-theorem o accepted = rw (eq-eqb (openRefusal o) 0 accepted) refl
+
 pub order-theorem : OrderTheorem
-order-theorem o fit gs =
+order-theorem o accepted gs =
     obeys-members
     (λ a i. ⊎-elim (λ j. j) (λ j. absurd (in-nil j)) (from-log gs 1 (freshMachine o) [] i)) (λ a i. to-log gs 1 (freshMachine o) [] (inl i))
     TsoKeeps (zeros (o .width))
     (log-obeys TsoKeeps (zeros (o .width))
-    (log-fits (zeros (o .width)) gs 1 (freshMachine o) [] (record { inv = inv-fresh o fit; fits = start; old = none })))
+    (log-fits (zeros (o .width)) gs 1 (freshMachine o) [] (record { inv = inv-fresh o (opening-fit o accepted); fits = start; old = none })))
 
 -- ---- the sorted order is one
 

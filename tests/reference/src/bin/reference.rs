@@ -1,0 +1,79 @@
+//! Reads a journal on standard input and writes its listing.
+//!
+//! Usage: reference [--fault NAME] [--order]
+//!        reference --list-faults
+//!
+//! `--fault` switches a fault on. `--order` also checks demand 3 on the run's
+//! commits, says the result on standard error and fails if it does not hold.
+
+use std::io::{Read, Write};
+use std::process::ExitCode;
+
+use reference::faults::Fault;
+use reference::journal::MAX_JOURNAL;
+use reference::listing::listing_with_fault;
+use reference::order::{self, Ties};
+use reference::run::Run;
+
+fn main() -> ExitCode {
+    let mut fault = Fault::None;
+    let mut order = false;
+    let mut arguments = std::env::args().skip(1);
+    while let Some(argument) = arguments.next() {
+        match argument.as_str() {
+            "--order" => order = true,
+            "--list-faults" => return list_faults(),
+            "--fault" => match arguments.next().as_deref().and_then(Fault::named) {
+                Some(named) => fault = named,
+                None => return usage("--fault needs a name of --list-faults"),
+            },
+            _ => return usage("usage: reference [--fault NAME] [--order] | --list-faults"),
+        }
+    }
+    let journal = match read_journal() {
+        Ok(journal) => journal,
+        Err(error) => return usage(&format!("standard input: {error}")),
+    };
+    if std::io::stdout().write_all(&listing_with_fault(&journal, fault)).is_err() {
+        return ExitCode::FAILURE;
+    }
+    if order {
+        check_order(&journal, fault)
+    } else {
+        ExitCode::SUCCESS
+    }
+}
+
+/// Reads standard input; two bytes above the limit are enough to tell 14.
+fn read_journal() -> std::io::Result<Vec<u8>> {
+    let mut journal = Vec::with_capacity(MAX_JOURNAL + 2);
+    std::io::stdin().lock().take(MAX_JOURNAL as u64 + 2).read_to_end(&mut journal)?;
+    Ok(journal)
+}
+
+fn check_order(journal: &[u8], fault: Fault) -> ExitCode {
+    let records: Vec<_> = Run::with_fault(journal, fault).collect();
+    let ties = if fault == Fault::TiesByCore { Ties::ByCore } else { Ties::ByPlace };
+    match order::check(&order::commits(&records), ties) {
+        Ok(()) => {
+            eprintln!("demand 3 holds");
+            ExitCode::SUCCESS
+        }
+        Err(trouble) => {
+            eprintln!("demand 3 fails: {trouble:?}");
+            ExitCode::FAILURE
+        }
+    }
+}
+
+fn list_faults() -> ExitCode {
+    for fault in Fault::ALL {
+        println!("{:26} {}", fault.name(), fault.meaning());
+    }
+    ExitCode::SUCCESS
+}
+
+fn usage(text: &str) -> ExitCode {
+    eprintln!("{text}");
+    ExitCode::from(2)
+}

@@ -1,0 +1,402 @@
+//! Faults that can be switched on, to show that the kept journals notice them.
+//!
+//! `machine.rs` knows nothing of them: each fault bends the right step from the
+//! outside. Faults of the driver are asked for by `run.rs` and `listing.rs`.
+
+use crate::journal::kind_name;
+use crate::listing::Counts;
+use crate::machine::*;
+
+/// Defines the faults, their names and one sentence about each.
+macro_rules! faults {
+    ($($fault:ident $name:literal $meaning:literal)*) => {
+        #[derive(Clone, Copy, PartialEq, Eq, Debug)]
+        pub enum Fault {
+            /// No fault: document 01.
+            None,
+            $(#[doc = $meaning] $fault,)*
+        }
+
+        impl Fault {
+            pub const ALL: &'static [Fault] = &[$(Fault::$fault,)*];
+
+            pub fn name(self) -> &'static str {
+                match self { Fault::None => "none", $(Fault::$fault => $name,)* }
+            }
+
+            pub fn meaning(self) -> &'static str {
+                match self { Fault::None => "document 01", $(Fault::$fault => $meaning,)* }
+            }
+        }
+    };
+}
+
+faults! {
+    // Named in 01, "Faults I have met".
+    OwnerReadLeavesRts "owner-read-leaves-rts" "an owner's read past rts leaves rts"
+    CleanLoadLeavesLts "clean-load-leaves-lts" "a load of an owned line not yet dirty leaves lts below wts"
+    StoreAtRts "store-at-rts" "a store commits at rts, where a shared reader may stand"
+    RenewalRevives "renewal-revives" "a renewal makes an evicted copy again"
+    TiesByCore "ties-by-core" "commits of equal timestamp are sorted by core"
+    // Named in 01, "Handshake".
+    AlwaysAsks "always-asks" "every load and store asks and nothing ever commits"
+    ServeMovesNothing "serve-moves-nothing" "a serve moves no bytes"
+    LaterServesMoveNothing "later-serves-move-nothing" "every serve after the first grant moves no bytes"
+    MovesNothing "moves-nothing" "no step but a store moves bytes"
+    Early20 "early-20" "20 for a load or store that hits while the slot is taken"
+    Early22 "early-22" "22 for a renewal whose copy is gone"
+    Early27Store "early-27-store" "27 for a store where rts + 1 is exactly 4,294,967,295"
+    Early27Advance "early-27-advance" "27 for an advance where lts + by is exactly 4,294,967,295"
+    Early27Serve "early-27-serve" "27 for a serve where asked lts + lease is exactly 4,294,967,295"
+    Early27Owned "early-27-owned" "27 for a serve on an owned line"
+    RefusesAll "refuses-all" "every step is refused"
+    ConstantCommit "constant-commit" "every load, store and fence answers one constant commit"
+    InventedCounts "invented-counts" "the end line's counts are invented"
+    // Skipped steps.
+    SkipLoad "skip-load" "load steps are skipped in silence"
+    SkipStore "skip-store" "store steps are skipped in silence"
+    SkipFence "skip-fence" "fence steps are skipped in silence"
+    SkipEvict "skip-evict" "evict steps are skipped in silence"
+    SkipAdvance "skip-advance" "advance steps are skipped in silence"
+    SkipServe "skip-serve" "serve steps are skipped in silence"
+    SkipReceive "skip-receive" "receive steps are skipped in silence"
+    SkipYield "skip-yield" "yield steps are skipped in silence"
+    SkipTake "skip-take" "take steps are skipped in silence"
+    // Steps that answer by the right word and do nothing.
+    IdleLoad "idle-load" "a load answers rightly and changes nothing"
+    IdleStore "idle-store" "a store answers rightly and changes nothing"
+    IdleFence "idle-fence" "a fence answers rightly and changes nothing"
+    IdleEvict "idle-evict" "an evict answers rightly and changes nothing"
+    IdleAdvance "idle-advance" "an advance answers rightly and changes nothing"
+    IdleServe "idle-serve" "a serve answers rightly and changes nothing"
+    IdleReceive "idle-receive" "a receive answers rightly and changes nothing"
+    IdleYield "idle-yield" "a yield answers rightly and changes nothing"
+    IdleTake "idle-take" "a take answers rightly and changes nothing"
+    // Tables read wrongly.
+    ShortLease "short-lease" "a serve does not stretch the manager's rts"
+    TakeKeepsRecall "take-keeps-recall" "a take keeps the recall"
+    LoadWeakensFlush "load-weakens-flush" "serving a load turns a standing flush into a downgrade"
+    StoreLeavesDowngrade "store-leaves-downgrade" "serving a store leaves a standing downgrade"
+    StretchAtDowngrade "stretch-at-downgrade" "a downgrade also stretches the former owner's lease, as in Figure 1 of 002"
+    RefusalChangesClock "refusal-changes-clock" "a refused step changes a timestamp"
+    RefusalChangesBytes "refusal-changes-bytes" "a refused step changes a byte"
+    // The driver.
+    RefusalAsCommit "refusal-as-commit" "the end line counts a refusal as a commit"
+    OtherCoreTs "other-core-ts" "a commit prints the lts of core 0"
+    GoesOnAfter11 "goes-on-after-11" "the run goes on after a line that is no form of the grammar"
+    Takes65537 "takes-65537" "a journal of 65,537 bytes is taken"
+}
+
+impl Fault {
+    pub fn named(name: &str) -> Option<Fault> {
+        Fault::ALL.iter().copied().find(|fault| fault.name() == name)
+    }
+
+    /// Bytes that a journal may have above the limit.
+    pub fn journal_excess(self) -> usize {
+        usize::from(self == Fault::Takes65537)
+    }
+
+    /// What the end line says under this fault.
+    pub fn distort_counts(self, counts: Counts) -> Counts {
+        match self {
+            Fault::InventedCounts => Counts { end: counts.end, commits: counts.end, refused: 0 },
+            Fault::RefusalAsCommit => Counts { commits: counts.commits + counts.refused, ..counts },
+            _ => counts,
+        }
+    }
+
+    /// Whether this fault skips a step of this kind.
+    fn skips(self, step: &Step) -> bool {
+        self.name().strip_prefix("skip-") == Some(kind_name(step))
+    }
+
+    /// Whether this fault lets a step of this kind do nothing.
+    fn idles(self, step: &Step) -> bool {
+        self.name().strip_prefix("idle-") == Some(kind_name(step))
+    }
+}
+
+/// A machine with a fault, or with none.
+pub struct Faulty {
+    pub machine: Machine,
+    fault: Fault,
+    grants: u32,
+}
+
+impl Faulty {
+    pub fn new(machine: Machine, fault: Fault) -> Faulty {
+        Faulty { machine, fault, grants: 0 }
+    }
+
+    /// One step. Nothing comes back if the fault skips it.
+    pub fn step(&mut self, step: &Step) -> Option<Answer> {
+        if self.fault == Fault::None {
+            return Some(self.machine.step(step));
+        }
+        if self.fault.skips(step) {
+            return None;
+        }
+        let before = self.machine.clone();
+        let answer = self.machine.step(step);
+        if self.fault.idles(step) {
+            self.machine = before;
+            return Some(answer);
+        }
+        Some(self.bend(step, &before, answer))
+    }
+
+    /// Bends the outcome of a right step.
+    fn bend(&mut self, step: &Step, before: &Machine, answer: Answer) -> Answer {
+        match self.fault {
+            Fault::OwnerReadLeavesRts => self.owner_read_leaves_rts(step, before, answer),
+            Fault::CleanLoadLeavesLts => self.clean_load_leaves_lts(step, before, answer),
+            Fault::StoreAtRts => self.store_at_rts(step, before, answer),
+            Fault::RenewalRevives => self.renewal_revives(step, before, answer),
+            Fault::AlwaysAsks => self.always_asks(step, before, answer),
+            Fault::ServeMovesNothing => self.serve_moves_nothing(step, before, answer, 0),
+            Fault::LaterServesMoveNothing => self.serve_moves_nothing(step, before, answer, 1),
+            Fault::MovesNothing => self.moves_nothing(step, before, answer),
+            Fault::Early20 => self.early_20(step, before, answer),
+            Fault::Early22 => self.refuse_if(answer == Answer::Drop, before, 22, answer),
+            Fault::Early27Store | Fault::Early27Advance | Fault::Early27Serve => {
+                self.early_27(step, before, answer)
+            }
+            Fault::Early27Owned => self.early_27_owned(step, before, answer),
+            Fault::RefusesAll => self.refuse_if(true, before, 20, answer),
+            Fault::ConstantCommit => self.constant_commit(step, answer),
+            Fault::ShortLease => self.short_lease(step, before, answer),
+            Fault::TakeKeepsRecall => self.take_keeps_recall(step, before, answer),
+            Fault::LoadWeakensFlush => self.load_weakens_flush(step, before, answer),
+            Fault::StoreLeavesDowngrade => self.store_leaves_downgrade(step, before, answer),
+            Fault::StretchAtDowngrade => self.stretch_at_downgrade(step, answer),
+            Fault::RefusalChangesClock => self.refusal_changes_clock(step, answer),
+            Fault::RefusalChangesBytes => self.refusal_changes_bytes(answer),
+            Fault::OtherCoreTs => self.other_core_ts(answer),
+            _ => answer,
+        }
+    }
+
+    /// The copy that a step named, before it.
+    fn copy_before(step: &Step, before: &Machine) -> Option<(u32, u32, PrivateCopy)> {
+        let (core, line) = (step.core()?, step.line()?);
+        let sizes = before.state.sizes;
+        (core < sizes.cores && line < sizes.lines).then(|| (core, line, before.copy(core, line)))
+    }
+
+    /// What a core to be served has asked for, before the step.
+    fn asked_before(step: &Step, before: &Machine) -> Option<(Wish, u32, u32)> {
+        let Step::Serve { core } = *step else {
+            return None;
+        };
+        match before.state.cores.get(core as usize)?.slot {
+            Slot::Asked { wish, line, lts, .. } => Some((wish, line, lts)),
+            _ => None,
+        }
+    }
+
+    /// Refuses, with nothing changed.
+    fn refuse_if(&mut self, refuse: bool, before: &Machine, number: u32, answer: Answer) -> Answer {
+        if !refuse {
+            return answer;
+        }
+        self.machine = before.clone();
+        Answer::Refused(number)
+    }
+
+    fn owner_read_leaves_rts(&mut self, step: &Step, before: &Machine, answer: Answer) -> Answer {
+        if let (Step::Load { .. }, Some((core, line, copy))) = (step, Self::copy_before(step, before)) {
+            self.machine.set_copy(core, line, copy);
+        }
+        answer
+    }
+
+    fn clean_load_leaves_lts(&mut self, step: &Step, before: &Machine, answer: Answer) -> Answer {
+        let Some((core, line, PrivateCopy::Owned { wts, rts, dirty: false })) =
+            Self::copy_before(step, before)
+        else {
+            return answer;
+        };
+        let Answer::Commit(Commit::Load { data, .. }) = answer else {
+            return answer;
+        };
+        let ts = before.state.cores[core as usize].lts;
+        self.machine.state.cores[core as usize].lts = ts;
+        self.machine.set_copy(core, line, PrivateCopy::Owned { wts, rts: rts.max(ts), dirty: false });
+        Answer::Commit(Commit::Load { core, line, ts, data })
+    }
+
+    fn store_at_rts(&mut self, step: &Step, before: &Machine, answer: Answer) -> Answer {
+        let Some((core, line, PrivateCopy::Owned { rts, .. })) = Self::copy_before(step, before) else {
+            return answer;
+        };
+        let Answer::Commit(Commit::Store { data, .. }) = answer else {
+            return answer;
+        };
+        let clocks = before.state.cores[core as usize];
+        let ts = clocks.lts.max(clocks.sts).max(rts);
+        self.machine.state.cores[core as usize].sts = ts;
+        self.machine.set_copy(core, line, PrivateCopy::Owned { wts: ts, rts: ts, dirty: true });
+        Answer::Commit(Commit::Store { core, line, ts, data })
+    }
+
+    fn renewal_revives(&mut self, step: &Step, before: &Machine, answer: Answer) -> Answer {
+        let (Answer::Drop, Some(core)) = (answer, step.core()) else {
+            return answer;
+        };
+        if let Slot::Answered { line, wts, rts, .. } = before.state.cores[core as usize].slot {
+            self.machine.set_copy(core, line, PrivateCopy::Shared { wts, rts });
+        }
+        answer
+    }
+
+    fn always_asks(&mut self, step: &Step, before: &Machine, answer: Answer) -> Answer {
+        let accesses = matches!(step, Step::Load { .. } | Step::Store { .. });
+        if accesses && matches!(answer, Answer::Commit(_)) {
+            self.machine = before.clone();
+            return Answer::Ask;
+        }
+        answer
+    }
+
+    /// Grants after the first `moved` ones move no bytes.
+    fn serve_moves_nothing(&mut self, step: &Step, before: &Machine, answer: Answer, moved: u32) -> Answer {
+        if matches!(step, Step::Serve { .. }) && matches!(answer, Answer::Share | Answer::Own) {
+            if self.grants >= moved {
+                self.machine.shared.copy_from_slice(&before.shared);
+            }
+            self.grants += 1;
+        }
+        answer
+    }
+
+    fn moves_nothing(&mut self, step: &Step, before: &Machine, answer: Answer) -> Answer {
+        if !matches!(step, Step::Store { .. }) {
+            self.machine.private.copy_from_slice(&before.private);
+            self.machine.shared.copy_from_slice(&before.shared);
+        }
+        answer
+    }
+
+    fn early_20(&mut self, step: &Step, before: &Machine, answer: Answer) -> Answer {
+        let accesses = matches!(step, Step::Load { .. } | Step::Store { .. });
+        let hit = accesses && matches!(answer, Answer::Commit(_));
+        let taken = |core: u32| before.state.cores[core as usize].slot != Slot::Empty;
+        self.refuse_if(hit && step.core().is_some_and(taken), before, 20, answer)
+    }
+
+    fn early_27(&mut self, step: &Step, before: &Machine, answer: Answer) -> Answer {
+        let lease = before.state.sizes.lease;
+        let sum = match (self.fault, step, answer) {
+            (Fault::Early27Store, Step::Store { .. }, Answer::Commit(_)) => {
+                match Self::copy_before(step, before) {
+                    Some((_, _, PrivateCopy::Owned { rts, .. })) => rts.checked_add(1),
+                    _ => None,
+                }
+            }
+            (Fault::Early27Advance, Step::Advance { core, by }, Answer::Advance) => {
+                before.state.cores[*core as usize].lts.checked_add(*by)
+            }
+            (Fault::Early27Serve, Step::Serve { .. }, Answer::Share | Answer::Renew) => {
+                Self::asked_before(step, before).and_then(|(_, _, lts)| lts.checked_add(lease))
+            }
+            _ => None,
+        };
+        self.refuse_if(sum == Some(GREATEST), before, 27, answer)
+    }
+
+    fn early_27_owned(&mut self, step: &Step, before: &Machine, answer: Answer) -> Answer {
+        let lease = before.state.sizes.lease;
+        let passes = Self::asked_before(step, before)
+            .is_some_and(|(wish, _, lts)| wish == Wish::Load && lts.checked_add(lease).is_none());
+        self.refuse_if(passes && answer == Answer::Recall, before, 27, answer)
+    }
+
+    fn constant_commit(&mut self, step: &Step, answer: Answer) -> Answer {
+        let width = self.machine.state.sizes.width as usize;
+        match step {
+            Step::Load { .. } | Step::Store { .. } | Step::Fence { .. } => {
+                let data = Bytes::new(&[0; MAX_WIDTH][..width]);
+                Answer::Commit(Commit::Load { core: 0, line: 0, ts: 0, data })
+            }
+            _ => answer,
+        }
+    }
+
+    fn short_lease(&mut self, step: &Step, before: &Machine, answer: Answer) -> Answer {
+        if let (Some((_, line, _)), Answer::Share | Answer::Renew) =
+            (Self::asked_before(step, before), answer)
+        {
+            self.machine.state.lines[line as usize].holder = before.state.lines[line as usize].holder;
+        }
+        answer
+    }
+
+    fn take_keeps_recall(&mut self, step: &Step, before: &Machine, answer: Answer) -> Answer {
+        if let (Step::Take { line }, Answer::Take) = (step, answer) {
+            let line = *line as usize;
+            self.machine.state.lines[line].recall = before.state.lines[line].recall;
+        }
+        answer
+    }
+
+    fn load_weakens_flush(&mut self, step: &Step, before: &Machine, answer: Answer) -> Answer {
+        if let (Some((Wish::Load, line, _)), Answer::Recall) = (Self::asked_before(step, before), answer) {
+            self.machine.state.lines[line as usize].recall = Recall::Downgrade;
+        }
+        answer
+    }
+
+    fn store_leaves_downgrade(&mut self, step: &Step, before: &Machine, answer: Answer) -> Answer {
+        if let (Some((Wish::Store, line, _)), Answer::Recall) = (Self::asked_before(step, before), answer) {
+            let standing = before.state.lines[line as usize].recall;
+            if standing == Recall::Downgrade {
+                self.machine.state.lines[line as usize].recall = standing;
+            }
+        }
+        answer
+    }
+
+    /// Every shared copy of the manager's version gets the manager's new rts.
+    fn stretch_at_downgrade(&mut self, step: &Step, answer: Answer) -> Answer {
+        let (Step::Serve { core }, Answer::Share) = (step, answer) else {
+            return answer;
+        };
+        let Slot::Answered { line, wts, rts, .. } = self.machine.state.cores[*core as usize].slot else {
+            return answer;
+        };
+        for other in 0..self.machine.state.sizes.cores {
+            if matches!(self.machine.copy(other, line), PrivateCopy::Shared { wts: w, .. } if w == wts) {
+                self.machine.set_copy(other, line, PrivateCopy::Shared { wts, rts });
+            }
+        }
+        answer
+    }
+
+    fn refusal_changes_clock(&mut self, step: &Step, answer: Answer) -> Answer {
+        if matches!(answer, Answer::Refused(_)) {
+            let core = step.core().unwrap_or(0) as usize % MAX_CORES;
+            let lts = &mut self.machine.state.cores[core].lts;
+            *lts = lts.saturating_add(1);
+        }
+        answer
+    }
+
+    fn refusal_changes_bytes(&mut self, answer: Answer) -> Answer {
+        if matches!(answer, Answer::Refused(_)) {
+            self.machine.private[0] ^= 1;
+        }
+        answer
+    }
+
+    fn other_core_ts(&mut self, answer: Answer) -> Answer {
+        let ts = self.machine.state.cores[0].lts;
+        match answer {
+            Answer::Commit(Commit::Load { core, line, data, .. }) => {
+                Answer::Commit(Commit::Load { core, line, ts, data })
+            }
+            Answer::Commit(Commit::Fence { core, .. }) => Answer::Commit(Commit::Fence { core, ts }),
+            other => other,
+        }
+    }
+}

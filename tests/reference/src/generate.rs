@@ -1,0 +1,442 @@
+//! Journals made from a seed.
+//!
+//! A generator plays each step on a machine of its own, so that it can choose
+//! steps that matter where the machine stands: pending requests go on, leases
+//! run out by one, renewals find their copy gone, recalls meet writebacks in
+//! flight. Some steps are wild, and some journals are damaged afterwards.
+
+use crate::damage;
+use crate::journal::{write_opening, write_step, MAX_JOURNAL};
+use crate::machine::*;
+use crate::random::Random;
+
+/// The journal of a seed.
+pub fn journal(seed: u64) -> Vec<u8> {
+    let mut random = Random::new(seed);
+    let damaged = random.percent(35);
+    let length = length(&mut random, damaged);
+    let mut traffic = Traffic::new(&mut random);
+    let text = traffic.journal(length);
+    if damaged {
+        damage::damage(&mut random, text)
+    } else {
+        text
+    }
+}
+
+/// How long a journal is to be.
+#[derive(Clone, Copy)]
+pub enum Length {
+    /// A number of steps, as long as they fit.
+    Steps(u32),
+    /// Exactly this number of bytes.
+    Exactly(usize),
+}
+
+fn length(random: &mut Random, damaged: bool) -> Length {
+    match random.below(100) {
+        0 => Length::Steps(0),
+        1..=19 => Length::Steps(random.between(1, 12)),
+        20..=59 => Length::Steps(random.between(12, 100)),
+        60..=89 => Length::Steps(random.between(100, 400)),
+        90..=97 => Length::Steps(random.between(400, 1200)),
+        _ if damaged => Length::Steps(random.between(1, 400)),
+        _ => Length::Exactly(MAX_JOURNAL - random.pick(&[0, 0, 0, 1, 2, 100])),
+    }
+}
+
+/// Sizes with weight on small engines, where cores meet on few lines, and on
+/// the limits.
+fn sizes(random: &mut Random) -> Sizes {
+    let (cores, lines, width) = match random.below(100) {
+        0..=24 => (random.between(2, 4), random.between(1, 2), random.between(1, 2)),
+        25..=49 => (random.between(1, 6), random.between(1, 4), random.between(1, 8)),
+        50..=74 => (random.between(1, 16), random.between(1, 64), random.between(1, 64)),
+        75..=89 => (16, 64, 64),
+        _ => (random.pick(&[1, 16]), random.pick(&[1, 64]), random.pick(&[1, 64])),
+    };
+    let lease = match random.below(6) {
+        0 => random.between(1, 3),
+        1 => random.between(1, MAX_LEASE),
+        2 => random.pick(&[1, MAX_LEASE]),
+        _ => random.between(2, 20),
+    };
+    Sizes { cores, lines, width, lease }
+}
+
+/// What kind of traffic a journal has: chances in a hundred, and the cores and
+/// lines on which most of it takes place.
+struct Mood {
+    cores: Vec<u32>,
+    lines: Vec<u32>,
+    wild: u32,
+    pending: u32,
+    mischief: u32,
+    /// Weights of load, store, fence, evict and advance.
+    weights: [u32; 5],
+    /// Whether timestamps go near the greatest one.
+    high: bool,
+}
+
+impl Mood {
+    fn new(random: &mut Random, sizes: &Sizes) -> Mood {
+        let hot_cores = random.between(1, 4.min(sizes.cores));
+        let hot_lines = random.between(1, 3.min(sizes.lines));
+        Mood {
+            cores: (0..hot_cores).map(|_| random.below(sizes.cores)).collect(),
+            lines: (0..hot_lines).map(|_| random.below(sizes.lines)).collect(),
+            wild: random.pick(&[0, 1, 3, 10, 30]),
+            pending: random.pick(&[15, 30, 45, 60]),
+            mischief: random.pick(&[0, 5, 15, 30]),
+            weights: random.pick(&[
+                [50, 25, 5, 5, 15],
+                [30, 50, 5, 10, 5],
+                [60, 10, 5, 5, 20],
+                [30, 30, 10, 20, 10],
+                [20, 20, 20, 20, 20],
+            ]),
+            high: random.percent(25),
+        }
+    }
+}
+
+/// A source of steps that belong together.
+pub struct Traffic<'a> {
+    random: &'a mut Random,
+    mood: Mood,
+    machine: Machine,
+    /// What each core wants to do until it commits.
+    wishes: [Option<Step>; MAX_CORES],
+}
+
+impl<'a> Traffic<'a> {
+    pub fn new(random: &'a mut Random) -> Traffic<'a> {
+        let sizes = sizes(random);
+        Traffic::of_sizes(random, sizes)
+    }
+
+    /// Traffic for an engine of given sizes, which lie inside the limits.
+    pub fn of_sizes(random: &'a mut Random, sizes: Sizes) -> Traffic<'a> {
+        let mood = Mood::new(random, &sizes);
+        let machine = Machine::open(sizes).expect("sizes inside the limits");
+        Traffic { random, mood, machine, wishes: [None; MAX_CORES] }
+    }
+
+    /// Only reasonable traffic, of all cores on all lines: no wild steps and low
+    /// timestamps.
+    pub fn tame(mut self) -> Traffic<'a> {
+        self.mood = Mood {
+            cores: (0..self.sizes().cores).collect(),
+            lines: (0..self.sizes().lines).collect(),
+            wild: 0,
+            pending: 45,
+            mischief: 5,
+            weights: [50, 25, 5, 5, 15],
+            high: false,
+        };
+        self
+    }
+
+    /// A whole journal.
+    pub fn journal(&mut self, length: Length) -> Vec<u8> {
+        let mut text = Vec::new();
+        write_opening(&mut text, &self.machine.state.sizes);
+        text.push(b'\n');
+        let (steps, limit) = match length {
+            Length::Steps(steps) => (steps, MAX_JOURNAL),
+            // Room for the lines that fill up to the exact length.
+            Length::Exactly(bytes) => (u32::MAX, bytes - 400),
+        };
+        for _ in 0..steps {
+            let before = text.len();
+            let step = self.mostly_fruitful_step();
+            write_step(&mut text, &step);
+            text.push(b'\n');
+            if text.len() > limit {
+                text.truncate(before);
+                break;
+            }
+            self.play(&step);
+        }
+        if let Length::Exactly(bytes) = length {
+            fill_up(&mut text, bytes);
+        }
+        text
+    }
+
+    /// Plays a step and forgets a wish that has come true.
+    fn play(&mut self, step: &Step) {
+        let answer = self.machine.step(step);
+        if let (Answer::Commit(_), Some(core)) = (answer, step.core()) {
+            self.wishes[core as usize] = None;
+        }
+    }
+
+    fn sizes(&self) -> Sizes {
+        self.machine.state.sizes
+    }
+
+    fn slot(&self, core: u32) -> Slot {
+        self.machine.state.cores[core as usize].slot
+    }
+
+    fn lts(&self, core: u32) -> u32 {
+        self.machine.state.cores[core as usize].lts
+    }
+
+    /// Mostly one of the few busy cores.
+    fn some_core(&mut self) -> u32 {
+        if self.random.percent(90) {
+            self.random.pick(&self.mood.cores)
+        } else {
+            self.random.below(self.machine.state.sizes.cores)
+        }
+    }
+
+    /// Mostly one of the few busy lines.
+    fn some_line(&mut self) -> u32 {
+        if self.random.percent(90) {
+            self.random.pick(&self.mood.lines)
+        } else {
+            self.random.below(self.machine.state.sizes.lines)
+        }
+    }
+
+    fn some_data(&mut self, count: usize) -> Bytes {
+        let bytes: Vec<u8> = (0..count).map(|_| self.random.byte()).collect();
+        Bytes::new(&bytes)
+    }
+
+    /// A step; one that the machine refuses is mostly given up for another.
+    fn mostly_fruitful_step(&mut self) -> Step {
+        let mut step = self.next_step();
+        for _ in 0..3 {
+            if self.machine.refusal(&step).is_none() || self.random.percent(20) {
+                break;
+            }
+            step = self.next_step();
+        }
+        step
+    }
+
+    fn next_step(&mut self) -> Step {
+        if self.random.percent(self.mood.wild) {
+            return self.wild_step();
+        }
+        if self.random.percent(self.mood.mischief) {
+            if let Some(step) = self.mischief() {
+                return step;
+            }
+        }
+        if self.random.percent(self.mood.pending) {
+            if let Some(step) = self.pending_step() {
+                return step;
+            }
+        }
+        self.core_step()
+    }
+
+    /// A step that carries a request or a writeback on.
+    fn pending_step(&mut self) -> Option<Step> {
+        let mut steps = Vec::new();
+        for core in 0..self.sizes().cores {
+            match self.slot(core) {
+                Slot::Empty => {}
+                Slot::Asked { .. } => steps.push(Step::Serve { core }),
+                Slot::Answered { .. } => steps.push(Step::Receive { core }),
+            }
+        }
+        for line in 0..self.sizes().lines {
+            let manager = &self.machine.state.lines[line as usize];
+            if manager.writeback.is_some() {
+                steps.push(Step::Take { line });
+            } else if manager.recall != Recall::None {
+                steps.push(Step::Yield { line });
+            }
+        }
+        steps.retain(|step| self.machine.refusal(step).is_none() || self.random.percent(5));
+        if steps.is_empty() {
+            None
+        } else {
+            Some(self.random.pick(&steps))
+        }
+    }
+
+    /// A step that comes at a bad moment: an eviction while a renewal is under
+    /// way, while a recall stands, or of an owned line at all; a yield or an
+    /// access while a writeback is in flight.
+    fn mischief(&mut self) -> Option<Step> {
+        let mut steps = Vec::new();
+        for core in 0..self.sizes().cores {
+            if let Slot::Asked { wts: Some(_), line, .. } | Slot::Answered { grant: Grant::Renew, line, .. } =
+                self.slot(core)
+            {
+                if self.machine.copy(core, line) != PrivateCopy::None {
+                    steps.push(Step::Evict { core, line });
+                }
+            }
+        }
+        for line in 0..self.sizes().lines {
+            let manager = self.machine.state.lines[line as usize];
+            let Holder::Owned { core } = manager.holder else {
+                continue;
+            };
+            let owned = matches!(self.machine.copy(core, line), PrivateCopy::Owned { .. });
+            if owned && self.random.percent(if manager.recall == Recall::None { 10 } else { 50 }) {
+                steps.push(Step::Evict { core, line });
+            } else if !owned {
+                let data = self.some_data(self.sizes().width as usize);
+                steps.push(self.random.pick(&[
+                    Step::Yield { line },
+                    Step::Load { core, line },
+                    Step::Store { core, line, data },
+                ]));
+            }
+        }
+        if steps.is_empty() {
+            None
+        } else {
+            Some(self.random.pick(&steps))
+        }
+    }
+
+    /// A step that a core takes on its own.
+    fn core_step(&mut self) -> Step {
+        let mut core = self.some_core();
+        if self.is_stuck(core) && self.random.percent(90) {
+            core = self.random.below(self.sizes().cores);
+        }
+        if self.slot(core) != Slot::Empty && self.random.percent(60) {
+            return self.go_on(core);
+        }
+        if let Some(wish) = self.wishes[core as usize] {
+            if self.random.percent(75) {
+                return wish;
+            }
+        }
+        let step = self.new_step(core);
+        if matches!(step, Step::Load { .. } | Step::Store { .. }) {
+            self.wishes[core as usize] = Some(step);
+        }
+        step
+    }
+
+    /// Whether a core's request can never be served, because its lease would pass
+    /// the greatest timestamp.
+    fn is_stuck(&self, core: u32) -> bool {
+        self.machine.refusal(&Step::Serve { core }) == Some(27)
+    }
+
+    /// The next step on the way of a core's request.
+    fn go_on(&mut self, core: u32) -> Step {
+        let Slot::Asked { line, .. } = self.slot(core) else {
+            return Step::Receive { core };
+        };
+        let manager = &self.machine.state.lines[line as usize];
+        match manager.holder {
+            Holder::Owned { .. } if manager.writeback.is_some() => Step::Take { line },
+            Holder::Owned { .. } if manager.recall != Recall::None => Step::Yield { line },
+            _ => Step::Serve { core },
+        }
+    }
+
+    fn new_step(&mut self, core: u32) -> Step {
+        let line = self.some_line();
+        let total = self.mood.weights.iter().sum();
+        let mut at = self.random.below(total);
+        let mut kind = 0;
+        while at >= self.mood.weights[kind] {
+            at -= self.mood.weights[kind];
+            kind += 1;
+        }
+        match kind {
+            0 => Step::Load { core, line },
+            1 => Step::Store { core, line, data: self.some_data(self.sizes().width as usize) },
+            2 => Step::Fence { core },
+            3 => Step::Evict { core, line: self.held_line(core, line) },
+            _ => Step::Advance { core, by: self.some_advance(core, line) },
+        }
+    }
+
+    /// A line that the core holds a copy of, or else the given one.
+    fn held_line(&mut self, core: u32, line: u32) -> u32 {
+        let held: Vec<u32> = (0..self.sizes().lines)
+            .filter(|&line| self.machine.copy(core, line) != PrivateCopy::None)
+            .collect();
+        if held.is_empty() || self.random.percent(10) {
+            line
+        } else {
+            self.random.pick(&held)
+        }
+    }
+
+    /// How far a core goes ahead: a little, by about a lease, exactly to the end
+    /// of a lease or one past it, or near to the greatest timestamp.
+    fn some_advance(&mut self, core: u32, line: u32) -> u32 {
+        let lts = self.lts(core);
+        let lease = self.sizes().lease;
+        if self.mood.high && self.random.percent(25) {
+            let room = GREATEST - lts;
+            let short = self.random.below(lease + 3);
+            return if self.random.percent(25) { room.saturating_add(1) } else { room.saturating_sub(short) };
+        }
+        let held = self.held_line(core, line);
+        if let PrivateCopy::Shared { rts, .. } | PrivateCopy::Owned { rts, .. } =
+            self.machine.copy(core, held)
+        {
+            if rts >= lts && self.random.percent(60) {
+                return (rts - lts).saturating_add(self.random.below(2));
+            }
+        }
+        self.random.between(1, 2 * lease)
+    }
+
+    /// Any step at all, also one with numbers outside the sizes.
+    fn wild_step(&mut self) -> Step {
+        let Sizes { cores, lines, width, .. } = self.sizes();
+        let core = wild_number(self.random, cores);
+        let line = wild_number(self.random, lines);
+        match self.random.below(9) {
+            0 => Step::Load { core, line },
+            1 => {
+                let width = width as usize;
+                let count = self.random.pick(&[width, width + 1, (width - 1).max(1), 1, 80, 80, 85, 86]);
+                Step::Store { core, line, data: self.some_data(count) }
+            }
+            2 => Step::Fence { core },
+            3 => Step::Evict { core, line },
+            4 => {
+                let by = self.random.pick(&[0, 0, 1, 2, GREATEST, GREATEST - 1, 1 << 31]);
+                Step::Advance { core, by }
+            }
+            5 => Step::Serve { core },
+            6 => Step::Receive { core },
+            7 => Step::Yield { line },
+            _ => Step::Take { line },
+        }
+    }
+}
+
+/// A number that is mostly below a bound, sometimes at or far above it.
+fn wild_number(random: &mut Random, bound: u32) -> u32 {
+    match random.below(12) {
+        0 => bound,
+        1 => random.pick(&[bound + 1, 16, 64, 255, 256, 65_536, GREATEST]),
+        _ => random.below(bound),
+    }
+}
+
+/// Adds advance steps of core 0 until the text has exactly so many bytes. Such
+/// a line has 23 to 32 bytes; at least 92 bytes must be missing.
+pub fn fill_up(text: &mut Vec<u8>, bytes: usize) {
+    const SHORTEST: usize = "op=advance core=0 by=1\n".len();
+    const LONGEST: usize = SHORTEST + 9;
+    while text.len() < bytes {
+        let missing = bytes - text.len();
+        let lines = missing.div_ceil(LONGEST);
+        let length = missing / lines;
+        text.extend_from_slice(b"op=advance core=0 by=1");
+        text.resize(text.len() + length - SHORTEST, b'0');
+        text.push(b'\n');
+    }
+}

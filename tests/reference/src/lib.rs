@@ -1,0 +1,18 @@
+//! A second implementation of document 01, written from that document alone.
+//!
+//! It exists to be compared with the product: the same journal must give the
+//! same listing, byte for byte. It is plain code, and nothing in it is proved.
+
+pub mod coverage;
+pub mod damage;
+pub mod faults;
+pub mod generate;
+pub mod journal;
+pub mod kept;
+pub mod listing;
+pub mod machine;
+pub mod order;
+pub mod random;
+pub mod run;
+pub mod shrink;
+pub mod speed;

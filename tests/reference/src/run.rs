@@ -1,0 +1,88 @@
+//! The driver: a journal in, one record for the opening and for each step line
+//! out (01, "Journal and driver").
+
+use crate::faults::{Fault, Faulty};
+use crate::journal::{self, Lines, MAX_JOURNAL};
+use crate::machine::{Answer, Machine, Step};
+
+/// What happened at one place of the list. The step is there if the line was
+/// one of the grammar.
+#[derive(Clone, Copy, PartialEq, Debug)]
+pub struct Record {
+    pub place: u32,
+    pub step: Option<Step>,
+    pub answer: Answer,
+}
+
+/// A run over a journal. It yields the records one by one.
+pub struct Run<'a> {
+    journal: &'a [u8],
+    lines: Lines<'a>,
+    machine: Option<Faulty>,
+    place: u32,
+    over: bool,
+    fault: Fault,
+}
+
+impl<'a> Run<'a> {
+    pub fn new(journal: &'a [u8]) -> Run<'a> {
+        Run::with_fault(journal, Fault::None)
+    }
+
+    /// A run with a fault switched on.
+    pub fn with_fault(journal: &'a [u8], fault: Fault) -> Run<'a> {
+        let lines = Lines::new(journal);
+        Run { journal, lines, machine: None, place: 0, over: false, fault }
+    }
+
+    /// The machine as it stands now, if the opening was good.
+    pub fn machine(&self) -> Option<&Machine> {
+        self.machine.as_ref().map(|faulty| &faulty.machine)
+    }
+
+    /// The opening: 14, then 10 to 12 of the first line, then 7.
+    fn open(&mut self) -> Result<Machine, u32> {
+        if self.journal.len() > MAX_JOURNAL + self.fault.journal_excess() {
+            return Err(14);
+        }
+        let line = self.lines.next().unwrap_or(Err(11))?;
+        Machine::open(journal::opening(line)?)
+    }
+
+    /// The record of a bad line or opening, which ends the run.
+    fn end_with(&mut self, number: u32) -> Record {
+        self.over = !(self.fault == Fault::GoesOnAfter11 && number == 11 && self.place > 0);
+        Record { place: self.place, step: None, answer: Answer::Refused(number) }
+    }
+}
+
+impl Iterator for Run<'_> {
+    type Item = Record;
+
+    fn next(&mut self) -> Option<Record> {
+        if self.over {
+            return None;
+        }
+        if self.machine.is_none() {
+            return Some(match self.open() {
+                Err(number) => self.end_with(number),
+                Ok(machine) => {
+                    self.machine = Some(Faulty::new(machine, self.fault));
+                    Record { place: 0, step: None, answer: Answer::Open }
+                }
+            });
+        }
+        loop {
+            let line = self.lines.next()?;
+            self.place += 1;
+            let step = match line.and_then(journal::step) {
+                Err(number) => return Some(self.end_with(number)),
+                Ok(step) => step,
+            };
+            // A step gives no answer only if a fault skips it.
+            if let Some(answer) = self.machine.as_mut()?.step(&step) {
+                return Some(Record { place: self.place, step: Some(step), answer });
+            }
+        }
+    }
+}

@@ -1,0 +1,139 @@
+//! The grammar of journal lines: 0, 10, 11, 12 and 13 for step lines, and the
+//! opening line.
+
+use reference::generate;
+use reference::journal::{check_line, opening, step, write_step, Lines};
+
+#[test]
+fn good_lines() {
+    for line in [
+        "op=load core=0 line=0",
+        "op=evict core=4294967295 line=10",
+        "op=store core=0 line=0 data=00ff9a",
+        "op=fence core=0",
+        "op=serve core=0",
+        "op=receive core=0",
+        "op=advance core=0 by=0",
+        "op=yield line=0",
+        "op=take line=63",
+    ] {
+        assert_eq!(check_line(line.as_bytes()), 0, "{line}");
+    }
+}
+
+#[test]
+fn no_forms() {
+    for line in [
+        "",
+        " ",
+        "op",
+        "op=",
+        "op=load",
+        "op=load core=0",
+        "op=load line=0 core=0",
+        "op=load core=0 line=0 ",
+        " op=load core=0 line=0",
+        "op=load  core=0 line=0",
+        "op=load core=0 line=0 x",
+        "op=loadcore=0 line=0",
+        "op=LOAD core=0 line=0",
+        "op=fence core=0 line=0",
+        "op=take core=0",
+        "op=load core=0\tline=0",
+        "op=store core=0 line=0 data=00 ",
+        "op=store core=0 line=0",
+        "op=store core=x line=0 data=0 0",
+        "fabric=1 cores=1 lines=1 width=1 lease=1",
+        "op=show core=0 line=0",
+    ] {
+        assert_eq!(check_line(line.as_bytes()), 11, "{line:?}");
+    }
+}
+
+#[test]
+fn wrong_numbers() {
+    for value in [
+        "",
+        "x",
+        "00",
+        "01",
+        "4294967296",
+        "42949672950",
+        "99999999999999999999",
+        "+1",
+        "-1",
+        "1\r",
+        "1=",
+        "0x1",
+    ] {
+        for line in [
+            format!("op=load core={value} line=0"),
+            format!("op=load core=0 line={value}"),
+            format!("op=advance core=0 by={value}"),
+            format!("op=take line={value}"),
+            // 12 comes before 13.
+            format!("op=store core=0 line={value} data=X"),
+        ] {
+            assert_eq!(check_line(line.as_bytes()), 12, "{line:?}");
+        }
+    }
+}
+
+#[test]
+fn wrong_data() {
+    for value in ["", "0", "000", "0A", "0g", "AB", "0x00", "0/", "0:", "0`", "00\r"] {
+        let line = format!("op=store core=0 line=0 data={value}");
+        assert_eq!(check_line(line.as_bytes()), 13, "{line:?}");
+    }
+}
+
+#[test]
+fn line_lengths() {
+    let store = |core: u32, count: usize| format!("op=store core={core} line=0 data={}", "ab".repeat(count));
+    assert_eq!((store(0, 86).len(), check_line(store(0, 86).as_bytes())), (200, 0));
+    assert_eq!((store(10, 85).len(), check_line(store(10, 85).as_bytes())), (199, 0));
+    assert_eq!((store(10, 86).len(), check_line(store(10, 86).as_bytes())), (201, 10));
+    assert_eq!(check_line(&[b' '; 200]), 11);
+    assert_eq!(check_line(&[b' '; 201]), 10);
+    assert_eq!(check_line(&[b'0'; 100_000]), 10);
+}
+
+#[test]
+fn lines_of_a_journal() {
+    let lines = |text: &'static [u8]| Lines::new(text).collect::<Vec<_>>();
+    assert_eq!(lines(b""), []);
+    assert_eq!(lines(b"\n"), [Ok(&b""[..])]);
+    assert_eq!(lines(b"a\n\nb\n"), [Ok(&b"a"[..]), Ok(&b""[..]), Ok(&b"b"[..])]);
+    assert_eq!(lines(b"a\nb"), [Ok(&b"a"[..]), Err(10)]);
+}
+
+#[test]
+fn openings() {
+    assert!(opening(b"fabric=1 cores=0 lines=99 width=4294967295 lease=7").is_ok());
+    for (line, number) in [
+        ("fabric=2 cores=1 lines=1 width=1 lease=1", 11),
+        ("fabric=10 cores=1 lines=1 width=1 lease=1", 11),
+        ("fabric=1 cores=1 lines=1 width=1", 11),
+        ("fabric=1 cores=1 lines=1 width=1 lease=1 ", 11),
+        ("fabric=1 cores=1 width=1 lines=1 lease=1", 11),
+        ("fabric=1 cores=1 lines=1 width=01 lease=1", 12),
+        ("fabric=1 cores=1 lines=1 width=1 lease=", 12),
+    ] {
+        assert_eq!(opening(line.as_bytes()), Err(number), "{line}");
+    }
+}
+
+/// Every step line of generated journals is the text of the step it reads as.
+#[test]
+fn text_and_reader_agree() {
+    for seed in 1..300 {
+        let text = generate::journal(seed);
+        for line in Lines::new(&text).skip(1).flatten() {
+            if let Ok(step) = step(line) {
+                let mut again = Vec::new();
+                write_step(&mut again, &step);
+                assert_eq!(again, line);
+            }
+        }
+    }
+}

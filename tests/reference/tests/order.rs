@@ -1,0 +1,74 @@
+//! The check of demand 3 must fail on histories that break it.
+
+use reference::machine::{Bytes, Step};
+use reference::order::{check, Made, Ties, Trouble};
+
+fn load(place: u32, core: u32, line: u32, ts: u32, data: u8) -> Made {
+    Made { place, ts, call: Step::Load { core, line }, loaded: Some(Bytes::new(&[data])) }
+}
+
+fn store(place: u32, core: u32, line: u32, ts: u32, data: u8) -> Made {
+    Made { place, ts, call: Step::Store { core, line, data: Bytes::new(&[data]) }, loaded: None }
+}
+
+fn fence(place: u32, core: u32, ts: u32) -> Made {
+    Made { place, ts, call: Step::Fence { core }, loaded: None }
+}
+
+fn out_of_order(earlier: u32, later: u32) -> Result<(), Trouble> {
+    Err(Trouble::OutOfOrder { earlier, later })
+}
+
+fn wrong_bytes(load: u32, store: Option<u32>) -> Result<(), Trouble> {
+    Err(Trouble::WrongBytes { load, store })
+}
+
+#[test]
+fn an_empty_history_is_orderly() {
+    assert_eq!(check(&[], Ties::ByPlace), Ok(()));
+}
+
+#[test]
+fn only_a_load_may_pass_a_store() {
+    let by_place = |history: &[Made]| check(history, Ties::ByPlace);
+    assert_eq!(by_place(&[store(1, 0, 0, 5, 1), load(2, 0, 1, 4, 0)]), Ok(()));
+    assert_eq!(by_place(&[load(1, 0, 0, 5, 0), load(2, 0, 1, 4, 0)]), out_of_order(1, 2));
+    assert_eq!(by_place(&[load(1, 0, 0, 5, 0), store(2, 0, 1, 4, 0)]), out_of_order(1, 2));
+    assert_eq!(by_place(&[store(1, 0, 0, 5, 0), store(2, 0, 1, 4, 0)]), out_of_order(1, 2));
+    assert_eq!(by_place(&[store(1, 0, 0, 5, 0), fence(2, 0, 4)]), out_of_order(1, 2));
+    assert_eq!(by_place(&[fence(1, 0, 5), load(2, 0, 0, 4, 0)]), out_of_order(1, 2));
+    assert_eq!(by_place(&[fence(1, 0, 5), store(2, 0, 0, 4, 0)]), out_of_order(1, 2));
+    assert_eq!(by_place(&[fence(1, 0, 5), fence(2, 0, 4)]), out_of_order(1, 2));
+    // Other cores are free.
+    assert_eq!(by_place(&[load(1, 0, 0, 5, 0), load(2, 1, 1, 4, 0)]), Ok(()));
+}
+
+#[test]
+fn a_load_sees_the_last_store() {
+    let by_place = |history: &[Made]| check(history, Ties::ByPlace);
+    assert_eq!(by_place(&[load(1, 0, 0, 0, 1)]), wrong_bytes(1, None));
+    assert_eq!(by_place(&[store(1, 1, 0, 1, 7), load(2, 0, 0, 1, 0)]), wrong_bytes(2, Some(1)));
+    assert_eq!(by_place(&[store(1, 1, 0, 2, 7), load(2, 0, 0, 1, 0)]), Ok(()));
+    assert_eq!(by_place(&[store(1, 1, 1, 1, 7), load(2, 0, 0, 1, 0)]), Ok(()));
+    // The last of several, by timestamp and not by place.
+    let two = [store(1, 1, 0, 5, 7), store(2, 2, 0, 3, 8), load(3, 0, 0, 6, 7)];
+    assert_eq!(by_place(&two), Ok(()));
+    // A core's own store counts although it stands later in the order.
+    assert_eq!(by_place(&[store(1, 0, 0, 5, 7), load(2, 0, 0, 1, 7)]), Ok(()));
+    assert_eq!(by_place(&[store(1, 0, 0, 5, 7), load(2, 0, 0, 1, 0)]), wrong_bytes(2, Some(1)));
+    // A store made later, yet of a smaller timestamp, precedes the load.
+    assert_eq!(by_place(&[load(1, 0, 0, 4, 0), store(2, 1, 0, 3, 7)]), wrong_bytes(1, Some(2)));
+}
+
+#[test]
+fn ties_are_sorted_by_place() {
+    let history = [store(1, 1, 0, 1, 7), load(2, 0, 0, 1, 7)];
+    assert_eq!(check(&history, Ties::ByPlace), Ok(()));
+    assert_eq!(check(&history, Ties::ByCore), wrong_bytes(2, None));
+}
+
+#[test]
+fn other_calls_do_not_commit() {
+    let odd = Made { place: 1, ts: 0, call: Step::Take { line: 0 }, loaded: None };
+    assert_eq!(check(&[odd], Ties::ByPlace), Err(Trouble::WrongKind { place: 1 }));
+}

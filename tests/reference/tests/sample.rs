@@ -1,0 +1,86 @@
+//! The sample of 01, "Journal and driver", byte for byte, and what a run does at
+//! its ends.
+
+use reference::listing::listing;
+
+const JOURNAL: &str = "\
+fabric=1 cores=1 lines=1 width=1 lease=10
+op=store core=0 line=0 data=07
+op=serve core=0
+op=receive core=0
+op=store core=0 line=0 data=07
+op=load core=0 line=0
+op=take line=0
+";
+
+const LISTING: &str = "\
+n=0 done=open
+n=1 done=ask
+n=2 done=own
+n=3 done=own
+n=4 commit=store core=0 line=0 ts=1 data=07
+n=5 commit=load core=0 line=0 ts=0 data=07
+n=6 refused=25
+end=6 commits=2 refused=1
+";
+
+fn text(journal: &str) -> String {
+    String::from_utf8(listing(journal.as_bytes())).unwrap()
+}
+
+#[test]
+fn the_sample() {
+    assert_eq!(text(JOURNAL), LISTING);
+}
+
+#[test]
+fn a_bad_opening_ends_at_0() {
+    for (journal, number) in [
+        ("", 11),
+        ("\n", 11),
+        ("op=take line=0\n", 11),
+        ("fabric=1 cores=1 lines=1 width=1 lease=1", 10),
+        ("fabric=1 cores= lines=1 width=1 lease=1\nop=take line=0\n", 12),
+        ("fabric=1 cores=0 lines=1 width=1 lease=1\nop=take line=0\n", 7),
+        ("fabric=1 cores=17 lines=1 width=1 lease=x\n", 12),
+    ] {
+        assert_eq!(text(journal), format!("n=0 refused={number}\nend=0 commits=0 refused=1\n"), "{journal}");
+    }
+}
+
+#[test]
+fn a_bad_line_ends_the_run_and_is_counted() {
+    let opening = "fabric=1 cores=1 lines=1 width=1 lease=1\n";
+    for (line, number) in [
+        ("op=fence core=0", 10),
+        ("\n", 11),
+        ("op=fence core=01\nop=fence core=0\n", 12),
+        ("op=store core=0 line=0 data=0\nop=fence core=0\n", 13),
+    ] {
+        let journal = format!("{opening}op=fence core=0\nop=take line=0\n{line}");
+        let expected = format!(
+            "n=0 done=open\nn=1 commit=fence core=0 ts=0\nn=2 refused=25\nn=3 refused={number}\n\
+             end=3 commits=1 refused=2\n"
+        );
+        assert_eq!(text(&journal), expected);
+    }
+}
+
+#[test]
+fn the_longest_journal() {
+    let opening = "fabric=1 cores=1 lines=1 width=1 lease=1\n";
+    let longest = |bytes: usize| {
+        let mut journal = opening.as_bytes().to_vec();
+        reference::generate::fill_up(&mut journal, bytes);
+        assert_eq!(journal.len(), bytes);
+        String::from_utf8(listing(&journal)).unwrap()
+    };
+    assert!(longest(65_536).starts_with("n=0 done=open\nn=1 done=advance\n"));
+    assert_eq!(longest(65_537), "n=0 refused=14\nend=0 commits=0 refused=1\n");
+}
+
+#[test]
+fn only_an_opening() {
+    let opening = "fabric=1 cores=1 lines=1 width=1 lease=1\n";
+    assert_eq!(text(opening), "n=0 done=open\nend=0 commits=0 refused=0\n");
+}
