@@ -8,7 +8,7 @@ use native.Mathlib.Nat.{not-suc-le-zero, le-of-suc-le-suc}
 use lib.Dec.{ltb, leb, eqb}
 use borrow.Author.Tests.{ltb-true, leb-true, leb-false, eqb-true}
 use lib.ListN.{length, getD, take}
-use Rattle.protocol.specs.Pick.{pick, both, not, every, Rule, first, _gives_}
+use Rattle.protocol.specs.Pick.{pick, both, fails, every, Rule, first, _gives_}
 use Rattle.protocol.specs.Limits.{within, openingFits}
 use Rattle.protocol.specs.Fresh.{freshCore, freshLine}
 use Rattle.protocol.specs.Buffers.{Bytes, privateLength, sharedLength}
@@ -26,7 +26,7 @@ use Rattle.protocol.specs.declared.Call.the-variants.{Load, Store, Fence
 
 -- ---- tests and rules
 
-pub not-true : (a : Bool) → not a ≡ false → a ≡ true
+pub not-true : (a : Bool) → fails a ≡ false → a ≡ true
 not-true true e = refl
 not-true false e = let z : _≡_ {A = ℕ} 0 1 = cc in absurd (omega arith)
 
@@ -34,11 +34,15 @@ pub both-true : (a b : Bool) → both a b ≡ true → (a ≡ true) × (b ≡ tr
 both-true true b e = (refl, e)
 both-true false b e = let z : _≡_ {A = ℕ} 0 1 = cc in absurd (omega arith)
 
+-- a number that is not given, and what comes after it
+pub spared : (a : Bool) (n x : ℕ) → 0 < n → pick a n x ≡ 0 → (a ≡ false) × (x ≡ 0)
+spared true n x h e = absurd (omega arith)
+spared false n x h e = (refl, e)
+
 -- a rule that does not apply, and the rest of the list
 pub passed : (a : Bool) (n : ℕ) (rs : List Rule) → 0 < n → first ((a gives n) ∷ rs) ≡ 0 → (a ≡ false) × (first rs ≡ 0)
 unfolding first
-passed true n rs h e = absurd (omega arith)
-passed false n rs h e = (refl, e)
+passed a n rs h e = spared a n (first rs) h e
 
 pub or-none : (a b : ℕ) → orElse a b ≡ 0 → (a ≡ 0) × (b ≡ 0)
 or-none a b e = go (eqb a 0) refl e
@@ -100,7 +104,7 @@ inside o e =
 -- an opening that is accepted
 pub opening-fit : (o : Opening) → openRefusal o ≡ 0 → openingFits o ≡ true
 unfolding openRefusal
-opening-fit o e = not-true (openingFits o) (passed (not (openingFits o)) 7 [] (omega arith) e .0)
+opening-fit o e = not-true (openingFits o) (passed (fails (openingFits o)) 7 [] (omega arith) e .0)
 
 -- a machine that neither 1 nor 2 refuses
 pub record Fit (m : Machine) : Type 0 where
@@ -114,8 +118,8 @@ pub machine-fit : (m : Machine) → machineRefusal m ≡ 0 → Fit m
 unfolding machineRefusal stateFits buffersFit
 machine-fit m e =
     let o = m .state .opening in
-    let a = passed (not (stateFits (m .state))) 1 _ (omega arith) e in
-    let b = passed (not (buffersFit o (length (m .private)) (length (m .shared)))) 2 [] (omega arith) (a .1) in
+    let a = passed (fails (stateFits (m .state))) 1 _ (omega arith) e in
+    let b = passed (fails (buffersFit o (length (m .private)) (length (m .shared)))) 2 [] (omega arith) (a .1) in
     let s = both-true (openingFits o) _ (not-true (stateFits (m .state)) (a .0)) in
     let t = both-true (ownersFit o (m .state .line)) _ (s .1) in
     let u = both-true (eqb (length (m .private)) (privateLength o)) _ (not-true (buffersFit o (length (m .private)) (length (m .shared))) (b .0)) in
@@ -190,7 +194,7 @@ module _ (m : Machine) (fit : Fit m) (nCore : length (m .state .core) ≡ 16) (n
   store-width c l n e =
       let a = core-passed c _ e in
       let b = line-passed l _ (a .1) in
-      eqb-true n (m .state .opening .width) (not-true (eqb n (m .state .opening .width)) (passed (not (eqb n (m .state .opening .width))) 5 [] (omega arith) (b .1) .0))
+      eqb-true n (m .state .opening .width) (not-true (eqb n (m .state .opening .width)) (passed (fails (eqb n (m .state .opening .width))) 5 [] (omega arith) (b .1) .0))
 
 -- ---- all refusals
 

@@ -84,7 +84,8 @@ lineOf (Receive c) s = slotLine (coreAt s c .slot)
 lineOf (Yield l) s = l
 lineOf (Take l) s = l
 
--- the state with a step's effect on core c and line l written back
+-- the state with a step's effect on core c and line l written back; a step that has no core or no line of its own leaves those of number 0 as
+-- they are
 abbrev pub written : State → ℕ → ℕ → Effect → State
 written s c l d =
     record {

@@ -13,8 +13,8 @@ abbrev pub both : Bool → Bool → Bool
 both a b = pick a b false
 
 -- the test does not hold
-abbrev pub not : Bool → Bool
-not a = pick a false true
+abbrev pub fails : Bool → Bool
+fails a = pick a false true
 
 -- the test holds of every element
 unfoldable pub every : {A : Type 0} → (A → Bool) → List A → Bool

@@ -4,7 +4,7 @@ use mathlib.Core.Bool.{Bool, true, false}
 use mathlib.Core.List.{List, [], _∷_}
 use lib.Dec.{ltb, leb, eqb}
 use lib.ListN.{length, take}
-use Rattle.protocol.specs.Pick.{pick, both, not, every, Rule, first, _gives_}
+use Rattle.protocol.specs.Pick.{pick, both, fails, every, Rule, first, _gives_}
 use Rattle.protocol.specs.Stamps.{fits}
 use Rattle.protocol.specs.Limits.{openingFits}
 use Rattle.protocol.specs.Buffers.{Bytes, privateLength, sharedLength}
@@ -32,7 +32,7 @@ use Rattle.protocol.specs.declared.Call.the-variants.{Load, Store, Fence
 
 -- 7: the opening's sizes or lease outside the limits
 unfoldable pub openRefusal : Opening → ℕ
-openRefusal o = first ((not (openingFits o) gives 7) ∷ [])
+openRefusal o = first ((fails (openingFits o) gives 7) ∷ [])
 
 -- an owner ≥ cores does not fit
 abbrev pub ownerFits : ℕ → Manager → Bool
@@ -64,8 +64,8 @@ buffersFit o private shared = both (eqb private (privateLength o)) (eqb shared (
 unfoldable pub machineRefusal : Machine → ℕ
 machineRefusal m =
     first
-    ((not (stateFits (m .state)) gives 1)
-    ∷ (not (buffersFit (m .state .opening) (length (m .private)) (length (m .shared))) gives 2)
+    ((fails (stateFits (m .state)) gives 1)
+    ∷ (fails (buffersFit (m .state .opening) (length (m .private)) (length (m .shared))) gives 2)
     ∷ [])
 
 -- 3: core ≥ cores
@@ -80,7 +80,7 @@ lineRule l o = leb (o .lines) l gives 4
 -- 5: store bytes not width in count. 6: advance by 0
 unfoldable pub callRules : Call → Opening → ℕ → List Rule
 callRules (Load c l) o n = coreRule c o ∷ lineRule l o ∷ []
-callRules (Store c l) o n = coreRule c o ∷ lineRule l o ∷ (not (eqb n (o .width)) gives 5) ∷ []
+callRules (Store c l) o n = coreRule c o ∷ lineRule l o ∷ (fails (eqb n (o .width)) gives 5) ∷ []
 callRules (Fence c) o n = coreRule c o ∷ []
 callRules (Evict c l) o n = coreRule c o ∷ lineRule l o ∷ []
 callRules (Advance c by) o n = coreRule c o ∷ (eqb by 0 gives 6) ∷ []
@@ -146,12 +146,12 @@ loadAsks (CopyOwned w r d) lts = false
 abbrev pub storePasses : Copy → Bool
 storePasses NoCopy = false
 storePasses (CopyShared w r) = false
-storePasses (CopyOwned w r d) = not (fits r 1)
+storePasses (CopyOwned w r d) = fails (fits r 1)
 
 -- asked lts + lease passes the greatest timestamp (serve of a load on a shared line)
 abbrev pub servePasses : Slot → Manager → ℕ → Bool
 servePasses Empty m lease = false
-servePasses (Asked WantLoad l t h) (Shared w r) lease = not (fits t lease)
+servePasses (Asked WantLoad l t h) (Shared w r) lease = fails (fits t lease)
 servePasses (Asked WantLoad l t h) (Owned c) lease = false
 servePasses (Asked WantStore l t h) m lease = false
 servePasses (Answered g l w r) m lease = false
@@ -161,18 +161,18 @@ servePasses (Answered g l w r) m lease = false
 -- recall. 24: yield, owner's copy not owned. 25: take, no writeback. 26: evict, no copy. 27: rts + 1 (store to an owned line), lts + by
 -- (advance) or asked lts + lease (serve of a load on a shared line) passes the greatest timestamp
 unfoldable pub stateRules : Call → Pieces → ℕ → List Rule
-stateRules (Load c l) p lease = (both (loadAsks (p .copy) (p .core .clocks .lts)) (not (isEmpty (p .core .slot))) gives 20) ∷ []
+stateRules (Load c l) p lease = (both (loadAsks (p .copy) (p .core .clocks .lts)) (fails (isEmpty (p .core .slot))) gives 20) ∷ []
 stateRules (Store c l) p lease =
-    (both (not (isOwned (p .copy))) (not (isEmpty (p .core .slot))) gives 20) ∷ (storePasses (p .copy) gives 27) ∷ []
+    (both (fails (isOwned (p .copy))) (fails (isEmpty (p .core .slot))) gives 20) ∷ (storePasses (p .copy) gives 27) ∷ []
 stateRules (Fence c) p lease = []
-stateRules (Evict c l) p lease = (not (isHeld (p .copy)) gives 26) ∷ []
-stateRules (Advance c by) p lease = (not (fits (p .core .clocks .lts) by) gives 27) ∷ []
+stateRules (Evict c l) p lease = (fails (isHeld (p .copy)) gives 26) ∷ []
+stateRules (Advance c by) p lease = (fails (fits (p .core .clocks .lts) by) gives 27) ∷ []
 stateRules (Serve c) p lease =
-    (not (isAsked (p .core .slot)) gives 21) ∷ (servePasses (p .core .slot) (p .line .manager) lease gives 27) ∷ []
-stateRules (Receive c) p lease = (not (isAnswered (p .core .slot)) gives 22) ∷ []
+    (fails (isAsked (p .core .slot)) gives 21) ∷ (servePasses (p .core .slot) (p .line .manager) lease gives 27) ∷ []
+stateRules (Receive c) p lease = (fails (isAnswered (p .core .slot)) gives 22) ∷ []
 stateRules (Yield l) p lease =
-    (not (both (hasOwner (p .line .manager)) (stands (p .line .recall))) gives 23) ∷ (not (isOwned (p .copy)) gives 24) ∷ []
-stateRules (Take l) p lease = (not (inFlight (p .line .writeback)) gives 25) ∷ []
+    (fails (both (hasOwner (p .line .manager)) (stands (p .line .recall))) gives 23) ∷ (fails (isOwned (p .copy)) gives 24) ∷ []
+stateRules (Take l) p lease = (fails (inFlight (p .line .writeback)) gives 25) ∷ []
 
 unfoldable pub stateRefusal : Call → Pieces → ℕ → ℕ
 stateRefusal call p lease = first (stateRules call p lease)

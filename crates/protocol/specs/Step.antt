@@ -24,9 +24,9 @@ use Rattle.protocol.specs.declared.Shown.{Shown}
 
 -- ---- answers
 
--- the names that an answer which is no commit goes by
+-- the names that an answer which is no commit goes by; `dropped` and `taken` are 01's drop and take, which name operations on lists
 pub data Done : Type 0 where
-  «open» ask recall share renew own drop evict advance yield take : Done
+  «open» ask recall share renew own dropped evict advance yield taken : Done
 
 -- what a commit did: its kind and, but for a fence, its line and value. The value of a line is its bytes
 pub data Op (A : Type 0) : Type 0 where
@@ -49,11 +49,11 @@ meaning Recall bytes = done recall
 meaning Share bytes = done share
 meaning Renew bytes = done renew
 meaning Own bytes = done own
-meaning Drop bytes = done drop
+meaning Drop bytes = done dropped
 meaning AnswerEvict bytes = done evict
 meaning AnswerAdvance bytes = done advance
 meaning AnswerYield bytes = done yield
-meaning AnswerTake bytes = done take
+meaning AnswerTake bytes = done taken
 meaning (CommitLoad c l t) bytes = commit c t (load l bytes)
 meaning (CommitStore c l t) bytes = commit c t (store l bytes)
 meaning (CommitFence c t) bytes = commit c t fence

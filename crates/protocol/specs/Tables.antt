@@ -111,13 +111,13 @@ advanceTable by p = row AnswerAdvance Still (clocked (p .core) (advanced (p .cor
 -- ---- evict
 
 -- the line with a writeback in flight
-abbrev pub written-back : Line → Stamp → Stamp → Line
-written-back m w r = record { manager = m .manager; recall = m .recall; writeback = Flight w r }
+abbrev pub writtenBack : Line → Stamp → Stamp → Line
+writtenBack m w r = record { manager = m .manager; recall = m .recall; writeback = Flight w r }
 
 -- "shared: copy becomes none. Owned: its wts, rts and bytes become the writeback, copy none."
 unfoldable pub evictTable : Copy → Pieces → Effect
 evictTable (CopyShared w r) p = row AnswerEvict Still (p .core) NoCopy (p .line)
-evictTable (CopyOwned w r d) p = row AnswerEvict MoveWriteback (p .core) NoCopy (written-back (p .line) w r)
+evictTable (CopyOwned w r d) p = row AnswerEvict MoveWriteback (p .core) NoCopy (writtenBack (p .line) w r)
 evictTable NoCopy p = noRow p
 
 -- ---- serve
@@ -186,7 +186,7 @@ receiveTable Empty p = noRow p
 
 -- ---- yield
 
--- "Downgrade: its copy becomes shared, not dirty. Flush: none."
+-- "Downgrade: its copy becomes shared, not dirty. Flush: none." (Without a recall no yield is accepted.)
 abbrev pub yielded : Recall → Stamp → Stamp → Copy
 yielded Downgrade w r = CopyShared w r
 yielded Flush w r = NoCopy
@@ -194,7 +194,7 @@ yielded NoRecall w r = NoCopy
 
 -- "the owner's wts, rts and bytes become the writeback"
 unfoldable pub yieldTable : Copy → Pieces → Effect
-yieldTable (CopyOwned w r d) p = row AnswerYield MoveWriteback (p .core) (yielded (p .line .recall) w r) (written-back (p .line) w r)
+yieldTable (CopyOwned w r d) p = row AnswerYield MoveWriteback (p .core) (yielded (p .line .recall) w r) (writtenBack (p .line) w r)
 yieldTable (CopyShared w r) p = noRow p
 yieldTable NoCopy p = noRow p
 

@@ -14,7 +14,7 @@ use Rattle.protocol.specs.Stamps.{stamp, later}
 use Rattle.protocol.specs.Clock.{storeTime}
 use Rattle.protocol.specs.Buffers.{Bytes, copyBytes, managerBytes, writebackBytes, answerBytes}
 use Rattle.protocol.specs.Machine.{Machine, Pieces, piecesAt, coreAt, copyAt, lineAt, applied, slotLine}
-use Rattle.protocol.specs.Tables.{row, noRow, heldOf, asking, loadOwned, loadShared, loadTable, storeTable, fenceTable, advanceTable, evictTable, sameVersion, leasedTo, serveLoad, serveAsked, serveTable, receiveRenew, receiveGrant, receiveTable, yielded, yieldTable, takeTable, written-back, managed, slotted}
+use Rattle.protocol.specs.Tables.{row, noRow, heldOf, asking, loadOwned, loadShared, loadTable, storeTable, fenceTable, advanceTable, evictTable, sameVersion, leasedTo, serveLoad, serveAsked, serveTable, receiveRenew, receiveGrant, receiveTable, yielded, yieldTable, takeTable, writtenBack, managed, slotted}
 use Rattle.protocol.specs.Step.{Op, load, store, fence, Reply, refused, done, commit, meaning, commitBytes, Outcome, accepted}
 use Rattle.protocol.specs.Run.{place, Commit, commitAt}
 use Rattle.protocol.specs.Order.{TsoKeeps, Stores}
@@ -402,7 +402,7 @@ module _ (z : Bytes) (p : ℕ) {H : List (Commit Bytes)} (call : Call) (given : 
   writes-back : {g′ : Newest Bytes} (a : Answer) (v : Move) (w r r′ : Stamp) (u : Copy) → v ≡ MoveWriteback → r .0 ≤ r′ .0 → PairFits l (k .slot) u
       → NotNewest (viewCopy c u bytes) → Stands g′ (atCopy c) (w .0) (r .0) bytes
       → LineFits z (Stores l) (On l) H (put (atCopy c) (viewCopy c u bytes) (look m l)) g′
-      → Inv z H (applied m c l given (row a v k u (written-back (lineAt (m .state) l) w r′)))
+      → Inv z H (applied m c l given (row a v k u (writtenBack (lineAt (m .state) l) w r′)))
   unfolding look
   writes-back a v w r r′ u q h pr n i K = rw q
       (keeps d tt (inl (refl, tt)) pr (omega arith) (omega arith)
@@ -412,7 +412,7 @@ module _ (z : Bytes) (p : ℕ) {H : List (Commit Bytes)} (call : Call) (given : 
       (put-at NotNewest (atCopy c) (viewCopy c u bytes) (look m l) n) h)))
     where
       d : Effect
-      d = row a MoveWriteback k u (written-back (lineAt (m .state) l) w r′)
+      d = row a MoveWriteback k u (writtenBack (lineAt (m .state) l) w r′)
 
   pub evict-good : (v : Copy) → copyAt (m .state) c l ≡ v → GoodRow (evictTable v ps)
   unfolding accepted meaning look evictTable
@@ -437,14 +437,14 @@ module _ (z : Bytes) (p : ℕ) {H : List (Commit Bytes)} (call : Call) (given : 
 
       yields : {g′ : Newest Bytes} (u : Copy) → PairFits l (k .slot) u → NotNewest (viewCopy c u bytes) → Stands g′ (atCopy c) (w .0) (r .0) bytes
           → LineFits z (Stores l) (On l) H (put (atCopy c) (viewCopy c u bytes) (look m l)) g′
-          → Inv z H (applied m c l given (row AnswerYield MoveWriteback k u (written-back (lineAt (m .state) l) w r)))
+          → Inv z H (applied m c l given (row AnswerYield MoveWriteback k u (writtenBack (lineAt (m .state) l) w r)))
       yields u pr n j K =
           writes-back AnswerYield (yieldTable (CopyOwned w r b) ps .moves) w r r u (yield-moves w r b ps) (yield-lease w r b ps) pr n j K
 
-      flushed : Inv z H (applied m c l given (row AnswerYield MoveWriteback k NoCopy (written-back (lineAt (m .state) l) w r)))
+      flushed : Inv z H (applied m c l given (row AnswerYield MoveWriteback k NoCopy (writtenBack (lineAt (m .state) l) w r)))
       flushed = yields NoCopy (pair-none l (k .slot)) tt i (keep z (Stores l) (On l) J (atCopy c) nothing tt)
 
-      go : (q : Recall) → Inv z H (applied m c l given (row AnswerYield MoveWriteback k (yielded q w r) (written-back (lineAt (m .state) l) w r)))
+      go : (q : Recall) → Inv z H (applied m c l given (row AnswerYield MoveWriteback k (yielded q w r) (writtenBack (lineAt (m .state) l) w r)))
       go NoRecall = flushed
       go Flush = flushed
       go Downgrade =

@@ -1,0 +1,118 @@
+-- From the row that was found to the answer of the line. Assumes nothing.
+use Prim.Native.Nat.{ℕ, zero, suc, _+_, _≤_, _<_, _-_}
+use mathlib.Core.Path.{_≡_, refl, sym, _∙_, ap, subst}
+use mathlib.Core.List.{List, [], _∷_, _++_}
+use mathlib.Core.Logic.{⊎-elim}
+use native.Mathlib.Omega.{arith}
+use native.Mathlib.Numerals.{one-add}
+use lib.ListN.{length, getD, drop, List·getD-append, List·getD-eq-default}
+use lib.Seq.{sets, sets-eq, getD-append-add, getD-drop}
+use Rattle.spelling.specs.Hex.{hex}
+use Rattle.spelling.proofs.Lists.{le-or-lt}
+use Rattle.grammar.specs.Form.{Part, fixed, value, number, pairs, Has, Given}
+use Rattle.grammar.specs.Table.{Row, rowAt, rowsOf, openings, steps}
+use Rattle.grammar.specs.Line.{said, Fits, LineOf, noForm, wrongNumber, wrongData, spelt}
+use Rattle.grammar.specs.Scan.{table, formOf, valuesIn, nothingRead, Fails, FoundIn, nowhere, here, answerOf, Placed}
+use Rattle.grammar.specs.declared.Found.{Found}
+use Rattle.grammar.proofs.Outcome.{Outcome, fails, badNumber, badData, fine, outcome-of}
+use Rattle.grammar.proofs.Rows.{entry-at}
+
+-- ---- the numbers that were read, as the row's numbers
+
+-- a form is given no more numbers than it has values
+given-count : (p : List Part) (ns bs : List ℕ) → Given p ns bs → length ns ≤ valuesIn p
+unfolding Given valuesIn
+given-count [] ns bs g = rw (g .0) (omega arith)
+given-count (fixed b ∷ p) ns bs g = given-count p ns bs g
+given-count (value number ∷ p) [] bs g = absurd g
+given-count (value number ∷ p) (n ∷ ns) bs g = omega (arith, given-count p ns bs (g .1))
+given-count (value pairs ∷ p) ns bs g = rw (g .0) (omega arith)
+
+abbrev zeros : List ℕ
+zeros = 0 ∷ 0 ∷ 0 ∷ 0 ∷ []
+
+zero-at : (i : ℕ) → getD zeros i 0 ≡ 0
+zero-at zero = refl
+zero-at (suc zero) = refl
+zero-at (suc (suc zero)) = refl
+zero-at (suc (suc (suc zero))) = refl
+zero-at (suc (suc (suc (suc i)))) = refl
+
+-- four places hold the numbers, and zeros past them
+padded : (ns : List ℕ) → length ns ≤ 4 → (i : ℕ) → getD (sets zeros 0 ns) i 0 ≡ getD ns i 0
+padded ns h i =
+    ap (λ (l : List ℕ). getD l i 0) (sets-eq ns zeros 0 (omega arith))
+    ∙ ⊎-elim
+    (λ a. let m : length ns + (i - length ns) ≡ i = omega arith in
+    ap (λ (k : ℕ). getD (ns ++ drop (0 + length ns) zeros) k 0) (sym m) ∙ getD-append-add ns (drop (0 + length ns) zeros) (i - length ns) 0 ∙ getD-drop (0 + length ns) zeros (i - length ns) 0
+    ∙ zero-at (0 + length ns + (i - length ns)) ∙ sym (List·getD-eq-default ns 0 {n = i} a))
+    (λ a. List·getD-append ns (drop (0 + length ns) zeros) 0 i a)
+    (le-or-lt (length ns) i)
+
+abbrev numbered : List ℕ → ℕ → ℕ
+numbered ns = λ i. getD ns i 0
+
+numbers-same : (f g : ℕ → ℕ) → ((i : ℕ) → f i ≡ g i) → f ≡ g
+numbers-same f g h = λ j i. h i j
+
+-- ---- the answer by a part of the table
+
+module _ (rows : List Row) (from to : ℕ) (count : length rows ≡ to - from) (below : to ≤ 10) (same : (k : ℕ) → k < length rows → rowAt rows k ≡ rowAt table (from + k)) where
+  -- the row at a place of the table, as a row of this part
+  part-row : (row : ℕ) → from ≤ row → row < to → rowAt rows (row - from) ≡ rowAt table row
+  part-row row a b =
+      let n : from + (row - from) ≡ row = omega arith in
+      same (row - from) (omega arith) ∙ ap (rowAt table) n
+
+  part-fits : (s : List ℕ) (vs : List (List ℕ)) (row : ℕ) → from ≤ row → row < to → Has s (formOf row) vs → Fits rows s (row - from) vs
+  part-fits s vs row a b h = record { listed = omega arith; has = rw (part-row row a b) h }
+
+  no-fit : (s : List ℕ) → ((k : ℕ) → from ≤ k → k < to → Fails s (formOf k)) → (k : ℕ) (vs : List (List ℕ)) → Fits rows s k vs → ⊥
+  no-fit s n k vs f = n (from + k) (omega arith) (omega (arith, f .listed)) vs (subst (λ (r : Row). Has s (r .form) vs) (same k (f .listed)) (f .has))
+
+  found-answer : (s : List ℕ) (f : Found) → length s ≤ 200 → from ≤ f .row → f .row < to → Outcome s s (formOf (f .row)) (nothingRead s) (f .values) → (f .values .fault ≡ 11 → ⊥) → LineOf rows s (answerOf f (length s))
+  found-answer s f l a b (fails o n) x = absurd (x o)
+  found-answer s f l a b (badNumber vs o h k) x = rw o (wrongNumber (f .row - from) vs l (part-fits s vs (f .row) a b h) (rw (part-row (f .row) a b) k))
+  found-answer s f l a b (badData vs o h k m) x = rw o (wrongData (f .row - from) vs l (part-fits s vs (f .row) a b h) (rw (part-row (f .row) a b) k) (rw (part-row (f .row) a b) m))
+  found-answer s f l a b (fine ns bs o g k q e) x =
+      let r = entry-at (f .row) (omega arith) in
+      let c : length ns ≤ 4 = omega (arith, given-count (formOf (f .row)) ns bs g, r .room) in
+      let n : numbered (f .values .number) ≡ numbered ns = numbers-same _ _ (λ i. rw q (padded ns c i)) in
+      let st : f .values .start ≡ length s - length (hex bs) = omega (arith, e) in
+      rw o
+      (spelt {a = said (rowAt table (f .row) .says (numbered (f .values .number))) (f .values .start) (length s)} l
+      (record {
+        k = f .row - from;
+        listed = omega arith;
+        numbers = ns;
+        bytes = bs;
+        given = rw (part-row (f .row) a b) g;
+        same = rw (part-row (f .row) a b) k;
+        answer = rw (part-row (f .row) a b, n, st);
+      }))
+
+  pub answer-line : (s : List ℕ) (f : Found) → length s ≤ 200 → FoundIn s from to f → LineOf rows s (answerOf f (length s))
+  answer-line s f l (nowhere e n) = rw e (noForm l (no-fit s n))
+  answer-line s f l (here a b d x) = found-answer s f l a b (outcome-of s (formOf (f .row)) (f .values) (entry-at (f .row) (omega arith) .shape) d) x
+
+-- a row that was found is one of the table's
+pub placed : (s : List ℕ) (from to : ℕ) (f : Found) → to ≤ 10 → FoundIn s from to f → Placed f
+placed s from to f h (nowhere e n) z = absurd (omega (arith, e, z))
+placed s from to f h (here a b d x) z = omega arith
+
+-- no form is known beyond 1
+pub no-rows : (form : ℕ) → (form ≡ 0 → ⊥) → (form ≡ 1 → ⊥) → rowsOf form ≡ []
+no-rows zero a b = absurd (a refl)
+no-rows (suc zero) a b = absurd (b refl)
+no-rows (suc (suc form)) a b = refl
+
+pub no-row : (s : List ℕ) (k : ℕ) (vs : List (List ℕ)) → Fits [] s k vs → ⊥
+no-row s k vs f = omega (arith, f .listed)
+
+-- the first lines and the steps as parts of the table
+pub first : (k : ℕ) → k < length openings → rowAt openings k ≡ rowAt table (0 + k)
+first zero h = refl
+first (suc k) h = absurd (omega arith)
+
+pub later : (k : ℕ) → k < length steps → rowAt steps k ≡ rowAt table (1 + k)
+later k h = rw (one-add k)

@@ -1,0 +1,148 @@
+-- Each line has exactly one answer. Assumes nothing.
+use Prim.Native.Nat.{ℕ, zero, suc, _+_, _*_, _≤_, _<_}
+use mathlib.Core.Path.{_≡_, refl, sym, _∙_, ap₂, subst}
+use mathlib.Core.Bool.{cond}
+use mathlib.Core.List.{List, [], _∷_}
+use mathlib.Core.Logic.{_⊎_, inl, inr}
+use native.Mathlib.Omega.{arith}
+use native.Mathlib.Nat.{add-zero}
+use lib.Dec.{eqb, lit≤}
+use lib.ListN.{length, getD}
+use Rattle.spelling.specs.Decimal.{IsNumber}
+use Rattle.spelling.specs.Hex.{IsData}
+use Rattle.spelling.proofs.Lists.{le-or-lt}
+use Rattle.spelling.proofs.Decide.{Told, same-number, number-told, data-told}
+use Rattle.grammar.specs.Form.{Part, fixed, value, number, pairs, Has}
+use Rattle.grammar.specs.Table.{Row, rowAt, rowsOf, openings, steps}
+use Rattle.grammar.specs.Line.{Fits, LineOf, tooLong}
+use Rattle.grammar.specs.Scan.{valueAt, table, formOf, byteOf, Reads, right, wrong, ended, longer, same, other, aValue, nothingRead, withNumber, withoutNumber, withData, withoutData, Fails, FoundIn, nowhere, here}
+use Rattle.grammar.specs.declared.Line.{Line}
+use Rattle.grammar.specs.declared.Values.{Values}
+use Rattle.grammar.specs.declared.Found.{Found}
+use Rattle.grammar.proofs.Fit.{Shaped}
+use Rattle.spelling.proofs.Split.{upTo-within}
+use Rattle.grammar.proofs.Outcome.{fails-of}
+use Rattle.grammar.proofs.Rows.{entry-at, fixed-fewer, byte-at, EachRow, row-from}
+use Rattle.grammar.proofs.Judge.{answer-line, first, later}
+use Rattle.grammar.proofs.Unique.{same-answer}
+
+-- ---- two rows never have the same line: their fourth and fifth bytes differ
+
+rowHead : Row → ℕ
+rowHead r = byteOf (getD (r .form) 3 (fixed 0)) * 256 + byteOf (getD (r .form) 4 (fixed 0))
+
+lineHead : List ℕ → ℕ
+lineHead s = getD s 3 0 * 256 + getD s 4 0
+
+-- the place of the first row with these two bytes
+placeOf : ℕ → List Row → ℕ
+placeOf h [] = 0
+placeOf h (r ∷ rs) = cond (eqb (rowHead r) h) 0 (suc (placeOf h rs))
+
+Placed : ℕ → Row → Type 0
+Placed k r = placeOf (rowHead r) table ≡ k
+
+placed : EachRow Placed 0 table
+unfolding Placed placeOf rowHead
+placed = (refl, (refl, (refl, (refl, (refl, (refl, (refl, (refl, (refl, (refl, tt))))))))))
+
+place : (k : ℕ) (s : List ℕ) (vs : List (List ℕ)) → k < 10 → Has s (formOf k) vs → placeOf (lineHead s) table ≡ k
+unfolding Placed rowHead lineHead
+place k s vs h f =
+    let e = entry-at k h .head in
+    let a = byte-at 3 s (formOf k) vs (fixed-fewer 4 (formOf k) e) f .1 in
+    let b = byte-at 4 s (formOf k) vs e f .1 in
+    ap₂ (λ (x y : ℕ). placeOf (x * 256 + y) table) a b ∙ row-from Placed table 0 placed k h ∙ add-zero k
+
+-- ---- a line is read in some way by each form
+
+noneRead : Values
+noneRead = record { fault = 11; count = 0; number = []; start = 0 }
+
+reads-some : (s : List ℕ) (p : List Part) (at : ℕ) (v : Values) → at ≤ length s → (r : Values) × Reads s p at v r
+unfolding noneRead
+reads-some s [] at v h = go (le-or-lt (length s) at)
+  where
+    go : (length s ≤ at) ⊎ (at < length s) → (r : Values) × Reads s [] at v r
+    go (inl l) = (v, ended {at = at} (omega arith))
+    go (inr l) = (noneRead, longer l refl)
+reads-some s (fixed b ∷ p) at v h = go (le-or-lt (length s) at) (same-number (getD s at 0) b) (λ l. reads-some s p (at + 1) v (omega arith))
+  where
+    go : (length s ≤ at) ⊎ (at < length s) → Told (getD s at 0 ≡ b) → (at < length s → (r : Values) × Reads s p (at + 1) v r) → (r : Values) × Reads s (fixed b ∷ p) at v r
+    go (inl l) t d = (noneRead, other (λ (k : at < length s) (e : getD s at 0 ≡ b). omega arith) refl)
+    go (inr l) (inl e) d = (d l .0, same l e (d l .1))
+    go (inr l) (inr n) d = (noneRead, other (λ k e. n e) refl)
+reads-some s (value number ∷ p) at v h = go (number-told (valueAt s at)) (λ w. reads-some s p (at + length (valueAt s at)) w (upTo-within 32 s at h))
+  where
+    go : Told (IsNumber (valueAt s at)) → ((w : Values) → (r : Values) × Reads s p (at + length (valueAt s at)) w r) → (r : Values) × Reads s (value number ∷ p) at v r
+    go (inl n) d = (d (withNumber v (n .0)) .0, aValue {q = number} (right (n .0) (n .1) (n .2) refl) (d (withNumber v (n .0)) .1))
+    go (inr n) d = (d (withoutNumber v) .0, aValue {q = number} (wrong n refl) (d (withoutNumber v) .1))
+reads-some s (value pairs ∷ p) at v h = go (data-told (valueAt s at)) (λ w. reads-some s p (at + length (valueAt s at)) w (upTo-within 32 s at h))
+  where
+    go : Told (IsData (valueAt s at)) → ((w : Values) → (r : Values) × Reads s p (at + length (valueAt s at)) w r) → (r : Values) × Reads s (value pairs ∷ p) at v r
+    go (inl n) d = (d (withData v at) .0, aValue {q = pairs} (right n refl) (d (withData v at) .1))
+    go (inr n) d = (d (withoutData v) .0, aValue {q = pairs} (wrong n refl) (d (withoutData v) .1))
+
+-- some row of a part of the table has the line, or none has it
+found-some : (s : List ℕ) (n from : ℕ) → from + n ≤ 10 → (f : Found) × FoundIn s from (from + n) f
+unfolding noneRead
+found-some s zero from h = (record { row = 0; values = noneRead }, nowhere refl (λ k a b. absurd (omega arith)))
+found-some s (suc n) from h = go (reads-some s (formOf from) 0 (nothingRead s) (omega arith)) (found-some s n (suc from) (omega arith))
+  where
+    past : (k : ℕ) → Fails s (formOf from) → ((j : ℕ) → suc from ≤ j → j < suc from + n → Fails s (formOf j)) → from ≤ k → k < from + suc n → (from ≡ k) ⊎ (suc from ≤ k) → Fails s (formOf k)
+    past k x g a b (inl e) = subst (λ (j : ℕ). Fails s (formOf j)) e x
+    past k x g a b (inr l) = g k l (omega arith)
+
+    which : (k : ℕ) → from ≤ k → (from ≡ k) ⊎ (suc from ≤ k)
+    which k a = pick (le-or-lt k from)
+      where
+        pick : (k ≤ from) ⊎ (from < k) → (from ≡ k) ⊎ (suc from ≤ k)
+        pick (inl l) = inl (omega arith)
+        pick (inr l) = inr l
+
+    on : Fails s (formOf from) → (f : Found) → FoundIn s (suc from) (suc from + n) f → FoundIn s from (from + suc n) f
+    on x f (nowhere e g) = nowhere e (λ k a b. past k x g a b (which k a))
+    on x f (here a b d y) = here (omega arith) (omega arith) d y
+
+    by : (r : Values) → Reads s (formOf from) 0 (nothingRead s) r → Told (r .fault ≡ 11) → (f : Found) × FoundIn s (suc from) (suc from + n) f → (f : Found) × FoundIn s from (from + suc n) f
+    by r d (inl e) t = (t .0, on (fails-of s (formOf from) r (entry-at from (omega arith) .shape) d e) (t .0) (t .1))
+    by r d (inr y) t = (record { row = from; values = r }, here (omega arith) (omega arith) d y)
+
+    go : (r : Values) × Reads s (formOf from) 0 (nothingRead s) r → (f : Found) × FoundIn s (suc from) (suc from + n) f → (f : Found) × FoundIn s from (from + suc n) f
+    go (r, d) t = by r d (same-number (r .fault) 11) t
+
+-- ---- the theorem
+
+-- the line s has one answer by these rows, and no other
+pub record One (rows : List Row) (s : List ℕ) : Type 0 where
+  pub answer : Line
+  pub holds : LineOf rows s answer
+  pub only : (b : Line) → LineOf rows s b → b ≡ answer
+
+module _ (rows : List Row) (from n : ℕ) (count : length rows ≡ n) (below : from + n ≤ 10) (part : (k : ℕ) → k < length rows → rowAt rows k ≡ rowAt table (from + k)) where
+  shapes : (k : ℕ) → k < length rows → Shaped (rowAt rows k .form)
+  shapes k h = rw (part k h) (entry-at (from + k) (omega arith) .shape)
+
+  place-of : (s : List ℕ) (k : ℕ) (vs : List (List ℕ)) → Fits rows s k vs → placeOf (lineHead s) table ≡ from + k
+  place-of s k vs f = place (from + k) s vs (omega (arith, f .listed)) (subst (λ (r : Row). Has s (r .form) vs) (part k (f .listed)) (f .has))
+
+  apart : (s : List ℕ) (j k : ℕ) (vs ws : List (List ℕ)) → Fits rows s j vs → Fits rows s k ws → j ≡ k
+  apart s j k vs ws f g = let e : from + j ≡ from + k = sym (place-of s j vs f) ∙ place-of s k ws g in omega arith
+
+  short : (s : List ℕ) → length s ≤ 200 → (a : Line) × LineOf rows s a
+  short s l = let f = found-some s n from below in (_, answer-line rows from (from + n) (omega arith) below part s (f .0) l (f .1))
+
+  some-answer : (s : List ℕ) → (length s ≤ 200) ⊎ (200 < length s) → (a : Line) × LineOf rows s a
+  some-answer s (inl l) = short s l
+  some-answer s (inr l) = (_, tooLong l)
+
+  one : (s : List ℕ) → One rows s
+  one s =
+      let a = some-answer s (le-or-lt (length s) 200) in
+      record { answer = a .0; holds = a .1; only = λ b x. same-answer rows shapes apart s b (a .0) x (a .1) }
+
+-- EACH LINE HAS EXACTLY ONE ANSWER, whatever form the journal has
+pub one-answer : (form : ℕ) (s : List ℕ) → One (rowsOf form) s
+one-answer zero s = one openings 0 1 refl (lit≤ tt) first s
+one-answer (suc zero) s = one steps 1 9 refl (lit≤ tt) later s
+one-answer (suc (suc form)) s = one [] 0 0 refl (lit≤ tt) (λ k h. absurd (omega arith)) s

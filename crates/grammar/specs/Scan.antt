@@ -1,0 +1,121 @@
+-- How one line is read against one form, byte by byte: what the private functions promise. The public promises rest on `Line`
+-- alone. Assumes nothing.
+use Prim.Native.Nat.{ℕ, _+_, _≤_, _<_}
+use mathlib.Core.Path.{_≡_}
+use mathlib.Core.Bool.{Bool, true, cond}
+use mathlib.Core.List.{List, [], _∷_}
+use lib.Dec.{eqb}
+use lib.ListN.{length, drop, getD, set}
+use mathlib.Core.List.{_++_}
+use Rattle.spelling.specs.Bytes.{upTo}
+use Rattle.spelling.specs.Decimal.{decimal, greatest, IsNumber}
+use Rattle.spelling.specs.Hex.{IsData}
+use Rattle.grammar.specs.Form.{Part, fixed, value, Value, number, pairs}
+use Rattle.grammar.specs.Form.{Has}
+use Rattle.grammar.specs.Table.{calls, Row, openings, steps, rowAt}
+use Rattle.grammar.specs.Line.{said}
+use Rattle.grammar.specs.declared.Line.{Line}
+use Rattle.grammar.specs.declared.Line.the-variants.{Refused}
+use Rattle.protocol.specs.declared.Call.{Call}
+use Rattle.grammar.specs.declared.Values.{Values}
+use Rattle.grammar.specs.declared.Found.{Found}
+
+-- the value that starts at a place of a line: up to the next blank or the end
+abbrev pub valueAt : List ℕ → ℕ → List ℕ
+valueAt s at = upTo 32 (drop at s)
+
+-- how many values a form has
+unfoldable pub valuesIn : List Part → ℕ
+valuesIn [] = 0
+valuesIn (fixed b ∷ p) = valuesIn p
+valuesIn (value q ∷ p) = 1 + valuesIn p
+
+-- whether a byte of a form's text stands for a value, and of what kind (`partOf`)
+abbrev pub isValue : ℕ → Bool
+isValue b = cond (eqb b 78) true (eqb b 72)
+
+abbrev pub kindOf : ℕ → Value
+kindOf b = cond (eqb b 78) number pairs
+
+-- one number more
+abbrev pub withNumber : Values → ℕ → Values
+withNumber v n = record { fault = v .fault; count = v .count + 1; number = set (v .number) (v .count) n; start = v .start }
+
+-- a value that is no number: 12, whatever the data are
+abbrev pub withoutNumber : Values → Values
+withoutNumber v = record { fault = 12; count = v .count; number = v .number; start = v .start }
+
+-- where the data start
+abbrev pub withData : Values → ℕ → Values
+withData v at = record { fault = v .fault; count = v .count; number = v .number; start = at }
+
+-- a value that is no data: 13, unless a number was wrong
+abbrev pub withoutData : Values → Values
+withoutData v = record { fault = cond (eqb (v .fault) 0) 13 (v .fault); count = v .count; number = v .number; start = v .start }
+
+-- the value s, where an N stands, takes v to r
+pub data NumberRead (v : Values) (s : List ℕ) (r : Values) : Type 0 where
+  right : (n : ℕ) → n ≤ greatest → s ≡ decimal n → r ≡ withNumber v n → NumberRead v s r
+  wrong : (IsNumber s → ⊥) → r ≡ withoutNumber v → NumberRead v s r
+
+-- the value s, where an H stands, takes v to r; the value starts at a place of the line
+pub data DataRead (v : Values) (s : List ℕ) (at : ℕ) (r : Values) : Type 0 where
+  right : IsData s → r ≡ withData v at → DataRead v s at r
+  wrong : (IsData s → ⊥) → r ≡ withoutData v → DataRead v s at r
+
+-- the value s of a kind takes v to r
+abbrev pub ValueRead : Value → Values → List ℕ → ℕ → Values → Type 0
+ValueRead number v s at r = NumberRead v s r
+ValueRead pairs v s at r = DataRead v s at r
+
+-- the line s is read from a place on against the rest of a form, which takes the values v to r
+pub data Reads (s : List ℕ) : List Part → ℕ → Values → Values → Type 0 where
+  ended : {at : ℕ} {v : Values} → at ≡ length s → Reads s [] at v v
+  longer : {at : ℕ} {v r : Values} → at < length s → r .fault ≡ 11 → Reads s [] at v r
+  same : {p : List Part} {b at : ℕ} {v r : Values} → at < length s → getD s at 0 ≡ b → Reads s p (at + 1) v r → Reads s (fixed b ∷ p) at v r
+  other : {p : List Part} {b at : ℕ} {v r : Values} → (at < length s → getD s at 0 ≡ b → ⊥) → r .fault ≡ 11 → Reads s (fixed b ∷ p) at v r
+  aValue : {p : List Part} {q : Value} {at : ℕ} {v w r : Values} → ValueRead q v (valueAt s at) at w → Reads s p (at + length (valueAt s at)) w r → Reads s (value q ∷ p) at v r
+
+-- nothing read yet: the data, if there are none, are the empty part at the line's end
+abbrev pub nothingRead : List ℕ → Values
+nothingRead s = record { fault = 0; count = 0; number = 0 ∷ 0 ∷ 0 ∷ 0 ∷ []; start = length s }
+
+-- all rows, in the order of the code's table
+abbrev pub table : List Row
+table = openings ++ steps
+
+abbrev pub formOf : ℕ → List Part
+formOf k = rowAt table k .form
+
+-- the byte of a part of fixed text
+abbrev pub byteOf : Part → ℕ
+byteOf (fixed b) = b
+byteOf (value q) = 0
+
+-- the fourth byte of a row's form
+abbrev pub keyOf : ℕ → ℕ
+keyOf k = byteOf (getD (formOf k) 3 (fixed 0))
+
+-- the line s does not have the form p, whatever the values
+abbrev pub Fails : List ℕ → List Part → Type 0
+Fails s p = (vs : List (List ℕ)) → Has s p vs → ⊥
+
+-- which of the rows from a first up to a last has the line s
+pub data FoundIn (s : List ℕ) (from to : ℕ) (r : Found) : Type 0 where
+  nowhere : r .values .fault ≡ 11 → ((k : ℕ) → from ≤ k → k < to → Fails s (formOf k)) → FoundIn s from to r
+  here : from ≤ r .row → r .row < to → Reads s (formOf (r .row)) 0 (nothingRead s) (r .values) → (r .values .fault ≡ 11 → ⊥) → FoundIn s from to r
+
+-- where nothing is wrong, the row is one of the table's
+abbrev pub Placed : Found → Type 0
+Placed f = f .values .fault ≡ 0 → f .row < 10
+
+-- what a row says of what was read, or the refusal
+abbrev pub answerOf : Found → ℕ → Line
+answerOf f end =
+    cond (eqb (f .values .fault) 0)
+    (said (rowAt table (f .row) .says (λ i. getD (f .values .number) i 0)) (f .values .start) end)
+    (Refused (f .values .fault))
+
+-- the call that a step row says of these numbers
+abbrev pub Called : ℕ → List ℕ → Call → Type 0
+Called k ns r = rowAt table k .says (λ i. getD ns i 0) ≡ calls r

@@ -1,0 +1,61 @@
+-- The grammar of 01, "Journal and driver": the first line, and the nine step lines. Assumes nothing.
+use Prim.Native.Nat.{ℕ, zero, suc}
+use Prim.Native.String.{String}
+use mathlib.Core.List.{List, [], _∷_}
+use lib.ListN.{getD}
+use Rattle.spelling.specs.Text.{text}
+use Rattle.protocol.specs.declared.Opening.{Opening as Sizes}
+use Rattle.protocol.specs.declared.Call.{Call}
+use Rattle.protocol.specs.declared.Call.the-variants.{Load, Store, Fence, Evict, Advance, Serve, Receive, Yield, Take}
+use Rattle.grammar.specs.Form.{Part, parts}
+
+-- the numbers of a line, in their order: n 0 is the first
+abbrev pub Numbered : Type 0
+Numbered = ℕ → ℕ
+
+-- what a line says: it opens an engine in a journal of some form, or it makes a call
+pub data Says : Type 0 where
+  opens : ℕ → Sizes → Says
+  calls : Call → Says
+
+-- a row of the grammar: a form, and what a line of that form says, given its numbers
+pub record Row : Type 0 where
+  pub form : List Part
+  pub says : Numbered → Says
+
+abbrev pub row : String → (Numbered → Says) → Row
+row t f = record { form = parts (text t); says = f }
+
+-- THE FIRST LINES
+abbrev pub openings : List Row
+openings =
+    row "fabric=1 cores=N lines=N width=N lease=N" (λ n. opens 1 (record { cores = n 0; lines = n 1; width = n 2; lease = n 3 }))
+    ∷ []
+
+-- THE STEPS of a journal of form 1. Evict stands first: a form without it can then have the others as one part of the table
+abbrev pub steps : List Row
+steps =
+    row "op=evict core=N line=N" (λ n. calls (Evict (n 0) (n 1)))
+    ∷ row "op=load core=N line=N" (λ n. calls (Load (n 0) (n 1)))
+    ∷ row "op=store core=N line=N data=H" (λ n. calls (Store (n 0) (n 1)))
+    ∷ row "op=fence core=N" (λ n. calls (Fence (n 0)))
+    ∷ row "op=serve core=N" (λ n. calls (Serve (n 0)))
+    ∷ row "op=receive core=N" (λ n. calls (Receive (n 0)))
+    ∷ row "op=advance core=N by=N" (λ n. calls (Advance (n 0) (n 1)))
+    ∷ row "op=yield line=N" (λ n. calls (Yield (n 0)))
+    ∷ row "op=take line=N" (λ n. calls (Take (n 0)))
+    ∷ []
+
+-- the rows that a line may have: in form 0 the first line is due; form 1 is `fabric=1`; there is no other yet
+abbrev pub rowsOf : ℕ → List Row
+rowsOf zero = openings
+rowsOf (suc zero) = steps
+rowsOf (suc (suc f)) = []
+
+-- what stands past the rows; no definition looks there
+abbrev pub noRow : Row
+noRow = record { form = []; says = λ n. opens 0 (record { cores = 0; lines = 0; width = 0; lease = 0 }) }
+
+-- the row at a place of a table
+abbrev pub rowAt : List Row → ℕ → Row
+rowAt rows k = getD rows k noRow

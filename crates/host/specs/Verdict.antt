@@ -1,0 +1,13 @@
+-- The number that the host simulator gets for one step line: 0, 10, 11, 12 or 13. Assumes nothing.
+use Prim.Native.Nat.{ℕ}
+use mathlib.Core.Path.{_≡_}
+use mathlib.Core.List.{List}
+use Rattle.grammar.specs.Table.{rowsOf}
+use Rattle.grammar.specs.Line.{LineOf, numberOf}
+use Rattle.grammar.specs.declared.Line.{Line}
+
+-- r is the number of the answer that the bytes s have as a step line of a `fabric=1` journal
+pub record Verdict (s : List ℕ) (r : ℕ) : Type 0 where
+  pub answer : Line
+  pub line : LineOf (rowsOf 1) s answer
+  pub number : r ≡ numberOf answer

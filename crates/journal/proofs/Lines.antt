@@ -1,0 +1,46 @@
+-- Laws of the lines of a journal. Assumes nothing.
+use Prim.Native.Nat.{ℕ, _+_, _≤_, _<_, _-_}
+use mathlib.Core.Path.{_≡_, sym, _∙_, ap, subst}
+use mathlib.Core.List.{List, _∷_, _++_, append-nil}
+use mathlib.Core.Logic.{inl, inr}
+use native.Mathlib.Omega.{arith}
+use native.Mathlib.Numerals.{add-one}
+use lib.ListN.{length, getD, take, drop, length-drop, drop-of-length-le}
+use lib.Seq.{drop-cons, drop-drop}
+use Rattle.spelling.specs.Bytes.{Without, upTo}
+use Rattle.spelling.proofs.Split.{Edge, upTo-clean, upTo-split, upTo-part}
+use Rattle.grammar.specs.Table.{rowsOf}
+use Rattle.grammar.specs.Line.{LineOf}
+use Rattle.grammar.specs.declared.Line.{Line}
+use Rattle.journal.specs.Journal.{placed, LineAt, NextOf, aLine}
+
+-- the line from a place up to a newline at e, or to the end
+module _ (j : List ℕ) (at e : ℕ) (ends : e ≡ at + length (upTo 10 (drop at j))) where
+  rest : drop (length (upTo 10 (drop at j))) (drop at j) ≡ drop e j
+  rest = drop-drop (length (upTo 10 (drop at j))) at j ∙ ap (λ (k : ℕ). drop k j) (sym ends)
+
+  split : drop at j ≡ upTo 10 (drop at j) ++ drop e j
+  split = upTo-split 10 (drop at j) .0 ∙ ap (λ (l : List ℕ). upTo 10 (drop at j) ++ l) rest
+
+  newline : e < length j → Edge 10 (drop e j) → drop e j ≡ 10 ∷ drop (e + 1) j
+  newline h (inl x) = absurd (omega (arith, simp length-drop at (ap length x)))
+  newline h (inr x) =
+      let c : drop e j ≡ getD j e 0 ∷ drop (e + 1) j = rw (add-one e) (drop-cons j e 0 h) in
+      let d : getD j e 0 ∷ drop (e + 1) j ≡ 10 ∷ x .0 = sym c ∙ x .1 in
+      let u : getD j e 0 ≡ 10 = cc in
+      c ∙ ap (λ (b : ℕ). b ∷ drop (e + 1) j) u
+
+  pub line-here : e < length j → LineAt j at (take (e - at) (drop at j)) (e + 1)
+  line-here h =
+      let p = upTo-part 10 j at e ends in
+      let n = newline h (subst (Edge 10) rest (upTo-split 10 (drop at j) .1)) in
+      rw p (record { clean = upTo-clean 10 (drop at j); whole = split ∙ ap (λ (l : List ℕ). upTo 10 (drop at j) ++ l) n; after = omega arith })
+
+  pub none-here : length j ≤ e → Without 10 (drop at j)
+  none-here h =
+      let z : drop at j ≡ upTo 10 (drop at j) = split ∙ ap (λ (l : List ℕ). upTo 10 (drop at j) ++ l) (drop-of-length-le j h) ∙ append-nil (upTo 10 (drop at j)) in
+      subst (Without 10) (sym z) (upTo-clean 10 (drop at j))
+
+-- a line that was read is the answer at its place
+pub line-answer : (j : List ℕ) (at e form : ℕ) (a : Line) → length j ≤ 65536 → e ≡ at + length (upTo 10 (drop at j)) → e < length j → LineOf (rowsOf form) (take (e - at) (drop at j)) a → NextOf j at form (placed a at (e + 1))
+line-answer j at e form a s ends h o = aLine (take (e - at) (drop at j)) (e + 1) s (line-here j at e ends h) o

@@ -1,0 +1,56 @@
+-- What stands at a place of a journal: 01's next line, the end, or a refusal 10 to 14. Assumes nothing.
+use Prim.Native.Nat.{ℕ, _+_, _≤_, _<_}
+use mathlib.Core.Path.{_≡_}
+use mathlib.Core.List.{List, [], _∷_, _++_}
+use lib.ListN.{length, drop}
+use Rattle.spelling.specs.Bytes.{Without}
+use Rattle.grammar.specs.Table.{rowsOf}
+use Rattle.grammar.specs.Line.{LineOf}
+use Rattle.grammar.specs.declared.Line.{Line}
+use Rattle.grammar.specs.declared.Line.the-variants.{Opening as OpeningLine, Step as StepLine, Refused as RefusedLine}
+use Rattle.journal.specs.declared.Next.{Next}
+use Rattle.journal.specs.declared.Next.the-variants.{Opening, Step, End, Refused}
+
+-- the lines of a journal joined, each with its newline (10)
+unfoldable pub joined : List (List ℕ) → List ℕ
+joined [] = []
+joined (l ∷ ls) = l ++ (10 ∷ joined ls)
+
+-- a line's answer, where the line stands at a place of the journal and the next one at `next`
+abbrev pub placed : Line → ℕ → ℕ → Next
+placed (OpeningLine form sizes) at next = Opening form sizes next
+placed (StepLine call start end) at next = Step call (at + start) (at + end) next
+placed (RefusedLine n) at next = Refused n
+
+-- the line l stands at a place of the journal, ended by a newline; the next line stands at `next`
+pub record LineAt (journal : List ℕ) (at : ℕ) (l : List ℕ) (next : ℕ) : Type 0 where
+  pub clean : Without 10 l
+  pub whole : drop at journal ≡ l ++ (10 ∷ drop next journal)
+  pub after : next ≡ at + length l + 1
+
+-- THE ANSWER at a place of a journal of some form, where in form 0 the first line is due
+pub data NextOf (journal : List ℕ) (at form : ℕ) : Next → Type 0 where
+  -- 14 journal over 65,536 bytes, before anything else
+  tooMuch : 65536 < length journal → NextOf journal at form (Refused 14)
+  -- 11 nothing where the first line is due: empty input
+  empty : length journal ≤ 65536 → length journal ≤ at → form ≡ 0 → NextOf journal at form (Refused 11)
+  -- the end of the input, after the first line
+  ended : length journal ≤ 65536 → length journal ≤ at → (form ≡ 0 → ⊥) → NextOf journal at form End
+  -- 10 a last line without newline
+  unended : length journal ≤ 65536 → at < length journal → Without 10 (drop at journal) → NextOf journal at form (Refused 10)
+  -- a line with its newline: what the line is
+  aLine : {a : Line} (l : List ℕ) (next : ℕ) → length journal ≤ 65536 → LineAt journal at l next → LineOf (rowsOf form) l a → NextOf journal at form (placed a at next)
+
+-- the place after an answer: the next line's, and the same after the end or a refusal
+abbrev pub placeAfter : ℕ → Next → ℕ
+placeAfter at (Opening form sizes next) = next
+placeAfter at (Step call start end next) = next
+placeAfter at End = at
+placeAfter at (Refused n) = at
+
+-- the form after an answer: the first line sets it
+abbrev pub formAfter : ℕ → Next → ℕ
+formAfter form (Opening named sizes next) = named
+formAfter form (Step call start end next) = form
+formAfter form End = form
+formAfter form (Refused n) = form

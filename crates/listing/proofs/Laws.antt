@@ -1,0 +1,124 @@
+-- Laws of a line that is built back to front, and of one text put after another. Assumes nothing.
+use Prim.Native.Nat.{ℕ, _+_, _-_, _*_, _≤_, _<_}
+use mathlib.Core.Path.{_≡_, sym, _∙_, ap, subst}
+use mathlib.Core.List.{List, _++_, append-assoc, append-nil}
+use native.Mathlib.Omega.{arith}
+use lib.ListN.{length, take, drop, length-append, length-drop, drop-of-length-le}
+use lib.Seq.{take-all}
+use borrow.Author.Tests.{le-leb}
+use Rattle.spelling.specs.Over.{over, PutAt, PutBefore}
+use Rattle.spelling.specs.Decimal.{decimal}
+use Rattle.spelling.specs.Hex.{hex}
+use Rattle.spelling.specs.Text.{text}
+use Rattle.spelling.specs.declared.Put.{Put}
+use Rattle.spelling.specs.declared.Put.the-variants.{End, Short}
+use Rattle.spelling.proofs.OverLaws.{over-from, over-length, over-append, before-place, before-laid, before-from, decimal-short, put-done, put-short}
+use Rattle.spelling.proofs.HexLaws.{hex-length}
+use Rattle.protocol.specs.declared.Place.{Place}
+use Rattle.protocol.specs.declared.Answer.{Answer}
+use Rattle.protocol.specs.Step.{Done, done, meaning}
+use Rattle.listing.specs.Record.{doneText, recordText}
+use Rattle.listing.specs.Back.{Room, Field, Tail}
+
+-- a text that was put where it fits
+module _ (old : List ℕ) (at : ℕ) (t new : List ℕ) (r : Put) (p : PutAt old at t new r) (h : at + length t ≤ length old) where
+  pub put-laid : new ≡ over old at t
+  put-laid = rw (le-leb (at + length t) (length old) h) at (p .bytes)
+
+  pub put-end : r ≡ End (at + length t)
+  put-end = rw (le-leb (at + length t) (length old) h) at (p .answer)
+
+  pub put-length : length new ≡ length old
+  put-length = ap length put-laid ∙ over-length old at t h
+
+  -- what stands from the text on
+  pub put-from : drop at new ≡ t ++ drop (at + length t) old
+  put-from = ap (drop at) put-laid ∙ over-from old at t (omega arith)
+
+-- one text after another
+pub put-after : (old : List ℕ) (at : ℕ) (t mid : List ℕ) (q : Put) (u new : List ℕ) (r : Put) → at + length (t ++ u) ≤ length old
+    → PutAt old at t mid q → PutAt mid (at + length t) u new r → PutAt old at (t ++ u) new r
+put-after old at t mid q u new r h p s =
+    let size : length (t ++ u) ≡ length t + length u = length-append t u in
+    let m : mid ≡ over old at t = put-laid old at t mid q p (omega arith) in
+    let w : at + length t + length u ≤ length mid = omega (arith, put-length old at t mid q p (omega arith)) in
+    put-done old at (t ++ u) new r h
+    (put-end mid (at + length t) u new r s w ∙ ap End (omega arith))
+    (put-laid mid (at + length t) u new r s w ∙ ap (λ (l : List ℕ). over l (at + length t) u) m ∙ over-append old at t u h)
+
+-- a text, bytes in hex behind it, and a newline
+module _ (old : List ℕ) (at : ℕ) (head bytes : List ℕ) where
+  data-length : length (head ++ hex bytes ++ text "\n") ≡ length head + 2 * length bytes + 1
+  data-length = simp length-append (omega (arith, hex-length bytes))
+
+  pub data-short : length old < at + (length head + 2 * length bytes + 1) → PutAt old at (head ++ hex bytes ++ text "\n") old Short
+  data-short h = put-short old at (head ++ hex bytes ++ text "\n") (omega (arith, data-length))
+
+  pub data-put : (one : List ℕ) (q : Put) (two : List ℕ) (s : Put) (new : List ℕ) (r : Put) → at + (length head + 2 * length bytes + 1) ≤ length old
+      → PutAt old at head one q → PutAt one (at + length head) (hex bytes) two s → PutAt two (at + length head + 2 * length bytes) (text "\n") new r
+      → PutAt old at (head ++ hex bytes ++ text "\n") new r
+  data-put one q two s new r h a b c =
+      let size : length (head ++ hex bytes) ≡ length head + 2 * length bytes = length-append head (hex bytes) ∙ ap (λ (k : ℕ). length head + k) (hex-length bytes) in
+      let e : at + length head + 2 * length bytes ≡ at + length (head ++ hex bytes) = omega arith in
+      put-after old at (head ++ hex bytes) two s (text "\n") new r (omega (arith, data-length)) (put-after old at head one q (hex bytes) two s (omega arith) a b)
+      (subst (λ (k : ℕ). PutAt two k (text "\n") new r) e c)
+
+-- ---- a line from its end
+
+-- the digits of a number before a place, and its key before them
+pub field-put : (old : List ℕ) (end : ℕ) (key : List ℕ) (n : ℕ) (mid : List ℕ) (d : ℕ) (new : List ℕ) (q : Put) → length old ≡ 128 → Room end key
+    → PutBefore old end (decimal n) mid d → PutAt mid (d - length key) key new q → Field old end key n new (d - length key)
+field-put old end key n mid d new q size room p s =
+    let place : d + length (decimal n) ≡ end = before-place old end n mid d p (omega arith) (omega arith) in
+    let short = decimal-short n in
+    let same : length mid ≡ length old = ap length (before-laid old end n mid d p (omega arith) (omega arith)) ∙ over-length old d (decimal n) (omega arith) in
+    let start : d - length key + length key ≡ d = omega arith in
+    record {
+      text = put-from mid (d - length key) key new q s (omega arith) ∙ ap (λ (k : ℕ). key ++ drop k mid) start ∙ ap (λ (l : List ℕ). key ++ l) (before-from old end n mid d p (omega arith) (omega arith));
+      near = omega arith;
+      before = omega arith;
+      size = put-length mid (d - length key) key new q s (omega arith) ∙ same ∙ size;
+    }
+
+-- the digits leave room for the key
+pub digits-far : (old : List ℕ) (end n : ℕ) (key : List ℕ) (mid : List ℕ) (d : ℕ) → length old ≡ 128 → Room end key → PutBefore old end (decimal n) mid d → length key ≤ d
+digits-far old end n key mid d size room p = omega (arith, before-place old end n mid d p (omega arith) (omega arith), decimal-short n)
+
+-- a text put where it ends the line
+pub tail-put : (old t new : List ℕ) (q : Put) → length old ≡ 128 → length t ≤ 128 → PutAt old (128 - length t) t new q → Tail t new (128 - length t)
+tail-put old t new q size h p =
+    let e : 128 - length t + length t ≡ 128 = omega arith in
+    record {
+      text = put-from old (128 - length t) t new q p (omega arith) ∙ ap (λ (k : ℕ). t ++ drop k old) e ∙ ap (λ (l : List ℕ). t ++ l) (drop-of-length-le old {i = 128} (omega arith)) ∙ append-nil t;
+      start = e;
+      size = put-length old (128 - length t) t new q p (omega arith) ∙ size;
+    }
+
+-- one field more in front of a text
+pub more : {old : List ℕ} {end : ℕ} {key : List ℕ} {n : ℕ} {new : List ℕ} {r : ℕ} {t : List ℕ} → Field old end key n new r → drop end old ≡ t → drop r new ≡ key ++ (decimal n ++ t)
+more {key = key} {n = n} f e = f .text ∙ ap (λ (l : List ℕ). key ++ (decimal n ++ l)) e
+
+-- the first field, and with it the whole line
+pub first : {old : List ℕ} {end : ℕ} {key : List ℕ} {n : ℕ} {new : List ℕ} {r : ℕ} {t : List ℕ} → Field old end key n new r → drop end old ≡ t → take (128 - r) (drop r new) ≡ key ++ (decimal n ++ t)
+first {new = new} {r = r} f e = take-all (128 - r) (drop r new) (simp length-drop (omega (arith, f .size))) ∙ more f e
+
+-- the same text, written otherwise
+pub put-same : {old : List ℕ} {at : ℕ} {t u new : List ℕ} {r : Put} → t ≡ u → PutAt old at t new r → PutAt old at u new r
+put-same {old} {at} {t} {u} {new} {r} e p = subst (λ (l : List ℕ). PutAt old at l new r) e p
+
+-- four fields and a last text, then data and a newline
+pub four : (a b c d e f g h t x y : List ℕ) → (a ++ (b ++ (c ++ (d ++ (e ++ (f ++ (g ++ (h ++ t)))))))) ++ x ++ y ≡ a ++ b ++ c ++ d ++ e ++ f ++ g ++ h ++ t ++ x ++ y
+four a b c d e f g h t x y = simp append-assoc
+
+-- ---- the record of each answer
+
+-- the place, and one text that names what was done
+pub done-text : (p : Place) (d : Done) → text "n=" ++ decimal (p .0) ++ (text " done=" ++ doneText d ++ text "\n") ≡ recordText p (done d)
+unfolding recordText
+done-text p d = simp append-assoc
+
+-- the text t of one case of an answer, where the answer is that case
+pub answered : {old : List ℕ} {at : ℕ} {t new : List ℕ} {r : Put} (p : Place) (bytes : List ℕ) {answer case : Answer} → answer ≡ case → t ≡ recordText p (meaning case bytes)
+    → PutAt old at t new r → PutAt old at (recordText p (meaning answer bytes)) new r
+answered {old} {at} {t} {new} {r} p bytes e s put =
+    subst (λ (l : List ℕ). PutAt old at l new r) (s ∙ ap (λ (a : Answer). recordText p (meaning a bytes)) (sym e)) put

@@ -1,0 +1,24 @@
+-- A line of text that is built back to front, at the end of a buffer of 128 bytes. Assumes nothing.
+use Prim.Native.Nat.{ℕ, _+_, _≤_}
+use mathlib.Core.Path.{_≡_}
+use mathlib.Core.List.{List, _++_}
+use lib.ListN.{length, drop}
+use Rattle.spelling.specs.Decimal.{decimal}
+
+-- a key and a number of twenty digits have room before a place
+abbrev pub Room : ℕ → List ℕ → Type 0
+Room end key = (length key + 20 ≤ end) × (end ≤ 128)
+
+-- the key and the number n were put before a place: from r on the buffer holds them, and then what it held from the place on.
+-- They are no longer than the key and twenty digits.
+pub record Field (old : List ℕ) (end : ℕ) (key : List ℕ) (n : ℕ) (new : List ℕ) (r : ℕ) : Type 0 where
+  pub text : drop r new ≡ key ++ (decimal n ++ drop end old)
+  pub near : end ≤ r + (length key + 20)
+  pub before : r ≤ end
+  pub size : length new ≡ 128
+
+-- the text t was put at the end: it starts at r
+pub record Tail (t new : List ℕ) (r : ℕ) : Type 0 where
+  pub text : drop r new ≡ t
+  pub start : r + length t ≡ 128
+  pub size : length new ≡ 128

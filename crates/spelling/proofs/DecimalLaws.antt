@@ -1,0 +1,156 @@
+-- Laws of the decimal spelling. Assumes nothing.
+use Prim.Native.Nat.{ℕ, zero, suc, _+_, _*_, _/_, _%_, _≤_, _<_, _-_, _^_}
+use mathlib.Core.Path.{_≡_, refl, sym, _∙_, ap, ap₂}
+use native.Mathlib.Numerals.{add-one}
+use mathlib.Core.List.{List, [], _∷_, _++_}
+use mathlib.Core.Logic.{_⊎_, ⊎-elim}
+use native.Mathlib.Omega.{arith}
+use native.Mathlib.Nat.{le-trans, pow-suc}
+use lib.ListN.{length, getD, take, drop, length-append, List·getD-append}
+use lib.Seq.{split-at, getD-take, take-all, take-suc}
+use lib.Dec.{lit<}
+use borrow.Author.Tests.{lt-ltb, le-ltb}
+use Rattle.spelling.specs.Bytes.{All}
+use Rattle.spelling.specs.Decimal.{decimalUpTo, decimal, greatest}
+use Rattle.spelling.proofs.Lists.{le-or-lt, all-append, all-at}
+
+-- n has at most k + 1 digits
+abbrev Below : ℕ → ℕ → Type 0
+Below zero n = n < 10
+Below (suc k) n = Below k (n / 10)
+
+-- the greatest number of 64 bits
+abbrev pub widest : ℕ
+widest = 18446744073709551615
+
+tenth : (p n : ℕ) → n < p * 10 → n / 10 < p
+tenth p n h = omega arith
+
+below : (k n : ℕ) → n < 10 ^ suc k → Below k n
+below zero n h = h
+below (suc k) n h = below k (n / 10) (tenth (10 ^ suc k) n (rw (pow-suc 10 (suc k)) at h))
+
+below-19 : (n : ℕ) → n ≤ widest → Below 19 n
+below-19 n h = let s : n < 100000000000000000000 = omega arith in below 19 n s
+
+small : (k n : ℕ) → n < 10 → decimalUpTo k n ≡ (48 + n) ∷ []
+unfolding decimalUpTo
+small zero n h = refl
+small (suc k) n h = rw (lt-ltb n 10 h)
+
+large : (k n : ℕ) → 10 ≤ n → decimalUpTo (suc k) n ≡ decimalUpTo k (n / 10) ++ ((48 + n % 10) ∷ [])
+unfolding decimalUpTo
+large k n h = rw (le-ltb n 10 h)
+
+room : (k n : ℕ) → Below k n → decimalUpTo (suc k) n ≡ decimalUpTo k n
+room zero n b = small 1 n b ∙ sym (small 0 n b)
+room (suc k) n b =
+    ⊎-elim (λ h. large (suc k) n h ∙ ap (λ (l : List ℕ). l ++ ((48 + n % 10) ∷ [])) (room k (n / 10) b) ∙ sym (large k n h))
+    (λ h. small (suc (suc k)) n h ∙ sym (small (suc k) n h)) (le-or-lt 10 n)
+
+-- one digit more
+pub decimal-more : (v d : ℕ) → 0 < v → d < 10 → v * 10 + d ≤ widest → decimal (v * 10 + d) ≡ decimal v ++ ((48 + d) ∷ [])
+unfolding decimal
+decimal-more v d hv hd h =
+    let q : (v * 10 + d) / 10 ≡ v = omega arith in
+    let m : (v * 10 + d) % 10 ≡ d = omega arith in
+    let s : v < 10000000000000000000 = omega arith in
+    large 18 (v * 10 + d) (omega arith) ∙ rw (q, m, room 18 v (below 18 v s))
+
+pub decimal-digit : (d : ℕ) → d < 10 → decimal d ≡ (48 + d) ∷ []
+unfolding decimal
+decimal-digit d h = small 19 d h
+
+-- the value of a list of digits, after a number a
+unfoldable pub value : ℕ → List ℕ → ℕ
+value a [] = a
+value a (b ∷ bs) = value (a * 10 + (b - 48)) bs
+
+value-append : (a : ℕ) (p q : List ℕ) → value a (p ++ q) ≡ value (value a p) q
+unfolding value
+value-append a [] q = refl
+value-append a (b ∷ p) q = value-append (a * 10 + (b - 48)) p q
+
+value-grows : (a : ℕ) (q : List ℕ) → a ≤ value a q
+unfolding value
+value-grows a [] = omega arith
+value-grows a (b ∷ q) = le-trans (omega arith) (value-grows (a * 10 + (b - 48)) q)
+
+value-up-to : (k n : ℕ) → Below k n → value 0 (decimalUpTo k n) ≡ n
+unfolding value
+value-up-to zero n b = rw (small 0 n b) (omega arith)
+value-up-to (suc k) n b =
+    ⊎-elim (λ h. rw (large k n h, value-append 0 (decimalUpTo k (n / 10)) ((48 + n % 10) ∷ []), value-up-to k (n / 10) b) (omega arith))
+    (λ h. rw (small (suc k) n h) (omega arith)) (le-or-lt 10 n)
+
+pub value-decimal : (n : ℕ) → n ≤ greatest → value 0 (decimal n) ≡ n
+unfolding decimal
+value-decimal n h = value-up-to 19 n (below-19 n (omega arith))
+
+-- two numbers are not spelt alike
+pub decimal-injective : (m n : ℕ) → m ≤ greatest → n ≤ greatest → decimal m ≡ decimal n → m ≡ n
+decimal-injective m n hm hn e = sym (value-decimal m hm) ∙ ap (value 0) e ∙ value-decimal n hn
+
+abbrev pub Digit : ℕ → Type 0
+Digit b = (48 ≤ b) × (b ≤ 57)
+
+digits-up-to : (k n : ℕ) → Below k n → All Digit (decimalUpTo k n)
+digits-up-to zero n b = rw (small 0 n b) ((omega arith, omega arith), tt)
+digits-up-to (suc k) n b =
+    ⊎-elim (λ h. rw (large k n h) (all-append Digit (decimalUpTo k (n / 10)) ((48 + n % 10) ∷ []) (digits-up-to k (n / 10) b) ((omega arith, omega arith), tt)))
+    (λ h. rw (small (suc k) n h) ((omega arith, omega arith), tt)) (le-or-lt 10 n)
+
+pub decimal-digits : (n : ℕ) → n ≤ greatest → All Digit (decimal n)
+unfolding decimal
+decimal-digits n h = digits-up-to 19 n (below-19 n (omega arith))
+
+pub nonempty-up-to : (k n : ℕ) → Below k n → 0 < length (decimalUpTo k n)
+nonempty-up-to zero n b = rw (small 0 n b) (omega arith)
+nonempty-up-to (suc k) n b =
+    ⊎-elim (λ h. rw (large k n h, length-append) (omega arith)) (λ h. rw (small (suc k) n h) (omega arith)) (le-or-lt 10 n)
+
+pub decimal-nonempty : (n : ℕ) → n ≤ widest → 0 < length (decimal n)
+unfolding decimal
+decimal-nonempty n h = nonempty-up-to 19 n (below-19 n h)
+
+lead-up-to : (k n : ℕ) → Below k n → getD (decimalUpTo k n) 0 0 ≡ 48 → n ≡ 0
+lead-up-to zero n b e = omega (arith, rw (small 0 n b) at e)
+lead-up-to (suc k) n b e =
+    ⊎-elim (λ h. let z : n / 10 ≡ 0 = lead-up-to k (n / 10) b (sym (List·getD-append (decimalUpTo k (n / 10)) ((48 + n % 10) ∷ []) 0 0 (nonempty-up-to k (n / 10) b)) ∙ (rw (large k n h) at e)) in omega arith)
+    (λ h. omega (arith, rw (small (suc k) n h) at e)) (le-or-lt 10 n)
+
+-- a spelling that begins with the digit 0 is that of 0
+pub decimal-lead : (n : ℕ) → n ≤ greatest → getD (decimal n) 0 0 ≡ 48 → n ≡ 0
+unfolding decimal
+decimal-lead n h e = lead-up-to 19 n (below-19 n (omega arith)) e
+
+-- what keeps a list from being a number's spelling
+pub not-empty : (s : List ℕ) (n : ℕ) → n ≤ greatest → s ≡ decimal n → length s ≡ 0 → ⊥
+not-empty s n h e z = omega (arith, decimal-nonempty n (omega arith), ap length e)
+
+pub not-digit : (s : List ℕ) (i n : ℕ) → n ≤ greatest → s ≡ decimal n → i < length s → Digit (getD s i 0)
+not-digit s i n h e hi = rw e (all-at Digit (decimal n) (decimal-digits n h) i (rw e at hi))
+
+pub not-lead : (s : List ℕ) (i n : ℕ) → n ≤ greatest → s ≡ decimal n → 1 ≤ i → i < length s → take i s ≡ decimal 0 → ⊥
+not-lead s i n h e h1 hi t =
+    let z : n ≡ 0 = decimal-lead n h (ap (λ (l : List ℕ). getD l 0 0) (sym e) ∙ sym (getD-take i s 0 0 h1) ∙ ap (λ (l : List ℕ). getD l 0 0) (t ∙ decimal-digit 0 (lit< tt))) in
+    omega (arith, ap length (e ∙ ap decimal z ∙ decimal-digit 0 (lit< tt)))
+
+pub not-over : (s : List ℕ) (i v n : ℕ) → n ≤ greatest → s ≡ decimal n → i < length s → v ≤ greatest → take i s ≡ decimal v → v * 10 + (getD s i 0 - 48) ≤ n
+unfolding value
+not-over s i v n h e hi hv t =
+    let whole-value : value 0 s ≡ n = ap (value 0) e ∙ value-decimal n h in
+    let parts : value 0 s ≡ value (value 0 (take i s) * 10 + (getD s i 0 - 48)) (drop (suc i) s) = ap (value 0) (split-at s i 0 hi) ∙ value-append 0 (take i s) _ in
+    let front : value 0 (take i s) ≡ v = ap (value 0) t ∙ value-decimal v hv in
+    omega (arith, value-grows (value 0 (take i s) * 10 + (getD s i 0 - 48)) (drop (suc i) s))
+
+pub first-digit : (s : List ℕ) → 0 < length s → Digit (getD s 0 0) → take 1 s ≡ decimal (getD s 0 0 - 48)
+first-digit s h d =
+    take-suc s 0 0 h ∙ ap (λ (b : ℕ). b ∷ []) (omega arith) ∙ sym (decimal-digit (getD s 0 0 - 48) (omega arith))
+
+pub next-digit : (s : List ℕ) (i v : ℕ) → i < length s → Digit (getD s i 0) → 0 < v → v * 10 + (getD s i 0 - 48) ≤ greatest → take i s ≡ decimal v → take (i + 1) s ≡ decimal (v * 10 + (getD s i 0 - 48))
+next-digit s i v hi d hv h t =
+    rw (add-one i) (take-suc s i 0 hi ∙ ap₂ (λ (l : List ℕ) (b : ℕ). l ++ (b ∷ [])) t (omega arith) ∙ sym (decimal-more v (getD s i 0 - 48) hv (omega arith) (omega arith)))
+
+pub whole : (s : List ℕ) (i v : ℕ) → length s ≤ i → take i s ≡ decimal v → s ≡ decimal v
+whole s i v h t = sym (take-all i s h) ∙ t

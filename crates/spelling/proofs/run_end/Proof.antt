@@ -1,0 +1,50 @@
+-- `spelling::run_end` meets its contract. The invariant: from where the search stands, the byte is as far as it was from the start. Assumes nothing.
+use Prim.Native.Nat.{_+_, _-_}
+use mathlib.Core.Path.{_≡_, refl}
+use native.Mathlib.Omega.{arith}
+use lib.ListN.{length, drop}
+use Rattle.spelling.specs.Bytes.{upTo}
+use Rattle.spelling.proofs.Split.{upTo-at, upTo-stop, upTo-end}
+use Rattle.spelling.proofs.run_end.Statement.{statement}
+use Rattle.spelling.proofs.run_end.Tie as tie
+
+abbrev Inv-loop : tie.InvT-loop
+Inv-loop s at stop i₀ i = at + length (upTo stop (drop at s)) ≡ i + length (upTo stop (drop i s))
+
+abbrev μ-loop : tie.MeasureT-loop
+μ-loop s at stop i₀ i = length s - i
+
+loop-holds : tie.Need-loop-holds Inv-loop μ-loop
+loop-holds c = refl
+
+shared-slice-read-if1 : tie.Need-shared-slice-read-if1 Inv-loop μ-loop
+shared-slice-read-if1 c = omega arith
+
+returns : tie.Need-returns Inv-loop μ-loop
+returns c = omega (arith, upTo-stop (c .before .before .before .before .args .stop) (c .before .before .before .before .args .s .now) (c .before .before .before .loop .i) (omega arith) (c .if1 .taken))
+
+add-i : tie.Need-add-i Inv-loop μ-loop
+add-i c = omega arith
+
+loop-less : tie.Need-loop-less Inv-loop μ-loop
+loop-less c = omega arith
+
+loop-again : tie.Need-loop-again Inv-loop μ-loop
+loop-again c = omega (arith, upTo-at (c .before .before .before .before .args .stop) (c .before .before .before .before .args .s .now) (c .before .before .before .loop .i) (omega arith) (c .if1 .left))
+
+returns-2 : tie.Need-returns-2 Inv-loop μ-loop
+returns-2 c = omega (arith, upTo-end (c .before .before .args .stop) (c .before .before .args .s .now) (c .before .loop .i) (omega arith))
+
+pub run-end-spec : {M : Type 1} → statement M
+run-end-spec =
+    tie.close
+    (tie.spec
+    Inv-loop
+    μ-loop
+    loop-holds
+    shared-slice-read-if1
+    returns
+    add-i
+    loop-less
+    loop-again
+    returns-2)

@@ -1,0 +1,24 @@
+-- Lists of bytes: what holds of each, and where the next byte of some kind stands. Assumes nothing.
+use Prim.Native.Nat.{ℕ, _<_}
+use mathlib.Core.Path.{_≡_}
+use mathlib.Core.Bool.{cond}
+use mathlib.Core.List.{List, [], _∷_}
+use lib.Dec.{eqb}
+
+-- P holds of each number of the list
+abbrev pub All : (ℕ → Type 0) → List ℕ → Type 0
+All P [] = Unit
+All P (b ∷ bs) = P b × All P bs
+
+-- the byte b is none of the list
+abbrev pub Without : ℕ → List ℕ → Type 0
+Without b l = All (λ x. x ≡ b → ⊥) l
+
+-- a byte is a number below 256
+abbrev pub Byte : ℕ → Type 0
+Byte b = b < 256
+
+-- the bytes up to the next byte `stop`, or to the end
+unfoldable pub upTo : ℕ → List ℕ → List ℕ
+upTo stop [] = []
+upTo stop (b ∷ bs) = cond (eqb b stop) [] (b ∷ upTo stop bs)

@@ -1,0 +1,42 @@
+-- H of 01: bytes as lower-case hex pairs. Assumes nothing.
+use Prim.Native.Nat.{ℕ, _+_, _/_, _%_, _≤_, _<_}
+use mathlib.Core.Path.{_≡_}
+use mathlib.Core.Bool.{Bool, true, false, cond}
+use mathlib.Core.List.{List, [], _∷_}
+use mathlib.Core.Logic.{_⊎_}
+use lib.Dec.{ltb}
+use lib.ListN.{length}
+use Rattle.spelling.specs.Bytes.{All, Byte}
+
+-- the digit of a number below 16: 0 to 9, a to f
+abbrev pub digit : ℕ → ℕ
+digit d = cond (ltb d 10) (48 + d) (87 + d)
+
+-- two digits a byte, the upper half first
+unfoldable pub hex : List ℕ → List ℕ
+hex [] = []
+hex (b ∷ bs) = digit (b / 16) ∷ digit (b % 16) ∷ hex bs
+
+-- the bytes v spell the data bs: one byte or more
+pub record Spells (v bs : List ℕ) : Type 0 where
+  pub some : 0 < length bs
+  pub bytes : All Byte bs
+  pub same : v ≡ hex bs
+
+-- the bytes v are data of 01 (a wrong H is refusal 13)
+abbrev pub IsData : List ℕ → Type 0
+IsData v = (bs : List ℕ) × Spells v bs
+
+-- whether the bytes v are data
+abbrev pub DataTest : List ℕ → Bool → Type 0
+DataTest v true = IsData v
+DataTest v false = IsData v → ⊥
+
+-- b is one of 0 to 9 and a to f
+abbrev pub HexDigit : ℕ → Type 0
+HexDigit b = ((48 ≤ b) × (b ≤ 57)) ⊎ ((97 ≤ b) × (b ≤ 102))
+
+-- whether b is a hex digit
+abbrev pub HexTest : ℕ → Bool → Type 0
+HexTest b true = HexDigit b
+HexTest b false = HexDigit b → ⊥

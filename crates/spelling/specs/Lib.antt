@@ -1,0 +1,5 @@
+pub mod Text
+pub mod Bytes
+pub mod Decimal
+pub mod Hex
+pub mod Over

@@ -1,0 +1,47 @@
+-- Text laid over a part of a buffer that a caller lent. Assumes nothing.
+use Prim.Native.Nat.{ℕ, _+_, _-_, _≤_, _<_}
+use mathlib.Core.Path.{_≡_}
+use mathlib.Core.Bool.{Bool, false, cond}
+use mathlib.Core.List.{List, _++_}
+use lib.Dec.{leb}
+use lib.ListN.{length, take, drop}
+use Rattle.spelling.specs.Hex.{digit, Spells, IsData}
+use Rattle.spelling.specs.declared.Put.{Put}
+use Rattle.spelling.specs.declared.Put.the-variants.{End, Short}
+use Rattle.spelling.specs.declared.Decoded.{Decoded}
+use Rattle.spelling.specs.declared.Decoded.the-variants.{Bytes, Wrong, NoRoom}
+
+-- whether n bytes fit at a place of a buffer of this size
+abbrev pub fits : ℕ → ℕ → ℕ → Bool
+fits size at n = leb (at + n) size
+
+-- the buffer with the text t at a place, and all else as it was
+abbrev pub over : List ℕ → ℕ → List ℕ → List ℕ
+over old at t = take at old ++ (t ++ drop (at + length t) old)
+
+-- the text t was put at a place: if it fits, the buffer holds it there and the answer is the place after it;
+-- if it does not, the answer says so and the buffer is as it was
+pub record PutAt (old : List ℕ) (at : ℕ) (t new : List ℕ) (r : Put) : Type 0 where
+  pub answer : r ≡ cond (fits (length old) at (length t)) (End (at + length t)) Short
+  pub bytes : new ≡ cond (fits (length old) at (length t)) (over old at t) old
+
+-- whether twenty bytes, as many as a number has at most, lie before a place of a buffer of this size
+abbrev pub twentyBefore : ℕ → ℕ → Bool
+twentyBefore size end = cond (leb 20 end) (leb end size) false
+
+-- the text t of a number was put before a place: if twenty bytes lie before it, the buffer holds the text there and the answer is
+-- where it starts; if not, the answer is the place itself and the buffer is as it was
+pub record PutBefore (old : List ℕ) (end : ℕ) (t new : List ℕ) (r : ℕ) : Type 0 where
+  pub answer : r ≡ cond (twentyBefore (length old) end) (end - length t) end
+  pub bytes : new ≡ cond (twentyBefore (length old) end) (over old (end - length t) t) old
+
+-- what decoding the digits s into a buffer does: their bytes stand at its start, or it is as it was
+pub data DecodedOf (s old new : List ℕ) : Decoded → Type 0 where
+  decoded : (bs : List ℕ) → Spells s bs → length bs ≤ length old → new ≡ over old 0 bs → DecodedOf s old new (Bytes (length bs))
+  noRoom : (bs : List ℕ) → Spells s bs → length old < length bs → new ≡ old → DecodedOf s old new NoRoom
+  noData : (IsData s → ⊥) → new ≡ old → DecodedOf s old new Wrong
+
+-- r is the number that the hex digit b stands for
+pub record IsNibble (b r : ℕ) : Type 0 where
+  pub stands : digit r ≡ b
+  pub small : r < 16

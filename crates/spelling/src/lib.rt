@@ -1,0 +1,248 @@
+// Numbers in decimal and bytes in hex, as the journal and the listing spell them (N and H of the scope).
+//
+// Reading and printing are promised by the same two definitions, `decimal` and `hex` of specs/, so what is printed is read
+// back as it was, and what is read prints as it stood.
+ghost use mathlib.Core.Path.{_≡_};
+ghost use Prim.Native.Nat.{_+_, _<_};
+ghost use lib.ListN.{length, drop};
+ghost use Rattle.spelling.specs.Bytes.{upTo};
+ghost use Rattle.spelling.specs.Decimal.{decimal, NumberOf};
+ghost use Rattle.spelling.specs.Hex.{digit, hex, DataTest, HexDigit, HexTest};
+ghost use Rattle.spelling.specs.Over.{fits, PutAt, PutBefore, DecodedOf, IsNibble};
+
+// Where the next byte `stop` stands, from `at` on, or else the end: a blank ends a value, a newline a line.
+pub fn run_end(s: &[u8], at: usize, stop: u8) -> usize
+    ensures { λ r. ⌜ r ≡ at + length (upTo stop (drop at (now (s .entry)))) ⌝ }
+{
+    let mut i = at;
+    while i < s.len() {
+        if s[i] == stop {
+            return i;
+        }
+        i += 1;
+    }
+    i
+}
+
+// What reading a number finds: its value, or that the bytes are no number.
+pub enum Number {
+    Value(u32),
+    Wrong,
+}
+
+// A byte as a wider number.
+fn wide(b: u8) -> u64
+    ensures { λ r. ⌜ r ≡ b ⌝ }
+{
+    b as u64
+}
+
+// The number that the whole of `s` spells: digits without a leading zero, at most 4,294,967,295.
+pub fn read_number(s: &[u8]) -> Number
+    ensures { λ r. ⌜ NumberOf (now (s .entry)) r ⌝ }
+{
+    if s.len() == 0 {
+        return Number::Wrong;
+    }
+    let first = s[0];
+    if first < b'0' {
+        return Number::Wrong;
+    }
+    if b'9' < first {
+        return Number::Wrong;
+    }
+    let mut v = wide(first - b'0');
+    let mut i: usize = 1;
+    while i < s.len() {
+        let b = s[i];
+        if b < b'0' {
+            return Number::Wrong;
+        }
+        if b'9' < b {
+            return Number::Wrong;
+        }
+        if v == 0 {
+            return Number::Wrong;
+        }
+        v = v * 10 + wide(b - b'0');
+        if 4294967295 < v {
+            return Number::Wrong;
+        }
+        i += 1;
+    }
+    Number::Value(v as u32)
+}
+
+// Whether a byte is a lower-case hex digit.
+pub fn is_hex(b: u8) -> bool
+    ensures { λ r. ⌜ HexTest b r ⌝ }
+{
+    if b < b'0' {
+        return false;
+    }
+    if b <= b'9' {
+        return true;
+    }
+    if b < b'a' {
+        return false;
+    }
+    if b <= b'f' {
+        return true;
+    }
+    false
+}
+
+// Whether the whole of `s` is data: one pair of hex digits or more.
+pub fn is_data(s: &[u8]) -> bool
+    ensures { λ r. ⌜ DataTest (now (s .entry)) r ⌝ }
+{
+    if s.len() == 0 {
+        return false;
+    }
+    if s.len() % 2 == 1 {
+        return false;
+    }
+    let mut i: usize = 0;
+    while i < s.len() {
+        if !is_hex(s[i]) {
+            return false;
+        }
+        i += 1;
+    }
+    true
+}
+
+// What putting a text into a buffer answers: the place after the text, or that it does not fit.
+pub enum Put {
+    End(usize),
+    Short,
+}
+
+// Whether `n` bytes fit at a place of a buffer of `size` bytes.
+fn has_room(size: usize, at: usize, n: usize) -> bool
+    ensures { λ r. ⌜ r ≡ fits size at n ⌝ }
+{
+    if size < n {
+        return false;
+    }
+    if size - n < at {
+        return false;
+    }
+    true
+}
+
+// A text as it stands, into a lent buffer at a place. Where it does not fit, the buffer is left as it was.
+pub fn put_text(out: &mut [u8], at: usize, text: &[u8]) -> Put
+    ensures { λ r. ⌜ PutAt (now (out .entry)) at (now (text .entry)) (now (out .exit)) r ⌝ }
+{
+    if !has_room(out.len(), at, text.len()) {
+        return Put::Short;
+    }
+    let mut i: usize = 0;
+    while i < text.len() {
+        out[at + i] = text[i];
+        i += 1;
+    }
+    Put::End(at + i)
+}
+
+// A number in decimal, the last digit just before a place of a lent buffer; the answer is where the first digit stands. A
+// number has at most twenty digits: where fewer bytes lie before the place, or it lies past the buffer's end, the buffer is
+// left as it was and the answer is the place itself.
+pub fn put_number_before(out: &mut [u8], end: usize, n: u64) -> usize
+    ensures { λ r. ⌜ PutBefore (now (out .entry)) end (decimal n) (now (out .exit)) r ⌝ }
+{
+    if end < 20 {
+        return end;
+    }
+    if out.len() < end {
+        return end;
+    }
+    let mut k = end;
+    let mut m = n;
+    while 10 <= m {
+        k -= 1;
+        out[k] = b'0' + (m % 10) as u8;
+        m = m / 10;
+    }
+    k -= 1;
+    out[k] = b'0' + (m % 10) as u8;
+    k
+}
+
+// A number in decimal, into a lent buffer at a place. Where it does not fit, the buffer is left as it was.
+pub fn put_number(out: &mut [u8], at: usize, n: u64) -> Put
+    ensures { λ r. ⌜ PutAt (now (out .entry)) at (decimal n) (now (out .exit)) r ⌝ }
+{
+    let mut digits = [0u8; 20];
+    let k = put_number_before(&mut digits, 20, n);
+    put_text(out, at, &digits[k..20])
+}
+
+// The hex digit of a number below 16.
+fn hex_digit(d: u8) -> u8
+    requires { ⌜ d < 16 ⌝ }
+    ensures { λ r. ⌜ r ≡ digit d ⌝ }
+{
+    if d < 10 { b'0' + d } else { 87 + d }
+}
+
+// Bytes in hex, two digits a byte, into a lent buffer at a place. Where they do not fit, the buffer is left as it was.
+pub fn put_hex(out: &mut [u8], at: usize, bytes: &[u8]) -> Put
+    ensures { λ r. ⌜ PutAt (now (out .entry)) at (hex (now (bytes .entry))) (now (out .exit)) r ⌝ }
+{
+    if out.len() / 2 < bytes.len() {
+        return Put::Short;
+    }
+    if !has_room(out.len(), at, 2 * bytes.len()) {
+        return Put::Short;
+    }
+    let mut i: usize = 0;
+    let mut p = at;
+    while i < bytes.len() {
+        let b = bytes[i];
+        out[p] = hex_digit(b / 16);
+        out[p + 1] = hex_digit(b % 16);
+        p += 2;
+        i += 1;
+    }
+    Put::End(p)
+}
+
+// What decoding data answers: how many bytes they spell, that the buffer is too short for them, or that they are no data, the
+// scope's refusal 13.
+pub enum Decoded {
+    Bytes(usize),
+    NoRoom,
+    Wrong,
+}
+
+// The number that a hex digit stands for.
+fn nibble(b: u8) -> u8
+    requires { ⌜ HexDigit b ⌝ }
+    ensures { λ r. ⌜ IsNibble b r ⌝ }
+{
+    if b < 58 { b - b'0' } else { b - 87 }
+}
+
+// The bytes that data spell, to the start of a lent buffer. Where they do not fit, or there are none, it is left as it was.
+pub fn decode(out: &mut [u8], s: &[u8]) -> Decoded
+    ensures { λ r. ⌜ DecodedOf (now (s .entry)) (now (out .entry)) (now (out .exit)) r ⌝ }
+{
+    if !is_data(s) {
+        return Decoded::Wrong;
+    }
+    if out.len() < s.len() / 2 {
+        return Decoded::NoRoom;
+    }
+    let mut i: usize = 0;
+    let mut p: usize = 0;
+    while p < s.len() {
+        let high = nibble(s[p]);
+        let low = nibble(s[p + 1]);
+        out[i] = high * 16 + low;
+        i += 1;
+        p += 2;
+    }
+    Decoded::Bytes(i)
+}

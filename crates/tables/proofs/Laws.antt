@@ -1,0 +1,55 @@
+-- Laws of tests and refusals: what a rule that does not apply says.
+use Prim.Native.Nat.{ℕ}
+use mathlib.Core.Path.{_≡_}
+use mathlib.Core.Bool.{Bool, true, false}
+use mathlib.Core.List.{[]}
+use lib.Dec.{lit<}
+use Rattle.protocol.specs.Pick.{pick, both, fails}
+use Rattle.protocol.specs.Stamps.{fits}
+use Rattle.protocol.specs.Machine.{Pieces}
+use Rattle.protocol.specs.Refusals.{isOwned, isEmpty, isAsked, storePasses, servePasses, stateRules, stateRefusal}
+use Rattle.protocol.proofs.Refusals.{not-true, passed}
+use Rattle.protocol.specs.declared.Stamp.{Stamp}
+use Rattle.protocol.specs.declared.Copy.{Copy}
+use Rattle.protocol.specs.declared.Copy.the-variants.{Owned as CopyOwned}
+use Rattle.protocol.specs.declared.Want.{Want}
+use Rattle.protocol.specs.declared.Want.the-variants.{Load as WantLoad}
+use Rattle.protocol.specs.declared.Held.{Held}
+use Rattle.protocol.specs.declared.Slot.the-variants.{Asked}
+use Rattle.protocol.specs.declared.Manager.{Manager}
+use Rattle.protocol.specs.declared.Manager.the-variants.{Shared}
+use Rattle.protocol.specs.declared.Call.{Call}
+use Rattle.protocol.specs.declared.Call.the-variants.{Store, Advance, Serve}
+
+-- what holds of both values holds of the one that is picked
+pub picked : {A : Type 0} (P : A → Type 0) (b : Bool) {x y : A} → P x → P y → P (pick b x y)
+picked P true p q = p
+picked P false p q = q
+
+-- what each call that adds to a timestamp may go by where it is not refused: no sum passes the greatest
+pub store-spared : {call : Call} {c l : ℕ} (p : Pieces) (lease : ℕ) → call ≡ Store c l → stateRefusal call p lease ≡ 0 → storePasses (p .copy) ≡ false
+unfolding stateRefusal stateRules
+store-spared p lease e h =
+    passed (storePasses (p .copy)) 27 [] (lit< tt) (passed (both (fails (isOwned (p .copy))) (fails (isEmpty (p .core .slot)))) 20 _ (lit< tt) (rw e at h) .1) .0
+
+pub advance-spared : {call : Call} {c by : ℕ} (p : Pieces) (lease : ℕ) → call ≡ Advance c by → stateRefusal call p lease ≡ 0 → fits (p .core .clocks .lts) by ≡ true
+unfolding stateRefusal stateRules
+advance-spared {by = by} p lease e h =
+    not-true (fits (p .core .clocks .lts) by) (passed (fails (fits (p .core .clocks .lts) by)) 27 [] (lit< tt) (rw e at h) .0)
+
+pub serve-spared :
+    {call : Call} {c : ℕ} (p : Pieces) (lease : ℕ) → call ≡ Serve c → stateRefusal call p lease ≡ 0
+    → servePasses (p .core .slot) (p .line .manager) lease ≡ false
+unfolding stateRefusal stateRules
+serve-spared p lease e h =
+    passed (servePasses (p .core .slot) (p .line .manager) lease) 27 [] (lit< tt) (passed (fails (isAsked (p .core .slot))) 21 _ (lit< tt) (rw e at h) .1) .0
+
+-- a store to an owned copy that is not refused: rts + 1 fits
+pub store-fits : {x : Copy} {w r : Stamp} {d : Bool} → x ≡ CopyOwned w r d → storePasses x ≡ false → fits r 1 ≡ true
+store-fits {r = r} e h = not-true (fits r 1) (rw e at h)
+
+-- a load served on a shared line that is not refused: the asked lts + lease fits
+pub lease-fits :
+    (a : Want) (l : ℕ) (t : Stamp) (h : Held) (m : Manager) (lease : ℕ) {w r : Stamp} → a ≡ WantLoad → m ≡ Shared w r
+    → servePasses (Asked a l t h) m lease ≡ false → fits t lease ≡ true
+lease-fits a l t h m lease e f p = not-true (fits t lease) (rw (e, f) at p)

@@ -1,0 +1,61 @@
+// The step tables as code, on one core, one private copy and one manager's line by value.
+//
+// `effect` is the table of a call with the refusals 20 to 27: what the call answers, what becomes of
+// the three pieces, and which line of bytes moves. The definitions that it is equal to are those of
+// `protocol`; there are no arrays and no buffers here. A core's clocks are changed only by the
+// methods of `Clocks`.
+mod refusals;
+mod rows;
+
+ghost use mathlib.Core.Path.{_≡_};
+ghost use Rattle.protocol.specs.Tables.{effectOf};
+ghost use Rattle.tables.specs.Number.{numberOf};
+use protocol::Answer;
+use protocol::Call;
+use protocol::Copy;
+use protocol::Core;
+use protocol::Effect;
+use protocol::Line;
+
+// What a call makes of the pieces that it looks at: the row of its table, or the number that it is
+// refused with and the pieces as they are.
+pub fn effect(call: Call, core: Core, copy: Copy, line: Line, lease: u32) -> Effect
+    ensures { λ r. ⌜ r ≡ effectOf call (record { core = core; copy = copy; line = line }) lease ⌝ }
+{
+    let number = refusals::of_call(call, core, copy, line, lease);
+    if number != 0 {
+        return rows::refused(number, core, copy, line);
+    }
+    rows::of_call(call, core, copy, line, lease)
+}
+
+// The number of a refusal; 0 for any other answer.
+pub fn number_of(answer: Answer) -> u8
+    ensures { λ r. ⌜ r ≡ numberOf answer ⌝ }
+{
+    match answer {
+        Answer::Refused(n) => n,
+        Answer::Open => 0,
+        Answer::Ask => 0,
+        Answer::Recall => 0,
+        Answer::Share => 0,
+        Answer::Renew => 0,
+        Answer::Own => 0,
+        Answer::Drop => 0,
+        Answer::Evict => 0,
+        Answer::Advance => 0,
+        Answer::Yield => 0,
+        Answer::Take => 0,
+        Answer::CommitLoad {
+            core: _,
+            line: _,
+            ts: _,
+        } => 0,
+        Answer::CommitStore {
+            core: _,
+            line: _,
+            ts: _,
+        } => 0,
+        Answer::CommitFence { core: _, ts: _ } => 0,
+    }
+}
