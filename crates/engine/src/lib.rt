@@ -162,7 +162,7 @@ pub fn show<'a>(s: State, private: &'a [u8], shared: &'a [u8], core: usize, line
 }
 
 // The line that a slot speaks of.
-fn slot_line(slot: Slot) -> usize
+pub fn slot_line(slot: Slot) -> usize
     ensures { λ r. ⌜ r ≡ slotLine slot ⌝ }
 {
     match slot {
@@ -183,7 +183,7 @@ fn slot_line(slot: Slot) -> usize
 }
 
 // The core that owns a line.
-fn owner_of(manager: Manager) -> usize
+pub fn owner_of(manager: Manager) -> usize
     ensures { λ r. ⌜ r ≡ ownerOf manager ⌝ }
 {
     match manager {

@@ -1,0 +1,83 @@
+-- A text put at a place of the output: what is written before it and past it.
+use Prim.Native.Nat.{ℕ, _+_, _-_, _≤_, _<_}
+use mathlib.Core.Path.{_≡_, refl, sym, _∙_, ap}
+use mathlib.Core.Bool.{Bool, true, false, cond}
+use mathlib.Core.List.{[], _++_, append-assoc}
+use native.Mathlib.Omega.{arith}
+use lib.ListN.{length, take, drop, length-append, length-take, length-drop}
+use lib.Seq.{drop-at, take-at}
+use borrow.Author.Tests.{leb-true, leb-false}
+use Rattle.protocol.specs.Buffers.{Bytes}
+use Rattle.spelling.specs.Over.{fits, over, PutAt}
+use Rattle.protocol.specs.Step.{refused, meaning}
+use Rattle.protocol.specs.declared.Answer.the-variants.{Refused}
+use Rattle.protocol.specs.declared.Place.{Place}
+use Rattle.spelling.specs.declared.Put.{Put}
+use Rattle.spelling.specs.declared.Put.the-variants.{End, Short}
+use Rattle.listing.specs.Record.{recordText, endText}
+use Rattle.listing.proofs.Lengths.{record-length, end-length}
+
+-- a text that was put: the place after it, the output up to there, and the output past it
+pub record Written (old : Bytes) (at : ℕ) (t new : Bytes) (e : ℕ) : Type 0 where
+  pub room : at + length t ≤ length old
+  pub end : e ≡ at + length t
+  pub size : length new ≡ length old
+  pub before : take e new ≡ take at old ++ t
+  pub beyond : drop e new ≡ drop e old
+
+pub over-written : (old : Bytes) (at : ℕ) (t : Bytes) → at + length t ≤ length old → Written old at t (over old at t) (at + length t)
+over-written old at t h =
+    let n : length (take at old ++ t) ≡ at + length t = simp (length-append, length-take) (omega arith) in
+    let a : over old at t ≡ (take at old ++ t) ++ drop (at + length t) old = sym (append-assoc (take at old) t (drop (at + length t) old)) in
+    record {
+      room = h;
+      end = refl;
+      size = simp (length-append, length-take, length-drop) (omega arith);
+      before = ap (take (at + length t)) a ∙ take-at (take at old ++ t) (drop (at + length t) old) (at + length t) n;
+      beyond = ap (drop (at + length t)) a ∙ drop-at (take at old ++ t) (drop (at + length t) old) (at + length t) n;
+    }
+
+-- the text was put
+pub put-written : {old : Bytes} {at : ℕ} {t new : Bytes} {r : Put} {e : ℕ} → PutAt old at t new r → r ≡ End e → Written old at t new e
+put-written {old} {at} {t} {new} {r} {e} p x = go (fits (length old) at (length t)) refl (p .answer) (p .bytes)
+  where
+    go : (b : Bool) → fits (length old) at (length t) ≡ b → r ≡ cond b (End (at + length t)) Short → new ≡ cond b (over old at t) old → Written old at t new e
+    go true h a n =
+        let q : at + length t ≡ e = cc in
+        rw (n, sym q) (over-written old at t (leb-true _ _ h))
+    go false h a n = absurd (let z : _≡_ {A = ℕ} 0 1 = cc in omega arith)
+
+-- there was no room for it, and the output is as it was
+pub put-short : {old : Bytes} {at : ℕ} {t new : Bytes} {r : Put} → PutAt old at t new r → r ≡ Short → (length old < at + length t) × (new ≡ old)
+put-short {old} {at} {t} {new} {r} p x = go (fits (length old) at (length t)) refl (p .answer) (p .bytes)
+  where
+    go : (b : Bool) → fits (length old) at (length t) ≡ b → r ≡ cond b (End (at + length t)) Short → new ≡ cond b (over old at t) old → (length old < at + length t) × (new ≡ old)
+    go true h a n = absurd (let z : _≡_ {A = ℕ} 0 1 = cc in omega arith)
+    go false h a n = (leb-false _ _ h, n)
+
+-- ---- the last lines of a run that a refused line ends
+
+-- a `refused=` line is short
+refused-length : (p : Place) (n : ℕ) → length (recordText p (refused n)) ≤ 118
+unfolding meaning
+refused-length p n = omega (arith, record-length p (Refused n) [])
+
+module _ {old : Bytes} (p : Place) (n a b c : ℕ) (size : length old ≡ 256) where
+  -- the first of them has room in a buffer of 256 bytes
+  pub first-fits : {new : Bytes} {r : Put} → PutAt old 0 (recordText p (refused n)) new r → r ≡ Short → ⊥
+  first-fits w e = let h = put-short w e in omega (arith, h .0, refused-length p n)
+
+  module _ {mid : Bytes} {r : Put} {e : ℕ} (w : PutAt old 0 (recordText p (refused n)) mid r) (h : r ≡ End e) where
+    one : Written old 0 (recordText p (refused n)) mid e
+    one = put-written w h
+
+    -- and so has the other
+    pub second-fits : {new : Bytes} {q : Put} → PutAt mid e (endText a b c) new q → q ≡ Short → ⊥
+    second-fits v x = let k = put-short v x in omega (arith, k .0, refused-length p n, end-length a b c, one .end, one .size)
+
+    pub last-place : {new : Bytes} {q : Put} {f : ℕ} → PutAt mid e (endText a b c) new q → q ≡ End f → f ≤ length new
+    last-place v x = let k = put-written v x in omega (arith, k .room, k .end, k .size)
+
+    -- the text up to the place after both
+    pub last-text : {new : Bytes} {q : Put} {f : ℕ} → PutAt mid e (endText a b c) new q → q ≡ End f → take (f - 0) new ≡ recordText p (refused n) ++ endText a b c
+    last-text {new} {f = f} v x = let k = put-written v x in let z : f - 0 ≡ f = omega arith in ap (λ (i : ℕ). take i new) z ∙ k .before ∙ ap (λ (l : Bytes). l ++ endText a b c) (one .before)

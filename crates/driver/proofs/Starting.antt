@@ -1,0 +1,85 @@
+-- The first line: an engine is opened and its line written, or the whole listing is written, or there is no room.
+use Prim.Native.Nat.{ℕ}
+use mathlib.Core.Path.{_≡_, refl, subst}
+use mathlib.Core.Bool.{Bool, true, false}
+use native.Mathlib.Omega.{arith}
+use Rattle.protocol.specs.Pick.{first}
+use Rattle.protocol.specs.Limits.{openingFits}
+use Rattle.protocol.specs.Buffers.{Bytes}
+use Rattle.protocol.specs.Refusals.{openRefusal}
+use Rattle.protocol.specs.Step.{«open», done, openReply}
+use Rattle.protocol.specs.Run.{place}
+use Rattle.protocol.specs.declared.Opening.{Opening as Sizes}
+use Rattle.spelling.specs.Over.{PutAt}
+use Rattle.spelling.specs.declared.Put.{Put}
+use Rattle.spelling.specs.declared.Put.the-variants.{End, Short}
+use Rattle.journal.specs.Journal.{NextOf}
+use Rattle.journal.specs.declared.Next.the-variants.{Opening}
+use Rattle.listing.specs.Record.{recordText}
+use Rattle.driver.specs.Listing.{NotOpened, outside, notOpened}
+use Rattle.driver.specs.Play.{Begins, opens, fails, noRoom, noRoomToEnd, Starts}
+use Rattle.driver.specs.Pieces.{Puts, turnedBy, openedBy}
+use Rattle.driver.specs.declared.Standing.{Standing}
+use Rattle.driver.specs.declared.Progress.{Progress}
+use Rattle.driver.specs.declared.Progress.the-variants.{More}
+use Rattle.driver.specs.declared.Played.{Played}
+use Rattle.driver.proofs.Putting.{put-written, put-short}
+
+-- what the test of the limits says of 7
+open-fits : (o : Sizes) → openingFits o ≡ true → openRefusal o ≡ 0
+unfolding openRefusal first
+open-fits o e = rw e
+
+open-outside : (o : Sizes) → openingFits o ≡ false → openRefusal o ≡ 7
+unfolding openRefusal first
+open-outside o e = rw e
+
+-- sizes or lease outside the limits
+pub turned-outside : {j : Bytes} {form next : ℕ} {o : Sizes} → NextOf j 0 0 (Opening form o next) → openingFits o ≡ false → NotOpened j 7
+turned-outside {j} {o = o} x e =
+    let n = open-outside o e in subst (NotOpened j) n (outside x (λ z. omega (arith, n, z)))
+
+-- no engine is opened
+module _ {j old new : Bytes} {n : ℕ} {r : Played} (x : NotOpened j n) (u : Puts (notOpened n) turnedBy old new r) where
+  away : (p : Put) → PutAt old 0 (notOpened n) new p → r ≡ turnedBy p → Starts j old new r
+  away (End e) w f =
+      let v = put-written w refl in
+      rw f (record { within = omega (arith, v .room, v .end, v .size); beyond = v .beyond; begins = fails x refl (v .before) })
+  away Short w f =
+      let h = put-short w refl in
+      rw (f, h .1) (record { within = omega arith; beyond = refl; begins = noRoomToEnd x refl refl (omega (arith, h .0)) })
+
+  pub starts-away : Starts j old new r
+  starts-away = away (u .put) (u .text) (u .played)
+
+-- an engine is opened
+module _ {j old new : Bytes} {form next : ℕ} {o : Sizes} {r : Played} (x : NextOf j 0 0 (Opening form o next)) (f : openingFits o ≡ true) (u : Puts (recordText (place 0) (done «open»)) (openedBy next form o) old new r) where
+  reply : openReply o ≡ done «open»
+  reply = rw (open-fits o f)
+
+  begun : (p : Put) → PutAt old 0 (recordText (place 0) (openReply o)) new p → r ≡ openedBy next form o p → Starts j old new r
+  begun (End e) w g =
+      let v = put-written w refl in
+      rw g (record { within = omega (arith, v .room, v .end, v .size); beyond = v .beyond; begins = opens x (open-fits o f) refl (v .before) })
+  begun Short w g =
+      let h = put-short w refl in
+      rw (g, h .1) (record { within = omega arith; beyond = refl; begins = noRoom x (open-fits o f) refl refl (omega (arith, h .0)) })
+
+  pub starts-open : Starts j old new r
+  starts-open = begun (u .put) (rw reply (u .text)) (u .played)
+
+-- ---- what a caller of `start` knows
+
+begun-fits : {j : Bytes} {there : Standing} {text : Bytes} {room : ℕ} {g : Progress} → Begins j there text room g → g ≡ More → openingFits (there .state .opening) ≡ true
+begun-fits (opens {o = o} x h t u) e = rw t (go (openingFits o) refl)
+  where
+    go : (b : Bool) → openingFits o ≡ b → openingFits o ≡ true
+    go true f = f
+    go false f = absurd (omega (arith, open-outside o f, h))
+begun-fits (fails n t u) e = absurd (let z : _≡_ {A = ℕ} 0 1 = cc in omega arith)
+begun-fits (noRoom x h t u r) e = absurd (let z : _≡_ {A = ℕ} 0 1 = cc in omega arith)
+begun-fits (noRoomToEnd n t u r) e = absurd (let z : _≡_ {A = ℕ} 0 1 = cc in omega arith)
+
+-- the sizes and the lease of the engine that is opened lie inside the limits
+pub start-fits : {j old new : Bytes} {r : Played} → Starts j old new r → r .progress ≡ More → openingFits (r .standing .state .opening) ≡ true
+start-fits s e = begun-fits (s .begins) e

@@ -1,0 +1,29 @@
+use Prim.Native.Nat.{_+_, _-_}
+use mathlib.Core.Path.{_≡_, sym, _∙_}
+use native.Mathlib.Omega.{arith}
+use Rattle.engine.proofs.Inside.{copy-most, copy-ends}
+use Rattle.driver.proofs.Decoding.{store-bytes, copy-bytes}
+use borrow.Author.Needs.{needs}
+use Rattle.driver.proofs.turn.put_answer.Statement.{statement}
+use Rattle.driver.proofs.turn.put_answer.Tie as tie
+
+returns : tie.Need-returns
+returns c = rw (store-bytes _ _ _ (sym (c .before .before .before .before .before .is-store .ensures) ∙ c .before .before .before .before .if1 .taken)) (c .before .before .put-record .ensures)
+
+add-end : tie.Need-add-end
+add-end c = let p = c .before .before .before .before .before .before .before .pre .0 in omega (arith, c .before .copy-start .ensures, copy-most p, p .width)
+
+part-put-record-end : tie.Need-part-put-record-end
+part-put-record-end c = let p = c .before .before .before .before .before .before .before .before .pre in omega (arith, c .before .before .copy-start .ensures, copy-ends (p .0), p .1)
+
+returns-2 : tie.Need-returns-2
+returns-2 c =
+    let r = c .before .before .before .before .before .before .copy-start .result in
+    let w = c .before .before .before .before .before .before .before .before .before .before .before .before .args .opening .width in
+    let n : r + w - r ≡ w = omega arith in
+    rw (copy-bytes _ _ _ (sym (c .before .before .before .before .before .before .before .before .is-store .ensures) ∙ c .before .before .before .before .before .before .before .if1 .left)) (rw (n, c .before .before .before .before .before .before .copy-start .ensures) at (c .before .before .put-record2 .ensures))
+
+pub put-answer-spec : {M : Type 1} → statement M
+put-answer-spec =
+    tie.close
+    (tie.spec (λ c κs. search needs) (λ c κs. search needs) (λ c. search needs) returns (λ c κs. search needs) add-end (λ c. search needs) (λ c. search needs) part-put-record-end (λ c κs. search needs) (λ c. search needs) returns-2)

@@ -1,0 +1,4 @@
+pub mod Listing
+pub mod Play
+pub mod Pieces
+pub mod Calls

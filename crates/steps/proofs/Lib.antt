@@ -1,0 +1,2 @@
+-- A law that two proofs cite.
+pub mod Telling
