@@ -11,7 +11,7 @@ JOURNAL = examples/sample.journal
 .PHONY: help run test bench memcheck install build
 
 help:
-	@sed -n 's/^# //p' Makefile
+	@sed -n 's/^# \(make .*\)/\1/p' Makefile
 
 # rt proves and builds only what changed.
 build:

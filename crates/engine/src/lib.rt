@@ -3,8 +3,8 @@
 // The state goes in by value and comes back by value, and both buffers are lent. Every function
 // takes any values at all and has no `requires`; a call that is refused hands back the state that it
 // got and leaves both buffers as they were. What each promises is an equation with `step`, `opened`
-// or `shown` of crate `protocol`. Callers write `d = load(d.state, ..)`: one copy of the state less
-// than by way of a local.
+// or `shown` of crate `protocol`. Callers write `d = load(d.state, ..)`, which saves a copy of the
+// state against one by way of a local.
 mod fit;
 mod places;
 
@@ -301,9 +301,8 @@ pub fn load(s: State, private: &mut [u8], shared: &mut [u8], core: usize, line: 
 {
     let call = Call::Load { core, line };
     let opening = s.opening;
-    let mut cores = s.core;
-    let mut cells = s.cell;
-    let mut lines = s.line;
+    let cores = s.core;
+    let lines = s.line;
     let n = input_refusal(call, opening, cores, lines, private.len(), shared.len(), 0);
     if n != 0 {
         return Done {
@@ -313,11 +312,12 @@ pub fn load(s: State, private: &mut [u8], shared: &mut [u8], core: usize, line: 
             state: s,
         };
     }
+    let mut next = s;
     let at = kept_at(opening, core, line);
     let i = at.cell;
-    let k = cores[core];
-    let e = cells[i];
-    let m = lines[line];
+    let k = next.core[core];
+    let e = next.cell[i];
+    let m = next.line[line];
     let t = turn_of(
         call,
         opening,
@@ -334,19 +334,14 @@ pub fn load(s: State, private: &mut [u8], shared: &mut [u8], core: usize, line: 
     let next_core = t.core;
     let next_cell = t.cell;
     let next_line = t.line;
-    cores[core] = next_core;
-    cells[i] = next_cell;
-    lines[line] = next_line;
+    next.core[core] = next_core;
+    next.cell[i] = next_cell;
+    next.line[line] = next_line;
     Done {
         answer,
         start: t.start,
         count: t.count,
-        state: State {
-            opening,
-            core: cores,
-            cell: cells,
-            line: lines,
-        },
+        state: next,
     }
 }
 
@@ -363,9 +358,8 @@ pub fn store(
 {
     let call = Call::Store { core, line };
     let opening = s.opening;
-    let mut cores = s.core;
-    let mut cells = s.cell;
-    let mut lines = s.line;
+    let cores = s.core;
+    let lines = s.line;
     let n = input_refusal(
         call,
         opening,
@@ -383,11 +377,12 @@ pub fn store(
             state: s,
         };
     }
+    let mut next = s;
     let at = kept_at(opening, core, line);
     let i = at.cell;
-    let k = cores[core];
-    let e = cells[i];
-    let m = lines[line];
+    let k = next.core[core];
+    let e = next.cell[i];
+    let m = next.line[line];
     let t = turn_with(
         call,
         opening,
@@ -405,19 +400,14 @@ pub fn store(
     let next_core = t.core;
     let next_cell = t.cell;
     let next_line = t.line;
-    cores[core] = next_core;
-    cells[i] = next_cell;
-    lines[line] = next_line;
+    next.core[core] = next_core;
+    next.cell[i] = next_cell;
+    next.line[line] = next_line;
     Done {
         answer,
         start: t.start,
         count: t.count,
-        state: State {
-            opening,
-            core: cores,
-            cell: cells,
-            line: lines,
-        },
+        state: next,
     }
 }
 
@@ -427,9 +417,8 @@ pub fn fence(s: State, private: &mut [u8], shared: &mut [u8], core: usize) -> Do
 {
     let call = Call::Fence { core };
     let opening = s.opening;
-    let mut cores = s.core;
-    let mut cells = s.cell;
-    let mut lines = s.line;
+    let cores = s.core;
+    let lines = s.line;
     let n = input_refusal(call, opening, cores, lines, private.len(), shared.len(), 0);
     if n != 0 {
         return Done {
@@ -439,12 +428,13 @@ pub fn fence(s: State, private: &mut [u8], shared: &mut [u8], core: usize) -> Do
             state: s,
         };
     }
+    let mut next = s;
     let line = 0;
     let at = kept_at(opening, core, line);
     let i = at.cell;
-    let k = cores[core];
-    let e = cells[i];
-    let m = lines[line];
+    let k = next.core[core];
+    let e = next.cell[i];
+    let m = next.line[line];
     let t = turn_of(
         call,
         opening,
@@ -461,19 +451,14 @@ pub fn fence(s: State, private: &mut [u8], shared: &mut [u8], core: usize) -> Do
     let next_core = t.core;
     let next_cell = t.cell;
     let next_line = t.line;
-    cores[core] = next_core;
-    cells[i] = next_cell;
-    lines[line] = next_line;
+    next.core[core] = next_core;
+    next.cell[i] = next_cell;
+    next.line[line] = next_line;
     Done {
         answer,
         start: t.start,
         count: t.count,
-        state: State {
-            opening,
-            core: cores,
-            cell: cells,
-            line: lines,
-        },
+        state: next,
     }
 }
 
@@ -483,9 +468,8 @@ pub fn evict(s: State, private: &mut [u8], shared: &mut [u8], core: usize, line:
 {
     let call = Call::Evict { core, line };
     let opening = s.opening;
-    let mut cores = s.core;
-    let mut cells = s.cell;
-    let mut lines = s.line;
+    let cores = s.core;
+    let lines = s.line;
     let n = input_refusal(call, opening, cores, lines, private.len(), shared.len(), 0);
     if n != 0 {
         return Done {
@@ -495,11 +479,12 @@ pub fn evict(s: State, private: &mut [u8], shared: &mut [u8], core: usize, line:
             state: s,
         };
     }
+    let mut next = s;
     let at = kept_at(opening, core, line);
     let i = at.cell;
-    let k = cores[core];
-    let e = cells[i];
-    let m = lines[line];
+    let k = next.core[core];
+    let e = next.cell[i];
+    let m = next.line[line];
     let t = turn_of(
         call,
         opening,
@@ -516,19 +501,14 @@ pub fn evict(s: State, private: &mut [u8], shared: &mut [u8], core: usize, line:
     let next_core = t.core;
     let next_cell = t.cell;
     let next_line = t.line;
-    cores[core] = next_core;
-    cells[i] = next_cell;
-    lines[line] = next_line;
+    next.core[core] = next_core;
+    next.cell[i] = next_cell;
+    next.line[line] = next_line;
     Done {
         answer,
         start: t.start,
         count: t.count,
-        state: State {
-            opening,
-            core: cores,
-            cell: cells,
-            line: lines,
-        },
+        state: next,
     }
 }
 
@@ -538,9 +518,8 @@ pub fn advance(s: State, private: &mut [u8], shared: &mut [u8], core: usize, by:
 {
     let call = Call::Advance { core, by };
     let opening = s.opening;
-    let mut cores = s.core;
-    let mut cells = s.cell;
-    let mut lines = s.line;
+    let cores = s.core;
+    let lines = s.line;
     let n = input_refusal(call, opening, cores, lines, private.len(), shared.len(), 0);
     if n != 0 {
         return Done {
@@ -550,12 +529,13 @@ pub fn advance(s: State, private: &mut [u8], shared: &mut [u8], core: usize, by:
             state: s,
         };
     }
+    let mut next = s;
     let line = 0;
     let at = kept_at(opening, core, line);
     let i = at.cell;
-    let k = cores[core];
-    let e = cells[i];
-    let m = lines[line];
+    let k = next.core[core];
+    let e = next.cell[i];
+    let m = next.line[line];
     let t = turn_of(
         call,
         opening,
@@ -572,19 +552,14 @@ pub fn advance(s: State, private: &mut [u8], shared: &mut [u8], core: usize, by:
     let next_core = t.core;
     let next_cell = t.cell;
     let next_line = t.line;
-    cores[core] = next_core;
-    cells[i] = next_cell;
-    lines[line] = next_line;
+    next.core[core] = next_core;
+    next.cell[i] = next_cell;
+    next.line[line] = next_line;
     Done {
         answer,
         start: t.start,
         count: t.count,
-        state: State {
-            opening,
-            core: cores,
-            cell: cells,
-            line: lines,
-        },
+        state: next,
     }
 }
 
@@ -594,9 +569,8 @@ pub fn serve(s: State, private: &mut [u8], shared: &mut [u8], core: usize) -> Do
 {
     let call = Call::Serve { core };
     let opening = s.opening;
-    let mut cores = s.core;
-    let mut cells = s.cell;
-    let mut lines = s.line;
+    let cores = s.core;
+    let lines = s.line;
     let n = input_refusal(call, opening, cores, lines, private.len(), shared.len(), 0);
     if n != 0 {
         return Done {
@@ -606,13 +580,14 @@ pub fn serve(s: State, private: &mut [u8], shared: &mut [u8], core: usize) -> Do
             state: s,
         };
     }
-    let k = cores[core];
+    let mut next = s;
+    let k = next.core[core];
     let slot = k.slot;
     let line = slot_line(slot);
     let at = kept_at(opening, core, line);
     let i = at.cell;
-    let e = cells[i];
-    let m = lines[line];
+    let e = next.cell[i];
+    let m = next.line[line];
     let t = turn_of(
         call,
         opening,
@@ -629,19 +604,14 @@ pub fn serve(s: State, private: &mut [u8], shared: &mut [u8], core: usize) -> Do
     let next_core = t.core;
     let next_cell = t.cell;
     let next_line = t.line;
-    cores[core] = next_core;
-    cells[i] = next_cell;
-    lines[line] = next_line;
+    next.core[core] = next_core;
+    next.cell[i] = next_cell;
+    next.line[line] = next_line;
     Done {
         answer,
         start: t.start,
         count: t.count,
-        state: State {
-            opening,
-            core: cores,
-            cell: cells,
-            line: lines,
-        },
+        state: next,
     }
 }
 
@@ -651,9 +621,8 @@ pub fn receive(s: State, private: &mut [u8], shared: &mut [u8], core: usize) -> 
 {
     let call = Call::Receive { core };
     let opening = s.opening;
-    let mut cores = s.core;
-    let mut cells = s.cell;
-    let mut lines = s.line;
+    let cores = s.core;
+    let lines = s.line;
     let n = input_refusal(call, opening, cores, lines, private.len(), shared.len(), 0);
     if n != 0 {
         return Done {
@@ -663,13 +632,14 @@ pub fn receive(s: State, private: &mut [u8], shared: &mut [u8], core: usize) -> 
             state: s,
         };
     }
-    let k = cores[core];
+    let mut next = s;
+    let k = next.core[core];
     let slot = k.slot;
     let line = slot_line(slot);
     let at = kept_at(opening, core, line);
     let i = at.cell;
-    let e = cells[i];
-    let m = lines[line];
+    let e = next.cell[i];
+    let m = next.line[line];
     let t = turn_of(
         call,
         opening,
@@ -686,19 +656,14 @@ pub fn receive(s: State, private: &mut [u8], shared: &mut [u8], core: usize) -> 
     let next_core = t.core;
     let next_cell = t.cell;
     let next_line = t.line;
-    cores[core] = next_core;
-    cells[i] = next_cell;
-    lines[line] = next_line;
+    next.core[core] = next_core;
+    next.cell[i] = next_cell;
+    next.line[line] = next_line;
     Done {
         answer,
         start: t.start,
         count: t.count,
-        state: State {
-            opening,
-            core: cores,
-            cell: cells,
-            line: lines,
-        },
+        state: next,
     }
 }
 
@@ -708,9 +673,8 @@ pub fn yield_line(s: State, private: &mut [u8], shared: &mut [u8], line: usize) 
 {
     let call = Call::Yield { line };
     let opening = s.opening;
-    let mut cores = s.core;
-    let mut cells = s.cell;
-    let mut lines = s.line;
+    let cores = s.core;
+    let lines = s.line;
     let n = input_refusal(call, opening, cores, lines, private.len(), shared.len(), 0);
     if n != 0 {
         return Done {
@@ -720,13 +684,14 @@ pub fn yield_line(s: State, private: &mut [u8], shared: &mut [u8], line: usize) 
             state: s,
         };
     }
-    let m = lines[line];
+    let mut next = s;
+    let m = next.line[line];
     let manager = m.manager;
     let core = owner_of(manager);
     let at = kept_at(opening, core, line);
     let i = at.cell;
-    let k = cores[core];
-    let e = cells[i];
+    let k = next.core[core];
+    let e = next.cell[i];
     let t = turn_of(
         call,
         opening,
@@ -743,19 +708,14 @@ pub fn yield_line(s: State, private: &mut [u8], shared: &mut [u8], line: usize) 
     let next_core = t.core;
     let next_cell = t.cell;
     let next_line = t.line;
-    cores[core] = next_core;
-    cells[i] = next_cell;
-    lines[line] = next_line;
+    next.core[core] = next_core;
+    next.cell[i] = next_cell;
+    next.line[line] = next_line;
     Done {
         answer,
         start: t.start,
         count: t.count,
-        state: State {
-            opening,
-            core: cores,
-            cell: cells,
-            line: lines,
-        },
+        state: next,
     }
 }
 
@@ -765,9 +725,8 @@ pub fn take(s: State, private: &mut [u8], shared: &mut [u8], line: usize) -> Don
 {
     let call = Call::Take { line };
     let opening = s.opening;
-    let mut cores = s.core;
-    let mut cells = s.cell;
-    let mut lines = s.line;
+    let cores = s.core;
+    let lines = s.line;
     let n = input_refusal(call, opening, cores, lines, private.len(), shared.len(), 0);
     if n != 0 {
         return Done {
@@ -777,12 +736,13 @@ pub fn take(s: State, private: &mut [u8], shared: &mut [u8], line: usize) -> Don
             state: s,
         };
     }
+    let mut next = s;
     let core = 0;
     let at = kept_at(opening, core, line);
     let i = at.cell;
-    let k = cores[core];
-    let e = cells[i];
-    let m = lines[line];
+    let k = next.core[core];
+    let e = next.cell[i];
+    let m = next.line[line];
     let t = turn_of(
         call,
         opening,
@@ -799,18 +759,13 @@ pub fn take(s: State, private: &mut [u8], shared: &mut [u8], line: usize) -> Don
     let next_core = t.core;
     let next_cell = t.cell;
     let next_line = t.line;
-    cores[core] = next_core;
-    cells[i] = next_cell;
-    lines[line] = next_line;
+    next.core[core] = next_core;
+    next.cell[i] = next_cell;
+    next.line[line] = next_line;
     Done {
         answer,
         start: t.start,
         count: t.count,
-        state: State {
-            opening,
-            core: cores,
-            cell: cells,
-            line: lines,
-        },
+        state: next,
     }
 }

@@ -135,28 +135,28 @@ pub fn move_bytes(
     match moves {
         Move::Still => {}
         Move::Store => {
-            let to = copy_start(opening, core, line);
-            line_bytes::put_line(private, to, given);
+            let copy = copy_start(opening, core, line);
+            line_bytes::put_line(private, copy, given);
         }
         Move::Answer => {
-            let to = answer_start(opening, core, line);
-            let from = manager_start(opening, core, line);
-            line_bytes::shift_line(shared, to, from, width);
+            let answer = answer_start(opening, core, line);
+            let manager = manager_start(opening, core, line);
+            line_bytes::shift_line(shared, answer, manager, width);
         }
         Move::Receive => {
-            let to = copy_start(opening, core, line);
-            let from = answer_start(opening, core, line);
-            line_bytes::move_line(private, to, shared, from, width);
+            let copy = copy_start(opening, core, line);
+            let answer = answer_start(opening, core, line);
+            line_bytes::move_line(private, copy, shared, answer, width);
         }
         Move::Writeback => {
-            let to = writeback_start(opening, core, line);
-            let from = copy_start(opening, core, line);
-            line_bytes::move_line(shared, to, private, from, width);
+            let writeback = writeback_start(opening, core, line);
+            let copy = copy_start(opening, core, line);
+            line_bytes::move_line(shared, writeback, private, copy, width);
         }
         Move::Take => {
-            let to = manager_start(opening, core, line);
-            let from = writeback_start(opening, core, line);
-            line_bytes::shift_line(shared, to, from, width);
+            let manager = manager_start(opening, core, line);
+            let writeback = writeback_start(opening, core, line);
+            line_bytes::shift_line(shared, manager, writeback, width);
         }
     }
 }

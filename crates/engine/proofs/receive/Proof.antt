@@ -15,8 +15,8 @@ mul-k c =
     let a = indices (allowed _ _ _ (sym (c .before .input-refusal .ensures) ∙ c .if1 .left)) in
     omega arith
 
-array-copy-out-k : tie.Need-array-copy-out-k
-array-copy-out-k c =
+element-copy-out-k : tie.Need-element-copy-out-k
+element-copy-out-k c =
     let a = indices (allowed _ _ _ (sym (c .before .input-refusal .ensures) ∙ c .if1 .left)) in
     omega arith
 
@@ -39,7 +39,7 @@ receive-spec =
     (λ c κs. search needs)
     returns
     mul-k
-    array-copy-out-k
+    element-copy-out-k
     (λ c κs. search needs)
     kept-at-requires
     (λ c. search needs)

@@ -15,8 +15,8 @@ mul-m c =
     let a = indices (allowed _ _ _ (sym (c .before .input-refusal .ensures) ∙ c .if1 .left)) in
     omega arith
 
-array-copy-out-m : tie.Need-array-copy-out-m
-array-copy-out-m c =
+element-copy-out-m : tie.Need-element-copy-out-m
+element-copy-out-m c =
     let a = indices (allowed _ _ _ (sym (c .before .input-refusal .ensures) ∙ c .if1 .left)) in
     omega arith
 
@@ -39,7 +39,7 @@ yield-line-spec =
     (λ c κs. search needs)
     returns
     mul-m
-    array-copy-out-m
+    element-copy-out-m
     (λ c κs. search needs)
     kept-at-requires
     (λ c. search needs)
