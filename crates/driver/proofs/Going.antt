@@ -25,9 +25,10 @@ use Rattle.spelling.specs.declared.Put.{Put}
 use Rattle.spelling.specs.declared.Put.the-variants.{End as PutEnd, Short as NoRoom}
 use Rattle.journal.specs.Journal.{NextOf}
 use Rattle.journal.specs.declared.Next.the-variants.{Step}
-use Rattle.engine.specs.Parts.{Placed}
-use Rattle.engine.specs.Moves.{Moves}
-use Rattle.engine.proofs.Scan.{both-hold}
+use Rattle.places.specs.Kept.{placeFits}
+use Rattle.places.specs.Moves.{Moves}
+use Rattle.places.proofs.Places.{place-placed}
+use Rattle.protocol.proofs.Tests.{both-true}
 use Rattle.listing.specs.Record.{recordText}
 use Rattle.driver.specs.Listing.{Ending, EndsAt, lines, isCommit, isRefusal, lastLines}
 use Rattle.driver.specs.Play.{countsOf, runFrom, stands, Leads, Piece, aStep, theEnd, done, more, Plays}
@@ -36,7 +37,7 @@ use Rattle.driver.specs.declared.Standing.{Standing}
 use Rattle.driver.specs.declared.Played.{Played}
 use Rattle.driver.proofs.Running.{given, leads-none, leads-more, lines-more}
 use Rattle.driver.proofs.Putting.{Written, put-written, put-short}
-use Rattle.driver.proofs.Turning.{commits-alike, refusals-alike, turned-away, named-here, private-here, core-here, placed-here, made-reply, made-machine, based-again}
+use Rattle.driver.proofs.Turning.{commits-alike, refusals-alike, turned-away, named-here, private-here, core-here, place-here, made-reply, made-machine, based-again}
 
 -- what was met is no more than the bytes before the place, which lies in the journal
 pub record Met (j : Bytes) (at steps commits refusals : ℕ) : Type 0 where
@@ -61,10 +62,10 @@ pub record Going (j : Bytes) (from : Standing) (p₀ q₀ old : Bytes) (z : Size
 
 pub met : (j : Bytes) (s : Standing) → stands (length j) s ≡ true → Met j (s .at) (s .steps .0) (s .commits) (s .refusals)
 met j s e =
-    let a = both-hold (fails (eqb (s .form) 0)) _ e in
-    let b = both-hold (leb (s .at) (length j)) _ (a .1) in
-    let d = both-hold (leb (s .steps .0) (s .at)) _ (b .1) in
-    let f = both-hold (leb (s .commits) (s .at)) _ (d .1) in
+    let a = both-true (fails (eqb (s .form) 0)) _ e in
+    let b = both-true (leb (s .at) (length j)) _ (a .1) in
+    let d = both-true (leb (s .steps .0) (s .at)) _ (b .1) in
+    let f = both-true (leb (s .commits) (s .at)) _ (d .1) in
     record { inside = leb-true _ _ (b .0); few-steps = leb-true _ _ (d .0); few-commits = leb-true _ _ (f .0); few-refusals = leb-true _ _ (f .1) }
 
 unnamed : (b : Bool) → fails b ≡ true → b ≡ false
@@ -76,7 +77,7 @@ unfolding run lines
 going-start j s p q old base e b =
     record {
       stands = e;
-      named = eqb-false _ 0 (unnamed _ (both-hold (fails (eqb (s .form) 0)) _ e .0));
+      named = eqb-false _ 0 (unnamed _ (both-true (fails (eqb (s .form) 0)) _ e .0));
       opening = refl;
       based = b;
       gs = [];
@@ -173,11 +174,11 @@ module _ {j : Bytes} {from : Standing} {p₀ q₀ old : Bytes} {z : Sizes} {base
         core-low = core-here s p q call (take count buf) base n (g .based) counts h c ec
 
         module _ (l : ℕ) (el : l ≡ lineBy call (coreAt s c .slot)) where
-          pub placed-low : Placed z c l
-          placed-low = rw (sym (g .opening)) (placed-here s p q call (take count buf) base n (g .based) counts h c ec l el)
+          pub place-low : placeFits z c l ≡ true
+          place-low = rw (sym (g .opening)) (place-here s p q call (take count buf) base n (g .based) counts h c ec l el)
 
           pub line-low : l < 64
-          line-low = let a = placed-low in omega (arith, a .line, a .lines)
+          line-low = let a = place-placed z c l place-low in omega (arith, a .line, a .lines)
 
           module _ (f : Effect) (ef : f ≡ effectOf call (piecesAt s c l) (z .lease)) where
             reply : step (machine s p q) call (take count buf) .reply ≡ meaning (f .answer) (commitBytes call (take count buf) (copyBytes z p c l))

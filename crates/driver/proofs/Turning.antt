@@ -1,12 +1,13 @@
 -- One turn of the driver's loop: what a call gives, from its pieces, and that refusals 1 and 2 stay as they were found.
 use Prim.Native.Nat.{ℕ, _≤_, _<_}
 use mathlib.Core.Path.{_≡_, refl, sym, _∙_, ap}
+use mathlib.Core.Bool.{Bool, true}
 use mathlib.Core.List.{[]}
 use native.Mathlib.Omega.{arith}
 use lib.ListN.{length, length-replicate}
 use borrow.Author.Tests.{eq-eqb}
 use Rattle.protocol.specs.Pick.{first}
-use Rattle.protocol.specs.Buffers.{Bytes, copyBytes, privateLength, movedPrivate, movedShared}
+use Rattle.protocol.specs.Buffers.{Bytes, copyBytes, privateLength, Placed, movedPrivate, movedShared}
 use Rattle.protocol.specs.Machine.{Machine, machine, coreAt, lineAt, piecesAt, coreOf, lineOf, written, applied}
 use Rattle.protocol.specs.Refusals.{ownerFits, slotFits, ownersFit, slotsFit, stateFits, buffersFit, machineRefusal, callRefusal, orElse}
 use Rattle.protocol.specs.Step.{Reply, refused, done, commit, meaning, commitBytes, Outcome, accepted, step}
@@ -19,12 +20,15 @@ use Rattle.protocol.specs.declared.Call.the-variants.{Load, Store, Fence, Evict
 use Rattle.protocol.specs.declared.Answer.{Answer}
 use Rattle.protocol.specs.declared.Answer.the-variants.{Refused, Open, Ask, Recall, Share, Renew, Own, Drop, Evict as AnswerEvict, Advance as AnswerAdvance, Yield as AnswerYield, Take as AnswerTake, CommitLoad, CommitStore, CommitFence}
 use Rattle.protocol.specs.declared.Effect.{Effect}
+use Rattle.protocol.proofs.Scan.{every-set}
+use Rattle.protocol.proofs.Places.{copy-ends}
+use Rattle.protocol.proofs.Refusals.{or-none, Fit, machine-fit, slot-inside, owner-inside, placed}
 use Rattle.tables.proofs.Keep.{effect-fits}
-use Rattle.engine.specs.Parts.{machineWith, inputRefusal, Placed}
-use Rattle.engine.specs.Moves.{Moves}
-use Rattle.engine.proofs.Scan.{every-set}
-use Rattle.engine.proofs.Inside.{neither, Fits, fitting, slot-inside, owner-inside, called, copy-ends}
-use Rattle.engine.proofs.Performing.{step-refused, step-accepted, Sound, effect-sound, effect-moves}
+use Rattle.refusals.specs.Input.{machineWith, inputRefusal}
+use Rattle.places.specs.Kept.{placeFits}
+use Rattle.places.specs.Moves.{Moves}
+use Rattle.places.proofs.Places.{placed-place}
+use Rattle.turns.proofs.Effects.{step-refused, step-accepted, Sound, effect-sound, effect-moves}
 use Rattle.driver.specs.Listing.{isCommit, isRefusal}
 use Rattle.driver.specs.Pieces.{namedLine, coreBy, lineBy, commitsOf, refusalsOf}
 
@@ -115,9 +119,9 @@ named-inside (Take l) s a = omega (arith, a .line, a .lines)
 
 -- ---- refusals 1 and 2
 
-fitted : (m : Machine) → Fits m → machineRefusal m ≡ 0
+fitted : (m : Machine) → Fit m → machineRefusal m ≡ 0
 unfolding machineRefusal first stateFits buffersFit
-fitted m f = rw (f .opening, f .owners, f .slots, eq-eqb _ _ (f .private), eq-eqb _ _ (f .shared))
+fitted m f = rw (f .opening, f .owners, f .slots, eq-eqb _ _ (f .nPrivate), eq-eqb _ _ (f .nShared))
 
 -- what is found by looking the state over, and the lengths of the buffers
 pub looked-over :
@@ -128,9 +132,9 @@ looked-over s p q n e = rw (length-replicate, length-replicate) at e
 
 -- the machine with the effect of a call written back fits again
 fits-again :
-    (s : State) (p q p' q' : Bytes) (call : Call) (n c l : ℕ) (d : Effect) → Fits (machine s p q) → Placed (s .opening) c l
+    (s : State) (p q p' q' : Bytes) (call : Call) (n c l : ℕ) (d : Effect) → Fit (machine s p q) → Placed (s .opening) c l
     → callRefusal call (s .opening) n ≡ 0 → d ≡ effectOf call (piecesAt s c l) (s .opening .lease) → length p' ≡ length p → length q' ≡ length q
-    → Fits (machine (written s c l d) p' q')
+    → Fit (machine (written s c l d) p' q')
 unfolding ownersFit slotsFit
 fits-again s p q p' q' call n c l d f a e ed lp lq =
     let k = effect-fits (s .opening) n (piecesAt s c l) (slot-inside f c (a .core)) (owner-inside f l (a .line)) call (s .opening .lease) e in
@@ -138,8 +142,8 @@ fits-again s p q p' q' call n c l d f a e ed lp lq =
       opening = f .opening;
       owners = every-set (λ (x : Line). ownerFits (s .opening .cores) (x .manager)) (s .line) (s .opening .lines) l (d .line) (f .owners) (rw ed (k .owner));
       slots = every-set (λ (x : Core). slotFits (s .opening .lines) (x .slot)) (s .core) (s .opening .cores) c (d .core) (f .slots) (rw ed (k .slot));
-      private = lp ∙ f .private;
-      shared = lq ∙ f .shared;
+      nPrivate = lp ∙ f .nPrivate;
+      nShared = lq ∙ f .nShared;
     }
 
 -- ---- a turn
@@ -155,16 +159,16 @@ module _ (s : State) (p q : Bytes) (call : Call) (bs : Bytes) (base n : ℕ) (eb
   -- a call that none of them refuses
   module _ (h : n ≡ 0) where
     none : (machineRefusal (machine s p q) ≡ 0) × (callRefusal call (s .opening) (length bs) ≡ 0)
-    none = neither (machineRefusal (machine s p q)) _ (sym input ∙ h)
+    none = or-none (machineRefusal (machine s p q)) _ (sym input ∙ h)
 
     here : Placed (s .opening) (coreOf call s) (lineOf call s)
-    here = called (fitting (machine s p q) (none .0)) call (length bs) (none .1)
+    here = placed (machine-fit (machine s p q) (none .0)) call (length bs) (none .1)
 
     pub named-here : namedLine call < 64
     named-here = named-inside call s here
 
     pub private-here : length p ≡ privateLength (s .opening)
-    private-here = fitting (machine s p q) (none .0) .private
+    private-here = machine-fit (machine s p q) (none .0) .nPrivate
 
     module _ (c : ℕ) (ec : c ≡ coreBy call (lineAt s (namedLine call) .manager)) where
       core-is : c ≡ coreOf call s
@@ -177,8 +181,11 @@ module _ (s : State) (p q : Bytes) (call : Call) (bs : Bytes) (base n : ℕ) (eb
         line-is : l ≡ lineOf call s
         line-is = rw core-is at el ∙ line-by call s
 
-        pub placed-here : Placed (s .opening) c l
+        placed-here : Placed (s .opening) c l
         placed-here = rw (core-is, line-is) here
+
+        pub place-here : placeFits (s .opening) c l ≡ true
+        place-here = placed-place (machine-fit (machine s p q) (none .0) .opening) placed-here
 
         module _ (d : Effect) (ed : d ≡ effectOf call (piecesAt s c l) (s .opening .lease)) where
           made : step (machine s p q) call bs ≡ accepted (machine s p q) call bs c l d
@@ -192,10 +199,9 @@ module _ (s : State) (p q : Bytes) (call : Call) (bs : Bytes) (base n : ℕ) (eb
             pub made-machine : machine (written s c l d) p' q' ≡ step (machine s p q) call bs .machine
             unfolding accepted applied
             made-machine =
-                let f = fitting (machine s p q) (none .0) in
-                let x = copy-ends placed-here in
+                let f = machine-fit (machine s p q) (none .0) in
                 let g : Sound (s .opening) c l bs p q call d =
-                rw ed (effect-sound (s .opening) c l bs p q call (piecesAt s c l) (s .opening .lease) (none .1) (rw (f .private) (omega arith))) in
+                rw ed (effect-sound (s .opening) c l bs p q call (piecesAt s c l) (s .opening .lease) (none .1) (rw (f .nPrivate) (copy-ends placed-here))) in
                 let r = effect-moves (machine s p q) call bs c l d f placed-here g in
                 let ep : p' ≡ movedPrivate (d .moves) (s .opening) c l bs p q = rw r at (v .private) in
                 let eq : q' ≡ movedShared (d .moves) (s .opening) c l p q = rw r at (v .shared) in
@@ -204,4 +210,4 @@ module _ (s : State) (p q : Bytes) (call : Call) (bs : Bytes) (base n : ℕ) (eb
             -- base is right for the machine after it
             pub based-again : length p' ≡ length p → length q' ≡ length q → base ≡ machineRefusal (machine (written s c l d) p' q')
             based-again lp lq =
-                eb ∙ none .0 ∙ sym (fitted _ (fits-again s p q p' q' call (length bs) c l d (fitting (machine s p q) (none .0)) placed-here (none .1) ed lp lq))
+                eb ∙ none .0 ∙ sym (fitted _ (fits-again s p q p' q' call (length bs) c l d (machine-fit (machine s p q) (none .0)) placed-here (none .1) ed lp lq))

@@ -128,7 +128,7 @@ pub fn play(
     let ks = s.core;
     let ls = s.line;
     let lease = z.lease;
-    let base = engine::machine_refusal(z, ks, ls, private.len(), shared.len());
+    let base = refusals::machine_refusal(z, ks, ls, private.len(), shared.len());
     loop {
         match journal::step_at(journal, at, form) {
             // No line after the first opens an engine.
@@ -222,7 +222,7 @@ pub fn play(
                         s.core[c] = core;
                         s.cell[i] = cell;
                         s.line[l] = line;
-                        engine::move_bytes(moves, z, private, shared, c, l, &bytes[0..count]);
+                        places::move_bytes(moves, z, private, shared, c, l, &bytes[0..count]);
                         used = e;
                         steps = met;
                         commits += turn::commits_of(answer);

@@ -1,15 +1,16 @@
 // The parts of one turn of the driver's loop. A function that has a `requires` says what the loop knows
 // where it calls it.
 ghost use mathlib.Core.Path.{_≡_};
+ghost use mathlib.Core.Bool.{true};
 ghost use mathlib.Core.List.{_++_};
 ghost use Prim.Native.Nat.{_+_, _-_, _≤_, _<_};
 ghost use lib.ListN.{length};
-ghost use Rattle.protocol.specs.Buffers.{part, privateLength, copyStart, copyBytes};
+ghost use Rattle.protocol.specs.Buffers.{part, privateLength, copyBytes};
 ghost use Rattle.protocol.specs.Refusals.{callRefusal, orElse};
 ghost use Rattle.protocol.specs.Step.{«open», refused, done, meaning, commitBytes};
 ghost use Rattle.protocol.specs.Run.{place};
 ghost use Rattle.spelling.specs.Over.{PutAt};
-ghost use Rattle.engine.specs.Parts.{Placed};
+ghost use Rattle.places.specs.Kept.{placeFits};
 ghost use Rattle.listing.specs.Record.{recordText, endText};
 ghost use Rattle.driver.specs.Listing.{notOpened};
 ghost use Rattle.driver.specs.Play.{nowhere};
@@ -60,7 +61,7 @@ pub(crate) fn core_of(call: Call, manager: Manager) -> usize
         Call::Advance { core, by: _ } => core,
         Call::Serve { core } => core,
         Call::Receive { core } => core,
-        Call::Yield { line: _ } => engine::owner_of(manager),
+        Call::Yield { line: _ } => turns::owner_of(manager),
         Call::Take { line: _ } => 0,
     }
 }
@@ -75,8 +76,8 @@ pub(crate) fn line_of(call: Call, slot: Slot) -> usize
         Call::Fence { core: _ } => 0,
         Call::Evict { core: _, line } => line,
         Call::Advance { core: _, by: _ } => 0,
-        Call::Serve { core: _ } => engine::slot_line(slot),
-        Call::Receive { core: _ } => engine::slot_line(slot),
+        Call::Serve { core: _ } => turns::slot_line(slot),
+        Call::Receive { core: _ } => turns::slot_line(slot),
         Call::Yield { line } => line,
         Call::Take { line } => line,
     }
@@ -89,7 +90,7 @@ pub(crate) fn number_of(base: u8, call: Call, opening: Opening, count: usize) ->
     if base != 0 {
         return base;
     }
-    engine::call_refusal(call, opening, count)
+    refusals::call_refusal(call, opening, count)
 }
 
 // How many commits an answer is: 1 or 0.
@@ -226,16 +227,6 @@ fn is_store(call: Call) -> bool
     }
 }
 
-// Where a core's copy of a line starts in the private buffer.
-fn copy_start(opening: Opening, core: usize, line: usize) -> usize
-    requires { ⌜ Placed opening core line ⌝ }
-    ensures { λ r. ⌜ r ≡ copyStart opening core line ⌝ }
-{
-    let lines = opening.lines;
-    let width = opening.width;
-    (core * lines + line) * width
-}
-
 // The line of a call's answer: a store's bytes are those given, a load's those of the copy.
 pub(crate) fn put_answer(
     out: &mut [u8],
@@ -249,13 +240,13 @@ pub(crate) fn put_answer(
     core: usize,
     line: usize,
 ) -> Put
-    requires { ⌜ Placed opening core line × (length (now «private») ≡ privateLength opening) ⌝ }
+    requires { ⌜ (placeFits opening core line ≡ true) × (length (now «private») ≡ privateLength opening) ⌝ }
     ensures { λ r. ⌜ PutAt (now (out .entry)) at (recordText place (meaning answer (commitBytes call (now (given .entry)) (copyBytes opening (now («private» .entry)) core line)))) (now (out .exit)) r ⌝ }
 {
     if is_store(call) {
         return listing::put_record(out, at, place, answer, given);
     }
-    let start = copy_start(opening, core, line);
+    let start = places::copy_start(opening, core, line);
     let end = start + opening.width;
     listing::put_record(out, at, place, answer, &private[start..end])
 }

@@ -15,9 +15,10 @@ use Rattle.protocol.specs.declared.State.{State}
 use Rattle.protocol.specs.declared.Call.the-variants.{Load}
 use Rattle.protocol.specs.declared.Buffer.the-variants.{Private as InPrivate, Shared as InShared}
 use Rattle.protocol.specs.declared.Shown.{Shown}
-use Rattle.engine.specs.Parts.{machineWith, inputRefusal}
+use Rattle.protocol.proofs.Places.{copy-ends, manager-ends}
+use Rattle.protocol.proofs.Refusals.{or-none, machine-fit, placed}
+use Rattle.refusals.specs.Input.{machineWith, inputRefusal}
 use Rattle.engine.specs.Calls.{bufferOf}
-use Rattle.engine.proofs.Inside.{neither, fitting, called, copy-ends, manager-ends}
 
 module _ (s : State) (p q : Bytes) (c l n : ℕ) (e : n ≡ inputRefusal (machineWith (s .opening) (s .core) (s .line) (length p) (length q)) (Load c l) 0) where
   here : n ≡ showRefusal (machine s p q) c l
@@ -53,12 +54,12 @@ unfolding shown
 shown-lies m c l =
     either (m .private) (m .shared) (eqb (showRefusal m c l) 0) _ _
     (λ e.
-    let a = neither (machineRefusal m) _ (eqb-true _ _ e) in
-    let f = fitting m (a .0) in
-    let g = called f (Load c l) 0 (a .1) in
+    let a = or-none (machineRefusal m) _ (eqb-true _ _ e) in
+    let f = machine-fit m (a .0) in
+    let g = placed f (Load c l) 0 (a .1) in
     either (m .private) (m .shared) (isHeld (copyAt (m .state) c l)) _ _
-    (λ h. let k = copy-ends g in (omega arith, rw (f .private) k))
-    (λ h. let k = manager-ends g in (omega arith, rw (f .shared) k)))
+    (λ h. let k = copy-ends g in (omega arith, rw (f .nPrivate) k))
+    (λ h. let k = manager-ends g in (omega arith, rw (f .nShared) k)))
     (λ e. (omega arith, omega arith))
 
 -- the same of a value that is that part

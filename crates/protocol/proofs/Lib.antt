@@ -1,6 +1,8 @@
 -- Laws that more than one proof cites, and the order theorem.
 pub mod Tests
+pub mod Scan
 pub mod Bytes
+pub mod Places
 pub mod Moves
 pub mod Refusals
 pub mod Order

@@ -1,19 +1,18 @@
 -- What is known where no refusal applies.
-use Prim.Native.Nat.{ℕ, zero, suc, _+_, _*_, _≤_, _<_}
+use Prim.Native.Nat.{ℕ, _≤_, _<_}
 use mathlib.Core.Path.{_≡_, refl, sym, _∙_}
 use mathlib.Core.Bool.{Bool, true, false}
 use mathlib.Core.List.{List, [], _∷_}
 use native.Mathlib.Omega.{arith}
-use native.Mathlib.Nat.{not-suc-le-zero, le-of-suc-le-suc}
-use lib.Dec.{ltb, leb, eqb}
-use borrow.Author.Tests.{ltb-true, leb-true, leb-false, eqb-true}
-use lib.ListN.{length, getD, take}
-use Rattle.protocol.specs.Pick.{pick, both, fails, every, Rule, first, _gives_}
-use Rattle.protocol.specs.Limits.{within, openingFits}
+use lib.Dec.{leb, eqb}
+use borrow.Author.Tests.{ltb-true, leb-false, eqb-true}
+use lib.ListN.{length}
+use Rattle.protocol.specs.Pick.{pick, fails, Rule, first, _gives_}
+use Rattle.protocol.specs.Limits.{openingFits}
 use Rattle.protocol.specs.Fresh.{freshCore, freshLine}
-use Rattle.protocol.specs.Buffers.{Bytes, privateLength, sharedLength}
+use Rattle.protocol.specs.Buffers.{privateLength, sharedLength, Placed}
 use Rattle.protocol.specs.Machine.{Machine, coreAt, lineAt, slotLine, ownerOf, coreOf, lineOf, piecesAt}
-use Rattle.protocol.specs.Refusals.{openRefusal, ownerFits, slotFits, ownersFit, slotsFit, stateFits, buffersFit, machineRefusal, callRules, callRefusal, stateRefusal, orElse, refusal}
+use Rattle.protocol.specs.Refusals.{openRefusal, ownerFits, slotFits, ownersFit, slotsFit, stateFits, buffersFit, machineRefusal, coreRule, lineRule, callRules, callRefusal, stateRefusal, orElse, refusal}
 use Rattle.protocol.specs.declared.Slot.{Slot}
 use Rattle.protocol.specs.declared.Slot.the-variants.{Empty, Asked, Answered}
 use Rattle.protocol.specs.declared.Core.{Core}
@@ -23,16 +22,15 @@ use Rattle.protocol.specs.declared.Line.{Line}
 use Rattle.protocol.specs.declared.Opening.{Opening}
 use Rattle.protocol.specs.declared.Call.{Call}
 use Rattle.protocol.specs.declared.Call.the-variants.{Load, Store, Fence, Evict, Advance, Serve, Receive, Yield, Take}
+use Rattle.protocol.proofs.Tests.{both-true}
+use Rattle.protocol.proofs.Scan.{every-at}
+use Rattle.protocol.proofs.Places.{Inside, inside, placed-at}
 
 -- ---- tests and rules
 
 pub not-true : (a : Bool) → fails a ≡ false → a ≡ true
 not-true true e = refl
 not-true false e = let z : _≡_ {A = ℕ} 0 1 = cc in absurd (omega arith)
-
-pub both-true : (a b : Bool) → both a b ≡ true → (a ≡ true) × (b ≡ true)
-both-true true b e = (refl, e)
-both-true false b e = let z : _≡_ {A = ℕ} 0 1 = cc in absurd (omega arith)
 
 -- a number that is not given, and what comes after it
 pub spared : (a : Bool) (n x : ℕ) → 0 < n → pick a n x ≡ 0 → (a ≡ false) × (x ≡ 0)
@@ -54,52 +52,7 @@ or-none a b e = go (eqb a 0) refl e
         zero-test : (a : ℕ) → a ≡ 0 → eqb a 0 ≡ true
         zero-test a i = rw i refl
 
--- a test of the first n elements holds of each of them
-pub every-at : {A : Type 0} (f : A → Bool) (xs : List A) (n i : ℕ) (d : A) → every f (take n xs) ≡ true → i < n → i < length xs
-    → f (getD xs i d) ≡ true
-unfolding every
-every-at f [] n i d e h k = absurd (not-suc-le-zero k)
-every-at f (x ∷ xs) zero i d e h k = absurd (not-suc-le-zero h)
-every-at f (x ∷ xs) (suc n) zero d e h k = both-true (f x) (every f (take n xs)) e .0
-every-at f (x ∷ xs) (suc n) (suc i) d e h k =
-    every-at f xs n i d (both-true (f x) (every f (take n xs)) e .1) (le-of-suc-le-suc h) (le-of-suc-le-suc k)
-
 -- ---- 1 and 2
-
--- sizes and lease inside the limits
-pub record Inside (o : Opening) : Type 0 where
-  pub someCores : 1 ≤ o .cores
-  pub mostCores : o .cores ≤ 16
-  pub someLines : 1 ≤ o .lines
-  pub mostLines : o .lines ≤ 64
-  pub someWidth : 1 ≤ o .width
-  pub mostWidth : o .width ≤ 64
-  pub someLease : 1 ≤ o .lease
-  pub mostLease : o .lease ≤ 1000
-
-within-true : (n most : ℕ) → within n most ≡ true → (1 ≤ n) × (n ≤ most)
-within-true n most e = let p = both-true (leb 1 n) (leb n most) e in (leb-true 1 n (p .0), leb-true n most (p .1))
-
-pub inside : (o : Opening) → openingFits o ≡ true → Inside o
-unfolding openingFits
-inside o e =
-    let a = both-true (within (o .cores) 16) _ e in
-    let b = both-true (within (o .lines) 64) _ (a .1) in
-    let c = both-true (within (o .width) 64) _ (b .1) in
-    let p = within-true (o .cores) 16 (a .0) in
-    let q = within-true (o .lines) 64 (b .0) in
-    let r = within-true (o .width) 64 (c .0) in
-    let s = within-true (o .lease) 1000 (c .1) in
-    record {
-      someCores = p .0;
-      mostCores = p .1;
-      someLines = q .0;
-      mostLines = q .1;
-      someWidth = r .0;
-      mostWidth = r .1;
-      someLease = s .0;
-      mostLease = s .1;
-    }
 
 -- an opening that is accepted
 pub opening-fit : (o : Opening) → openRefusal o ≡ 0 → openingFits o ≡ true
@@ -132,69 +85,70 @@ machine-fit m e =
     }
 
 -- the line that a slot speaks of, and the owner of a line, lie inside the sizes
-slot-inside : (v : Slot) (lines : ℕ) → 1 ≤ lines → slotFits lines v ≡ true → slotLine v < lines
-slot-inside Empty lines h e = h
-slot-inside (Asked a l t q) lines h e = ltb-true l lines e
-slot-inside (Answered g l w r) lines h e = ltb-true l lines e
+slot-line : (lines : ℕ) (v : Slot) → 1 ≤ lines → slotFits lines v ≡ true → slotLine v < lines
+slot-line lines Empty h e = h
+slot-line lines (Asked a l t d) h e = ltb-true l lines e
+slot-line lines (Answered g l w r) h e = ltb-true l lines e
 
-owner-inside : (v : Manager) (cores : ℕ) → 1 ≤ cores → ownerFits cores v ≡ true → ownerOf v < cores
-owner-inside (Shared w r) cores h e = h
-owner-inside (Owned c) cores h e = ltb-true c cores e
-
-module _ (m : Machine) (fit : Fit m) where
-  pub slot-line : (c : ℕ) → c < m .state .opening .cores → c < length (m .state .core) → slotLine (coreAt (m .state) c .slot) < m .state .opening .lines
-  unfolding slotsFit
-  slot-line c h k =
-      slot-inside (coreAt (m .state) c .slot) (m .state .opening .lines) (inside (m .state .opening) (fit .opening) .someLines)
-      (every-at (λ (x : Core). slotFits (m .state .opening .lines) (x .slot)) (m .state .core) (m .state .opening .cores) c freshCore (fit .slots) h k)
-
-  pub line-owner : (l : ℕ) → l < m .state .opening .lines → l < length (m .state .line) → ownerOf (lineAt (m .state) l .manager) < m .state .opening .cores
-  unfolding ownersFit
-  line-owner l h k =
-      owner-inside (lineAt (m .state) l .manager) (m .state .opening .cores) (inside (m .state .opening) (fit .opening) .someCores)
-      (every-at (λ (x : Line). ownerFits (m .state .opening .cores) (x .manager)) (m .state .line) (m .state .opening .lines) l freshLine (fit .owners) h k)
+owner-core : (cores : ℕ) (v : Manager) → 1 ≤ cores → ownerFits cores v ≡ true → ownerOf v < cores
+owner-core cores (Shared w r) h e = h
+owner-core cores (Owned c) h e = ltb-true c cores e
 
 -- ---- 3 to 6
 
--- the core and the line that a call is about lie inside the sizes, and a store's bytes are a whole line
-pub record Placed (call : Call) (m : Machine) (n : ℕ) : Type 0 where
-  pub core : coreOf call (m .state) < m .state .opening .cores
-  pub line : lineOf call (m .state) < m .state .opening .lines
+-- 3 does not apply
+core-passed : (o : Opening) (c : ℕ) (rs : List Rule) → first (coreRule c o ∷ rs) ≡ 0 → (c < o .cores) × (first rs ≡ 0)
+core-passed o c rs e = let a = passed (leb (o .cores) c) 3 rs (omega arith) e in (leb-false (o .cores) c (a .0), a .1)
 
-module _ (m : Machine) (fit : Fit m) (nCore : length (m .state .core) ≡ 16) (nLine : length (m .state .line) ≡ 64) where
+-- 4 does not apply
+line-passed : (o : Opening) (l : ℕ) (rs : List Rule) → first (lineRule l o ∷ rs) ≡ 0 → (l < o .lines) × (first rs ≡ 0)
+line-passed o l rs e = let a = passed (leb (o .lines) l) 4 rs (omega arith) e in (leb-false (o .lines) l (a .0), a .1)
+
+-- a store that 5 does not refuse has bytes for one line
+pub store-width : (c l : ℕ) (o : Opening) (n : ℕ) → callRefusal (Store c l) o n ≡ 0 → n ≡ o .width
+unfolding callRefusal callRules
+store-width c l o n e =
+    let a = line-passed o l _ (core-passed o c _ e .1) .1 in
+    eqb-true n (o .width) (not-true (eqb n (o .width)) (passed (fails (eqb n (o .width))) 5 [] (omega arith) a .0))
+
+module _ {m : Machine} (f : Fit m) where
+  -- the slot of a core speaks of a line that is there
+  pub slot-inside : (c : ℕ) → c < m .state .opening .cores → slotFits (m .state .opening .lines) (coreAt (m .state) c .slot) ≡ true
+  unfolding slotsFit
+  slot-inside c h =
+      every-at (λ (k : Core). slotFits (m .state .opening .lines) (k .slot)) freshCore refl (m .state .core) (m .state .opening .cores) c h (f .slots)
+
+  -- the owner of a line is a core that is there
+  pub owner-inside : (l : ℕ) → l < m .state .opening .lines → ownerFits (m .state .opening .cores) (lineAt (m .state) l .manager) ≡ true
+  unfolding ownersFit
+  owner-inside l h =
+      every-at (λ (x : Line). ownerFits (m .state .opening .cores) (x .manager)) freshLine refl (m .state .line) (m .state .opening .lines) l h (f .owners)
+
   lim : Inside (m .state .opening)
-  lim = inside (m .state .opening) (fit .opening)
+  lim = inside (m .state .opening) (f .opening)
 
-  core-passed : (c : ℕ) (rs : List Rule) → first ((leb (m .state .opening .cores) c gives 3) ∷ rs) ≡ 0 → (c < m .state .opening .cores) × (first rs ≡ 0)
-  core-passed c rs e =
-      let a = passed (leb (m .state .opening .cores) c) 3 rs (omega arith) e in (leb-false (m .state .opening .cores) c (a .0), a .1)
+  both-named : (c l : ℕ) (rs : List Rule) → first (coreRule c (m .state .opening) ∷ lineRule l (m .state .opening) ∷ rs) ≡ 0 → Placed (m .state .opening) c l
+  both-named c l rs e = let a = core-passed (m .state .opening) c _ e in placed-at lim (a .0) (line-passed (m .state .opening) l rs (a .1) .0)
 
-  line-passed : (l : ℕ) (rs : List Rule) → first ((leb (m .state .opening .lines) l gives 4) ∷ rs) ≡ 0 → (l < m .state .opening .lines) × (first rs ≡ 0)
-  line-passed l rs e =
-      let a = passed (leb (m .state .opening .lines) l) 4 rs (omega arith) e in (leb-false (m .state .opening .lines) l (a .0), a .1)
+  asked-for : (c : ℕ) (rs : List Rule) → first (coreRule c (m .state .opening) ∷ rs) ≡ 0 → Placed (m .state .opening) c (slotLine (coreAt (m .state) c .slot))
+  asked-for c rs e =
+      let a = core-passed (m .state .opening) c rs e .0 in
+      placed-at lim a (slot-line _ (coreAt (m .state) c .slot) (lim .someLines) (slot-inside c a))
 
-  slot-placed : (c : ℕ) → c < m .state .opening .cores → slotLine (coreAt (m .state) c .slot) < m .state .opening .lines
-  slot-placed c h = slot-line m fit c h (omega (arith, lim .mostCores))
-
-  pub placed : (call : Call) (n : ℕ) → callRefusal call (m .state .opening) n ≡ 0 → Placed call m n
+  -- the core and the line that a call is about are there, if none of 3 to 6 refuses it
+  pub placed : (call : Call) (n : ℕ) → callRefusal call (m .state .opening) n ≡ 0 → Placed (m .state .opening) (coreOf call (m .state)) (lineOf call (m .state))
   unfolding callRefusal callRules
-  placed (Load c l) n e = let a = core-passed c _ e in record { core = a .0; line = line-passed l _ (a .1) .0 }
-  placed (Store c l) n e = let a = core-passed c _ e in record { core = a .0; line = line-passed l _ (a .1) .0 }
-  placed (Fence c) n e = record { core = core-passed c _ e .0; line = lim .someLines }
-  placed (Evict c l) n e = let a = core-passed c _ e in record { core = a .0; line = line-passed l _ (a .1) .0 }
-  placed (Advance c by) n e = record { core = core-passed c _ e .0; line = lim .someLines }
-  placed (Serve c) n e = let a = core-passed c _ e in record { core = a .0; line = slot-placed c (a .0) }
-  placed (Receive c) n e = let a = core-passed c _ e in record { core = a .0; line = slot-placed c (a .0) }
+  placed (Load c l) n e = both-named c l _ e
+  placed (Store c l) n e = both-named c l _ e
+  placed (Fence c) n e = placed-at lim (core-passed (m .state .opening) c _ e .0) (lim .someLines)
+  placed (Evict c l) n e = both-named c l _ e
+  placed (Advance c by) n e = placed-at lim (core-passed (m .state .opening) c _ e .0) (lim .someLines)
+  placed (Serve c) n e = asked-for c _ e
+  placed (Receive c) n e = asked-for c _ e
   placed (Yield l) n e =
-      let a = line-passed l _ e in record { core = line-owner m fit l (a .0) (omega (arith, a .0, lim .mostLines)); line = a .0 }
-  placed (Take l) n e = record { core = lim .someCores; line = line-passed l _ e .0 }
-
-  pub store-width : (c l n : ℕ) → callRefusal (Store c l) (m .state .opening) n ≡ 0 → n ≡ m .state .opening .width
-  unfolding callRefusal callRules
-  store-width c l n e =
-      let a = core-passed c _ e in
-      let b = line-passed l _ (a .1) in
-      eqb-true n (m .state .opening .width) (not-true (eqb n (m .state .opening .width)) (passed (fails (eqb n (m .state .opening .width))) 5 [] (omega arith) (b .1) .0))
+      let a = line-passed (m .state .opening) l _ e .0 in
+      placed-at lim (owner-core _ (lineAt (m .state) l .manager) (lim .someCores) (owner-inside l a)) a
+  placed (Take l) n e = placed-at lim (lim .someCores) (line-passed (m .state .opening) l _ e .0)
 
 -- ---- all refusals
 

@@ -1,5 +1,5 @@
 -- The two lent buffers: where each line of bytes lies, and what a move of one line makes of them.
-use Prim.Native.Nat.{ℕ, _+_, _*_}
+use Prim.Native.Nat.{ℕ, _+_, _*_, _≤_, _<_}
 use mathlib.Core.List.{List, _++_}
 use lib.ListN.{length, take, drop}
 use Rattle.protocol.specs.declared.Opening.{Opening}
@@ -40,6 +40,14 @@ writebackStart o l = (o .lines + l) * o .width
 -- "the answer to core c at (2 × lines + c) × width"
 abbrev pub answerStart : Opening → ℕ → ℕ
 answerStart o c = (2 * o .lines + c) * o .width
+
+-- core c and line l are among those of an opening whose sizes lie inside the limits: their places lie in the buffers
+pub record Placed (o : Opening) (c l : ℕ) : Type 0 where
+  pub cores : o .cores ≤ 16
+  pub lines : o .lines ≤ 64
+  pub width : o .width ≤ 64
+  pub core : c < o .cores
+  pub line : l < o .lines
 
 -- the bytes of a line at each of these places
 abbrev pub copyBytes : Opening → Bytes → ℕ → ℕ → Bytes

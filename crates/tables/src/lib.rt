@@ -4,7 +4,6 @@
 // the three pieces, and which line of bytes moves. The definitions that it is equal to are those of
 // `protocol`; there are no arrays and no buffers here. A core's clocks are changed only by the
 // methods of `Clocks`.
-mod refusals;
 mod rows;
 
 ghost use mathlib.Core.Path.{_≡_};
@@ -22,7 +21,7 @@ use protocol::Line;
 pub fn effect(call: Call, core: Core, copy: Copy, line: Line, lease: u32) -> Effect
     ensures { λ r. ⌜ r ≡ effectOf call (record { core = core; copy = copy; line = line }) lease ⌝ }
 {
-    let number = refusals::of_call(call, core, copy, line, lease);
+    let number = refusals::state_refusal(call, core, copy, line, lease);
     if number != 0 {
         return rows::refused(number, core, copy, line);
     }

@@ -11,7 +11,7 @@ use Rattle.driver.specs.Play.{unfit}
 use Rattle.driver.specs.Pieces.{standingAt}
 use Rattle.driver.proofs.Reading.{known}
 use Rattle.driver.proofs.Turning.{commits-few, refusals-few, looked-over}
-use Rattle.driver.proofs.Going.{Met, Going, met, going-start, finish, refused-turn, refused-short, named-low, private-long, core-low, placed-low, line-low, made-turn, made-short}
+use Rattle.driver.proofs.Going.{Met, Going, met, going-start, finish, refused-turn, refused-short, named-low, private-long, core-low, place-low, line-low, made-turn, made-short}
 use borrow.Author.Needs.{needs}
 use Rattle.driver.proofs.play.Statement.{statement}
 use Rattle.driver.proofs.play.Tie as tie
@@ -202,7 +202,7 @@ put-answer-requires c κs =
     let h = c .before .before .before .before .before .before .before .before .before .before .before .before .if2 .left in
     let ec = rw (c .before .before .before .before .before .before .before .before .before .before .before .named-line .ensures) at (c .before .before .before .before .before .before .before .before .before .core-of .ensures) in
     let el = c .before .before .before .before .before .before .before .line-of .ensures in
-    (placed-low (i .4) x _ _ d _ e h _ ec _ el, private-long (i .4) x _ _ d _ e h)
+    (place-low (i .4) x _ _ d _ e h _ ec _ el, private-long (i .4) x _ _ d _ e h)
 
 same-length-13 : tie.Need-same-length-13 Inv-loop μ-loop
 same-length-13 c = c .before .before .before .before .before .before .before .before .before .before .before .before .before .before .before .before .before .before .before .before .before .before .before .before .before .before .before .before .loop .inv .0

@@ -2,33 +2,33 @@
 use native.Mathlib.Omega.{arith}
 use borrow.Author.Needs.{needs}
 use Rattle.protocol.proofs.Tests.{was-true}
-use Rattle.engine.proofs.Inside.{limited, copies-most, private-most, rows-most, shared-most}
+use Rattle.protocol.proofs.Places.{inside, copies-most, private-most, rows-most, shared-most}
 use Rattle.playing.proofs.play.Statement.{statement}
 use Rattle.playing.proofs.play.Tie as tie
 
 mul-copies : tie.Need-mul-copies
-mul-copies c = let m = copies-most (limited _ (was-true (c .before .fits2 .ensures) (c .if1 .left))) in omega arith
+mul-copies c = let m = copies-most (inside _ (was-true (c .before .fits2 .ensures) (c .if1 .left))) in omega arith
 
 mul-copies-2 : tie.Need-mul-copies-2
-mul-copies-2 c = let m = private-most (limited _ (was-true (c .before .fits2 .ensures) (c .if1 .left))) in omega arith
+mul-copies-2 c = let m = private-most (inside _ (was-true (c .before .fits2 .ensures) (c .if1 .left))) in omega arith
 
 mul-places : tie.Need-mul-places
-mul-places c = let m = limited _ (was-true (c .before .fits2 .ensures) (c .if1 .left)) in omega arith
+mul-places c = let m = inside _ (was-true (c .before .fits2 .ensures) (c .if1 .left)) in omega arith
 
 add-places : tie.Need-add-places
-add-places c = let m = rows-most (limited _ (was-true (c .before .fits2 .ensures) (c .if1 .left))) in omega arith
+add-places c = let m = rows-most (inside _ (was-true (c .before .fits2 .ensures) (c .if1 .left))) in omega arith
 
 mul-places-2 : tie.Need-mul-places-2
-mul-places-2 c = let m = shared-most (limited _ (was-true (c .before .fits2 .ensures) (c .if1 .left))) in omega arith
+mul-places-2 c = let m = shared-most (inside _ (was-true (c .before .fits2 .ensures) (c .if1 .left))) in omega arith
 
 part-private-end : tie.Need-part-private-end
-part-private-end c = let m = private-most (limited _ (was-true (c .before .fits2 .ensures) (c .if1 .left))) in omega arith
+part-private-end c = let m = private-most (inside _ (was-true (c .before .fits2 .ensures) (c .if1 .left))) in omega arith
 
 part-shared-end : tie.Need-part-shared-end
-part-shared-end c = let m = shared-most (limited _ (was-true (c .before .before .fits2 .ensures) (c .before .if1 .left))) in omega arith
+part-shared-end c = let m = shared-most (inside _ (was-true (c .before .before .fits2 .ensures) (c .before .if1 .left))) in omega arith
 
 play-on-requires : tie.Need-play-on-requires
-play-on-requires c κs = limited _ (was-true (c .before .before .before .fits2 .ensures) (c .before .before .if1 .left)) .width-most
+play-on-requires c κs = inside _ (was-true (c .before .before .before .fits2 .ensures) (c .before .before .if1 .left)) .mostWidth
 
 pub play-spec : {M : Type 1} → statement M
 play-spec =

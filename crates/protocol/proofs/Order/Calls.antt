@@ -7,7 +7,7 @@ use lib.Dec.{eqb}
 use borrow.Author.Tests.{eqb-true}
 use lib.ListN.{length}
 use Rattle.protocol.specs.Pick.{pick}
-use Rattle.protocol.specs.Buffers.{Bytes}
+use Rattle.protocol.specs.Buffers.{Bytes, Placed}
 use Rattle.protocol.specs.Machine.{Machine, coreAt, copyAt, lineAt, piecesAt, coreOf, lineOf}
 use Rattle.protocol.specs.Refusals.{refusal}
 use Rattle.protocol.specs.Tables.{tableOf}
@@ -15,12 +15,12 @@ use Rattle.protocol.specs.Step.{refused, Outcome, accepted, step}
 use Rattle.protocol.specs.Run.{Commit}
 use Rattle.protocol.specs.declared.Call.{Call}
 use Rattle.protocol.specs.declared.Call.the-variants.{Load, Store, Fence, Evict, Advance, Serve, Receive, Yield, Take}
-use Rattle.protocol.proofs.Refusals.{Fit, machine-fit, Placed, placed, store-width, NotRefused, not-refused}
+use Rattle.protocol.proofs.Refusals.{machine-fit, placed, store-width, NotRefused, not-refused}
 use Rattle.protocol.proofs.Order.Invariant.{Inv}
 use Rattle.protocol.proofs.Order.Steps.{Good, GoodRow, load-good, store-good, fence-good, advance-good, evict-good, yield-good, take-good, serve-good, receive-good}
 
 module _ (z : Bytes) (p : ℕ) {H : List (Commit Bytes)} (given : Bytes) {m : Machine} (I : Inv z H m) where
-  accepted-good : (call : Call) → NotRefused m call (length given) → (q : Placed call m (length given))
+  accepted-good : (call : Call) → NotRefused m call (length given) → (q : Placed (m .state .opening) (coreOf call (m .state)) (lineOf call (m .state)))
       → GoodRow z p call given I (coreOf call (m .state)) (lineOf call (m .state)) (q .core) (q .line)
       (tableOf call (piecesAt (m .state) (coreOf call (m .state)) (lineOf call (m .state))) (m .state .opening .lease))
   unfolding tableOf
@@ -28,7 +28,7 @@ module _ (z : Bytes) (p : ℕ) {H : List (Commit Bytes)} (given : Bytes) {m : Ma
       load-good z p (Load c l) given I c l (q .core) (q .line) (λ t b. refl) refl (copyAt (m .state) c l) refl
   accepted-good (Store c l) n q =
       store-good z p (Store c l) given I c l (q .core) (q .line) (copyAt (m .state) c l) refl
-      (store-width m (machine-fit m (n .machineOk)) (I .rest .shape .nCore) (I .rest .shape .nLine) c l (length given) (n .callOk)) (λ t. refl) refl
+      (store-width c l (m .state .opening) (length given) (n .callOk)) (λ t. refl) refl
   accepted-good (Fence c) n q = fence-good z p (Fence c) given I c 0 (q .core) (q .line) (λ t. refl)
   accepted-good (Evict c l) n q = evict-good z p (Evict c l) given I c l (q .core) (q .line) (copyAt (m .state) c l) refl
   accepted-good (Advance c by) n q = advance-good z p (Advance c by) given I c 0 (q .core) (q .line) by
@@ -56,5 +56,4 @@ module _ (z : Bytes) (p : ℕ) {H : List (Commit Bytes)} (given : Bytes) {m : Ma
       go false e = I
       go true e =
           let n = not-refused m call (length given) (eqb-true (refusal m call (length given)) 0 e) in
-          let f = machine-fit m (n .machineOk) in
-          accepted-good call n (placed m f (I .rest .shape .nCore) (I .rest .shape .nLine) call (length given) (n .callOk))
+          accepted-good call n (placed (machine-fit m (n .machineOk)) call (length given) (n .callOk))

@@ -27,7 +27,8 @@ use Rattle.protocol.specs.declared.Opening.{Opening}
 use Rattle.protocol.specs.declared.Call.{Call}
 use Rattle.protocol.specs.declared.Call.the-variants.{Load, Store, Fence, Evict, Advance, Serve, Receive, Yield, Take}
 use Rattle.protocol.proofs.Bytes.{row-le, zeros, zeros-part}
-use Rattle.protocol.proofs.Refusals.{Inside, inside, opening-fit}
+use Rattle.protocol.proofs.Places.{Inside, inside}
+use Rattle.protocol.proofs.Refusals.{opening-fit}
 use Rattle.protocol.proofs.Order.Log.{All, none, more, all-map, all-at, in-nil, in-cons, Last, fresh, Fits, LogFits, start, log-obeys}
 use Rattle.protocol.proofs.Order.Log.{step as log-step}
 use Rattle.protocol.proofs.Order.Versions.{Spot, atManager, atWriteback, atCopy, atSlot, clean, Newest, LineFits, ContentFits}

@@ -1,7 +1,7 @@
 -- `steps::list` meets its contract: the sizes that were opened lie inside the limits, so the parts lie in the arrays. Assumes nothing.
 use native.Mathlib.Omega.{arith}
 use borrow.Author.Tests.{not-false}
-use Rattle.engine.proofs.Inside.{Limited, limited, copies-most, private-most, rows-most, shared-most}
+use Rattle.protocol.proofs.Places.{Inside, inside, copies-most, private-most, rows-most, shared-most}
 use Rattle.driver.proofs.Starting.{start-fits}
 use Rattle.steps.proofs.Telling.{told}
 use borrow.Author.Needs.{needs}
@@ -9,8 +9,8 @@ use Rattle.steps.proofs.list.Statement.{statement}
 use Rattle.steps.proofs.list.Tie as tie
 
 -- the sizes of the engine that was opened
-sizes : (c : tie.After-z) → Limited (c .before .before .before .before .before .before .before .start .result .standing .state .opening)
-sizes c = limited _ (start-fits (c .before .before .before .before .before .before .before .start .ensures) (told (c .before .before .before .before .goes-on .ensures) (not-false _ (c .before .before .before .if1 .left)) .1))
+sizes : (c : tie.After-z) → Inside (c .before .before .before .before .before .before .before .start .result .standing .state .opening)
+sizes c = inside _ (start-fits (c .before .before .before .before .before .before .before .start .ensures) (told (c .before .before .before .before .goes-on .ensures) (not-false _ (c .before .before .before .if1 .left)) .1))
 
 mul-n : tie.Need-mul-n
 mul-n c = let a = copies-most (sizes c) in omega arith
@@ -19,7 +19,7 @@ mul-n-2 : tie.Need-mul-n-2
 mul-n-2 c = let a = private-most (sizes c) in omega arith
 
 mul-m : tie.Need-mul-m
-mul-m c = omega (arith, sizes c .lines-most)
+mul-m c = omega (arith, sizes c .mostLines)
 
 add-m : tie.Need-add-m
 add-m c = let a = rows-most (sizes c) in omega arith

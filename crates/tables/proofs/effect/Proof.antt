@@ -6,23 +6,23 @@ use Rattle.protocol.specs.Tables.{effectOf}
 use Rattle.tables.proofs.effect.Statement.{statement}
 use Rattle.tables.proofs.effect.Tie as tie
 
-of-call-requires : tie.Need-of-call-requires
-of-call-requires c κs = search needs
+state-refusal-requires : tie.Need-state-refusal-requires
+state-refusal-requires c κs = search needs
 
 refused-requires : tie.Need-refused-requires
 refused-requires c κs = search needs
 
 returns : tie.Need-returns
 unfolding effectOf
-returns c = rw (← c .before .before .of-call .ensures, ne-eqb _ 0 (c .before .if1 .taken)) (c .refused .ensures)
+returns c = rw (← c .before .before .state-refusal .ensures, ne-eqb _ 0 (c .before .if1 .taken)) (c .refused .ensures)
 
-of-call-requires-2 : tie.Need-of-call-requires-2
-of-call-requires-2 c κs = sym (c .before .of-call .ensures) ∙ c .if1 .left
+of-call-requires : tie.Need-of-call-requires
+of-call-requires c κs = sym (c .before .state-refusal .ensures) ∙ c .if1 .left
 
 returns-2 : tie.Need-returns-2
 unfolding effectOf
-returns-2 c = rw (← c .before .before .of-call .ensures, eq-eqb _ 0 (c .before .if1 .left)) (c .of-call2 .ensures)
+returns-2 c = rw (← c .before .before .state-refusal .ensures, eq-eqb _ 0 (c .before .if1 .left)) (c .of-call .ensures)
 
 pub effect-spec : {M : Type 1} → statement M
 effect-spec =
-    tie.close (tie.spec of-call-requires refused-requires returns of-call-requires-2 returns-2)
+    tie.close (tie.spec state-refusal-requires refused-requires returns of-call-requires returns-2)

@@ -1,0 +1,46 @@
+-- A test of each of the first n elements of a list: met element by element, at each index, and after one is replaced.
+use Prim.Native.Nat.{ℕ, zero, suc, _+_, _≤_, _<_}
+use mathlib.Core.Path.{_≡_, refl, sym}
+use mathlib.Core.Bool.{Bool, true, false}
+use mathlib.Core.List.{List, [], _∷_}
+use native.Mathlib.Numerals.{add-one}
+use native.Mathlib.Omega.{arith}
+use lib.ListN.{length, take, drop, getD, set, drop-of-length-le}
+use lib.Seq.{drop-cons, getD-take, length-take-le}
+use Rattle.protocol.specs.Pick.{both, every}
+use Rattle.protocol.proofs.Tests.{both-true}
+
+module _ {A : Type 0} (f : A → Bool) (xs : List A) (n : ℕ) (d : A) (fits : n ≤ length xs) where
+  -- one element more is met
+  pub every-step : (i : ℕ) → i < n → every f (drop i (take n xs)) ≡ both (f (getD xs i d)) (every f (drop (i + 1) (take n xs)))
+  unfolding every
+  every-step i h =
+      let k : i < length (take n xs) = rw length-take-le h in
+      rw (add-one, drop-cons (take n xs) i d k, getD-take n xs i d h)
+
+  -- all are met
+  pub every-done : (i : ℕ) → n ≤ i → every f (drop i (take n xs)) ≡ true
+  unfolding every
+  every-done i h =
+      let k : length (take n xs) ≤ i = rw length-take-le h in
+      rw drop-of-length-le
+
+-- a test that holds of each element, and of the value past the end, holds at each index
+module _ {A : Type 0} (f : A → Bool) (d : A) (past-end : f d ≡ true) where
+  every-element : (ys : List A) (i : ℕ) → every f ys ≡ true → f (getD ys i d) ≡ true
+  unfolding every
+  every-element [] i e = past-end
+  every-element (y ∷ ys) zero e = both-true (f y) (every f ys) e .0
+  every-element (y ∷ ys) (suc i) e = every-element ys i (both-true (f y) (every f ys) e .1)
+
+  pub every-at : (xs : List A) (n i : ℕ) → i < n → every f (take n xs) ≡ true → f (getD xs i d) ≡ true
+  every-at xs n i k e = rw (sym (getD-take n xs i d k)) (every-element (take n xs) i e)
+
+-- a test that holds of each element, after one is replaced by another of which it holds
+pub every-set : {A : Type 0} (f : A → Bool) (xs : List A) (n i : ℕ) (v : A) → every f (take n xs) ≡ true → f v ≡ true → every f (take n (set xs i v)) ≡ true
+unfolding every
+every-set f [] n i v e h = e
+every-set f (x ∷ xs) zero zero v e h = refl
+every-set f (x ∷ xs) zero (suc i) v e h = refl
+every-set f (x ∷ xs) (suc n) zero v e h = rw h (both-true (f x) _ e .1)
+every-set f (x ∷ xs) (suc n) (suc i) v e h = rw (both-true (f x) _ e .0) (every-set f xs n i v (both-true (f x) _ e .1) h)

@@ -1,0 +1,33 @@
+-- 1, then 2.
+use borrow.Author.Needs.{needs}
+use lib.ListN.{length-replicate}
+use Rattle.protocol.specs.Pick.{first}
+use Rattle.protocol.specs.Refusals.{machineRefusal, stateFits}
+use Rattle.protocol.proofs.Tests.{both-true, was-false, was-true}
+use Rattle.refusals.proofs.input.machine_refusal.Statement.{statement}
+use Rattle.refusals.proofs.input.machine_refusal.Tie as tie
+
+state-fits-requires : tie.Need-state-fits-requires
+state-fits-requires c κs = search needs
+
+returns : tie.Need-returns
+unfolding machineRefusal first
+returns c = rw (was-false (c .before .state-fits .ensures) (c .if1 .taken))
+
+buffers-fit-requires : tie.Need-buffers-fit-requires
+unfolding stateFits
+buffers-fit-requires c κs = both-true _ _ (was-true (c .before .state-fits .ensures) (c .if1 .left)) .0
+
+returns-2 : tie.Need-returns-2
+unfolding machineRefusal first
+returns-2 c =
+    rw (was-true (c .before .before .before .state-fits .ensures) (c .before .before .if1 .left), length-replicate, length-replicate, was-false (c .before .buffers-fit .ensures) (c .if2 .taken))
+
+returns-3 : tie.Need-returns-3
+unfolding machineRefusal first
+returns-3 c =
+    rw (was-true (c .before .before .before .state-fits .ensures) (c .before .before .if1 .left), length-replicate, length-replicate, was-true (c .before .buffers-fit .ensures) (c .if2 .left))
+
+pub machine-refusal-spec : {M : Type 1} → statement M
+machine-refusal-spec =
+    tie.close (tie.spec state-fits-requires returns buffers-fit-requires returns-2 returns-3)

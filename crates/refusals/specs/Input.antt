@@ -1,0 +1,28 @@
+-- The part of a machine that the refusals 1 and 2 look at, and the refusals because of the input.
+use Prim.Native.Nat.{ℕ}
+use mathlib.Core.Bool.{Bool}
+use mathlib.Core.List.{List, []}
+use lib.ListN.{replicate}
+use Rattle.protocol.specs.Pick.{both}
+use Rattle.protocol.specs.Limits.{openingFits}
+use Rattle.protocol.specs.Machine.{Machine, machine}
+use Rattle.protocol.specs.Refusals.{buffersFit, machineRefusal, callRefusal, orElse}
+use Rattle.protocol.specs.declared.Core.{Core}
+use Rattle.protocol.specs.declared.Line.{Line}
+use Rattle.protocol.specs.declared.Opening.{Opening}
+use Rattle.protocol.specs.declared.State.{State}
+use Rattle.protocol.specs.declared.Call.{Call}
+
+-- a machine with this opening, these cores and manager lines, and buffers of np and nq bytes. No refusal of 1 and 2 looks at a copy or at a
+-- byte, so no copies are given, and the bytes are 0
+abbrev pub machineWith : Opening → List Core → List Line → ℕ → ℕ → Machine
+machineWith o ks ls np nq =
+    machine (record { opening = o; core = ks; cell = []; line = ls }) (replicate np 0) (replicate nq 0)
+
+-- the first of 1 to 6 that applies, or 0 where none does; n is the count of the store bytes
+abbrev pub inputRefusal : Machine → Call → ℕ → ℕ
+inputRefusal m call n = orElse (machineRefusal m) (callRefusal call (m .state .opening) n)
+
+-- sizes and lease lie inside the limits, and buffers of np and nq bytes have their exact lengths
+abbrev pub lengthsFit : Opening → ℕ → ℕ → Bool
+lengthsFit o np nq = both (openingFits o) (buffersFit o np nq)
