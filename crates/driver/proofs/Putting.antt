@@ -58,7 +58,7 @@ put-short {old} {at} {t} {new} {r} p x = go (fits (length old) at (length t)) re
 -- ---- the last lines of a run that a refused line ends
 
 -- a `refused=` line is short
-refused-length : (p : Place) (n : ℕ) → length (recordText p (refused n)) ≤ 118
+pub refused-length : (p : Place) (n : ℕ) → length (recordText p (refused n)) ≤ 118
 unfolding meaning
 refused-length p n = omega (arith, record-length p (Refused n) [])
 

@@ -44,7 +44,7 @@ run-last (g ∷ gs) hs p m =
     let n : suc p + length gs ≡ p + suc (length gs) = omega arith in
     rw (run-last gs hs (suc p) (step m (g .call) (g .bytes) .machine), n)
 
-run-length : (gs : List Given) (p : ℕ) (m : Machine) → length (run gs p m .records) ≡ length gs
+pub run-length : (gs : List Given) (p : ℕ) (m : Machine) → length (run gs p m .records) ≡ length gs
 unfolding run
 run-length [] p m = refl
 run-length (g ∷ gs) p m = ap suc (run-length gs (suc p) (step m (g .call) (g .bytes) .machine))

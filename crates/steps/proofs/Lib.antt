@@ -1,2 +1,3 @@
--- A law that two proofs cite.
-pub mod Telling
+-- Laws that more than one proof cites.
+pub mod Progressing
+pub mod Coming

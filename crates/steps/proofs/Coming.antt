@@ -1,0 +1,101 @@
+-- From one call of the driver to the next, each with room.
+use Prim.Native.Nat.{ℕ, zero, suc, _-_, _≤_, _<_}
+use mathlib.Core.Path.{_≡_, refl, ap}
+use mathlib.Core.Bool.{Bool, true, false}
+use mathlib.Core.List.{List, [], _∷_}
+use native.Mathlib.Omega.{arith}
+use lib.ListN.{length, take, replicate}
+use Rattle.protocol.specs.Buffers.{Bytes, privateLength, sharedLength}
+use Rattle.driver.specs.Play.{stands, Plays, Starts}
+use Rattle.driver.specs.Calls.{Plays-on, last, next, over, begun}
+use Rattle.driver.specs.declared.Standing.{Standing}
+use Rattle.driver.specs.declared.Progress.{Progress}
+use Rattle.driver.specs.declared.Progress.the-variants.{Done, More, Short, Unfit}
+use Rattle.driver.specs.declared.Played.{Played}
+use Rattle.driver.proofs.Going.{met}
+use Rattle.steps.proofs.Progressing.{start-writes, Onward, finished, further, play-comes-on, Begun, listed, running, start-comes-on}
+use Rattle.steps.specs.Listed.{Ended, ended, stopped, Listed, whole, part}
+
+-- calls of `play` lead from a standing with the buffers p₀ and q₀ to another with p and q, from where `play` goes on
+pub record Come (j : Bytes) (from : Standing) (p₀ q₀ : Bytes) (there : Standing) (p q out : Bytes) : Type 0 where
+  pub standing : stands (length j) there ≡ true
+  pub room : 246 ≤ length out
+  pub onward : (ts : List Bytes) → Plays-on j there p q ts → Ended j from p₀ q₀ true
+
+pub come-start : {j : Bytes} {from : Standing} {p q out : Bytes} → stands (length j) from ≡ true → 246 ≤ length out → Come j from p q from p q out
+come-start s h = record { standing = s; room = h; onward = λ ts x. ended x }
+
+on-further : {j : Bytes} {from there : Standing} {g : Progress} → Onward j from there g → g ≡ More → (from .at < there .at) × (stands (length j) there ≡ true)
+on-further finished e = absurd (let z : _≡_ {A = ℕ} 0 1 = cc in omega arith)
+on-further (further a s) e = (a, s)
+
+on-short : {j : Bytes} {from there : Standing} {g : Progress} → Onward j from there g → g ≡ Short → ⊥
+on-short finished e = let z : _≡_ {A = ℕ} 0 1 = cc in omega arith
+on-short (further a s) e = let z : _≡_ {A = ℕ} 0 1 = cc in omega arith
+
+on-unfit : {j : Bytes} {from there : Standing} {g : Progress} → Onward j from there g → g ≡ Unfit → ⊥
+on-unfit finished e = let z : _≡_ {A = ℕ} 0 1 = cc in omega arith
+on-unfit (further a s) e = let z : _≡_ {A = ℕ} 0 1 = cc in omega arith
+
+module _ {j : Bytes} {from : Standing} {p₀ q₀ : Bytes} {there : Standing} {p q old p' q' new : Bytes} {r : Played} (c : Come j from p₀ q₀ there p q old) (x : Plays j there p q old p' q' new r) (n : length new ≡ length old) where
+  on : Onward j there (r .standing) (r .progress)
+  on = play-comes-on x (c .standing) (omega (arith, n, c .room))
+
+  -- the call was done
+  pub come-done : r .progress ≡ Done → Ended j from p₀ q₀ true
+  come-done e = c .onward _ (last x e)
+
+  -- it goes on, further on in the journal
+  pub come-further : r .progress ≡ More → (there .at < r .standing .at) × (r .standing .at ≤ length j)
+  come-further e = let o = on-further on e in (o .0, met j (r .standing) (o .1) .inside)
+
+  pub come-more : r .progress ≡ More → Come j from p₀ q₀ (r .standing) p' q' new
+  come-more e = record { standing = on-further on e .1; room = omega (arith, n, c .room); onward = λ ts y. c .onward _ (next x e y) }
+
+  -- and it answers nothing else
+  pub come-short : r .progress ≡ Short → ⊥
+  come-short e = on-short on e
+
+  pub come-unfit : r .progress ≡ Unfit → ⊥
+  come-unfit e = on-unfit on e
+
+-- ---- the first call
+
+begun-stands : {j : Bytes} {there : Standing} {g : Progress} → Begun j there g → g ≡ More → stands (length j) there ≡ true
+begun-stands listed e = absurd (let z : _≡_ {A = ℕ} 0 1 = cc in omega arith)
+begun-stands (running s) e = s
+
+begun-unfit : {j : Bytes} {there : Standing} {g : Progress} → Begun j there g → g ≡ Unfit → ⊥
+begun-unfit listed e = let z : _≡_ {A = ℕ} 0 1 = cc in omega arith
+begun-unfit (running s) e = let z : _≡_ {A = ℕ} 0 1 = cc in omega arith
+
+module _ {j old new : Bytes} {r : Played} (x : Starts j old new r) where
+  -- the listing is out whole
+  pub list-done : r .progress ≡ Done → Listed j true
+  list-done e = whole (over x e)
+
+  -- or is it with the calls of `play` on buffers of zeros
+  pub list-more :
+      {p q : Bytes} {b : Bool} → r .progress ≡ More → p ≡ replicate (privateLength (r .standing .state .opening)) 0
+      → q ≡ replicate (sharedLength (r .standing .state .opening)) 0 → Ended j (r .standing) p q b → Listed j b
+  list-more e ep eq (ended y) = whole (begun x e (rw (ep, eq) at y))
+  list-more e ep eq stopped = part
+
+  module _ (h : 246 ≤ length new) where
+    pub list-stands : r .progress ≡ More → stands (length j) (r .standing) ≡ true
+    list-stands e = begun-stands (start-comes-on x h) e
+
+    pub list-short : r .progress ≡ Short → ⊥
+    list-short e = start-writes x h e
+
+    pub list-unfit : r .progress ≡ Unfit → ⊥
+    list-unfit e = begun-unfit (start-comes-on x h) e
+
+-- the first of many zeros
+zeros : (n m : ℕ) → n ≤ m → take {A = ℕ} n (replicate m 0) ≡ replicate n 0
+zeros zero m h = refl
+zeros (suc n) zero h = absurd (omega arith)
+zeros (suc n) (suc m) h = ap (λ (l : Bytes). 0 ∷ l) (zeros n m (omega arith))
+
+pub part-zeros : (n m : ℕ) → n ≤ m → take {A = ℕ} (n - 0) (replicate m 0) ≡ replicate n 0
+part-zeros n m h = let k : n - 0 ≡ n = omega arith in rw k (zeros n m h)
