@@ -29,8 +29,9 @@ use Rattle.places.specs.Kept.{placeFits}
 use Rattle.places.specs.Moves.{Moves}
 use Rattle.places.proofs.Places.{placed-place}
 use Rattle.turns.proofs.Effects.{step-refused, step-accepted, Sound, effect-sound, effect-moves}
+use Rattle.turns.specs.About.{namedLine, coreBy, lineBy}
+use Rattle.listing.specs.Counts.{commitsOf, refusalsOf}
 use Rattle.driver.specs.Listing.{isCommit, isRefusal}
-use Rattle.driver.specs.Pieces.{namedLine, coreBy, lineBy, commitsOf, refusalsOf}
 
 -- ---- the count of an answer
 

@@ -184,13 +184,13 @@ pub fn play(
                 }
                 // The table's row, or 20 to 27, on the core, the copy and the manager's line that the
                 // call is about. Its line is put first: where there is no room, nothing has changed.
-                let named = turn::named_line(call);
+                let named = turns::named_line(call);
                 let owned = s.line[named];
                 let manager = owned.manager;
-                let c = turn::core_of(call, manager);
+                let c = turns::core_of(call, manager);
                 let k = s.core[c];
                 let slot = k.slot;
-                let l = turn::line_of(call, slot);
+                let l = turns::line_of(call, slot);
                 let i = c * 64 + l;
                 let cell = s.cell[i];
                 let line = s.line[l];
@@ -225,8 +225,8 @@ pub fn play(
                         places::move_bytes(moves, z, private, shared, c, l, &bytes[0..count]);
                         used = e;
                         steps = met;
-                        commits += turn::commits_of(answer);
-                        refusals += turn::refusals_of(answer);
+                        commits += listing::commits_of(answer);
+                        refusals += listing::refusals_of(answer);
                         at = next;
                         continue;
                     }

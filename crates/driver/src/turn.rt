@@ -14,74 +14,17 @@ ghost use Rattle.places.specs.Kept.{placeFits};
 ghost use Rattle.listing.specs.Record.{recordText, endText};
 ghost use Rattle.driver.specs.Listing.{notOpened};
 ghost use Rattle.driver.specs.Play.{nowhere};
-ghost use Rattle.driver.specs.Pieces.{namedLine, coreBy, lineBy, isStore, commitsOf, refusalsOf, Digits, Decodes, standingAt, playedBy, Puts, turnedBy, openedBy};
+ghost use Rattle.driver.specs.Pieces.{isStore, Digits, Decodes, standingAt, playedBy, Puts, turnedBy, openedBy};
 use super::Played;
 use super::Progress;
 use super::Standing;
 use protocol::Answer;
 use protocol::Call;
-use protocol::Grant;
-use protocol::Held;
-use protocol::Manager;
 use protocol::Opening;
 use protocol::Place;
-use protocol::Slot;
-use protocol::Stamp;
 use protocol::State;
-use protocol::Want;
 use spelling::Decoded;
 use spelling::Put;
-
-// The line that a call names, 0 where it names none.
-pub(crate) fn named_line(call: Call) -> usize
-    ensures { λ r. ⌜ r ≡ namedLine call ⌝ }
-{
-    match call {
-        Call::Load { core: _, line } => line,
-        Call::Store { core: _, line } => line,
-        Call::Fence { core: _ } => 0,
-        Call::Evict { core: _, line } => line,
-        Call::Advance { core: _, by: _ } => 0,
-        Call::Serve { core: _ } => 0,
-        Call::Receive { core: _ } => 0,
-        Call::Yield { line } => line,
-        Call::Take { line } => line,
-    }
-}
-
-// The core that a call is about, by who manages the line that it names.
-pub(crate) fn core_of(call: Call, manager: Manager) -> usize
-    ensures { λ r. ⌜ r ≡ coreBy call manager ⌝ }
-{
-    match call {
-        Call::Load { core, line: _ } => core,
-        Call::Store { core, line: _ } => core,
-        Call::Fence { core } => core,
-        Call::Evict { core, line: _ } => core,
-        Call::Advance { core, by: _ } => core,
-        Call::Serve { core } => core,
-        Call::Receive { core } => core,
-        Call::Yield { line: _ } => turns::owner_of(manager),
-        Call::Take { line: _ } => 0,
-    }
-}
-
-// The line that a call is about, by its core's slot.
-pub(crate) fn line_of(call: Call, slot: Slot) -> usize
-    ensures { λ r. ⌜ r ≡ lineBy call slot ⌝ }
-{
-    match call {
-        Call::Load { core: _, line } => line,
-        Call::Store { core: _, line } => line,
-        Call::Fence { core: _ } => 0,
-        Call::Evict { core: _, line } => line,
-        Call::Advance { core: _, by: _ } => 0,
-        Call::Serve { core: _ } => turns::slot_line(slot),
-        Call::Receive { core: _ } => turns::slot_line(slot),
-        Call::Yield { line } => line,
-        Call::Take { line } => line,
-    }
-}
 
 // The first of 1 to 6 that applies, or 0 where none does; `base` is 1, 2 or 0.
 pub(crate) fn number_of(base: u8, call: Call, opening: Opening, count: usize) -> u8
@@ -91,68 +34,6 @@ pub(crate) fn number_of(base: u8, call: Call, opening: Opening, count: usize) ->
         return base;
     }
     refusals::call_refusal(call, opening, count)
-}
-
-// How many commits an answer is: 1 or 0.
-pub(crate) fn commits_of(answer: Answer) -> u64
-    ensures { λ r. ⌜ r ≡ commitsOf answer ⌝ }
-{
-    match answer {
-        Answer::Refused(_) => 0,
-        Answer::Open => 0,
-        Answer::Ask => 0,
-        Answer::Recall => 0,
-        Answer::Share => 0,
-        Answer::Renew => 0,
-        Answer::Own => 0,
-        Answer::Drop => 0,
-        Answer::Evict => 0,
-        Answer::Advance => 0,
-        Answer::Yield => 0,
-        Answer::Take => 0,
-        Answer::CommitLoad {
-            core: _,
-            line: _,
-            ts: _,
-        } => 1,
-        Answer::CommitStore {
-            core: _,
-            line: _,
-            ts: _,
-        } => 1,
-        Answer::CommitFence { core: _, ts: _ } => 1,
-    }
-}
-
-// How many refusals an answer is: 1 or 0.
-pub(crate) fn refusals_of(answer: Answer) -> u64
-    ensures { λ r. ⌜ r ≡ refusalsOf answer ⌝ }
-{
-    match answer {
-        Answer::Refused(_) => 1,
-        Answer::Open => 0,
-        Answer::Ask => 0,
-        Answer::Recall => 0,
-        Answer::Share => 0,
-        Answer::Renew => 0,
-        Answer::Own => 0,
-        Answer::Drop => 0,
-        Answer::Evict => 0,
-        Answer::Advance => 0,
-        Answer::Yield => 0,
-        Answer::Take => 0,
-        Answer::CommitLoad {
-            core: _,
-            line: _,
-            ts: _,
-        } => 0,
-        Answer::CommitStore {
-            core: _,
-            line: _,
-            ts: _,
-        } => 0,
-        Answer::CommitFence { core: _, ts: _ } => 0,
-    }
 }
 
 // A standing, from its parts.

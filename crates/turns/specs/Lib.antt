@@ -1,2 +1,3 @@
+pub mod About
 pub mod Turns
 pub mod Calls

@@ -3,9 +3,15 @@
 // A call looks at one core, its copy of one line and the manager's line. `turn_with` gives what becomes
 // of them by the tables, moves the line of bytes that the call moves, and says where the bytes of a
 // commit lie. The state as a whole is not here: the engine's calls write the pieces back.
+mod about;
+
+pub use about::core_of;
+pub use about::line_of;
+pub use about::named_line;
+pub use about::owner_of;
+pub use about::slot_line;
 ghost use mathlib.Core.Path.{_≡_};
 ghost use mathlib.Core.List.{[]};
-ghost use Rattle.protocol.specs.Machine.{slotLine, ownerOf};
 ghost use Rattle.turns.specs.Turns.{spanOf, Turns};
 use protocol::Answer;
 use protocol::Call;
@@ -50,37 +56,6 @@ pub struct Done {
     pub start: usize,
     pub count: usize,
     pub state: State,
-}
-
-// The line that a slot speaks of.
-pub fn slot_line(slot: Slot) -> usize
-    ensures { λ r. ⌜ r ≡ slotLine slot ⌝ }
-{
-    match slot {
-        Slot::Empty => 0,
-        Slot::Asked {
-            want: _,
-            line,
-            lts: _,
-            held: _,
-        } => line,
-        Slot::Answered {
-            grant: _,
-            line,
-            wts: _,
-            rts: _,
-        } => line,
-    }
-}
-
-// The core that owns a line.
-pub fn owner_of(manager: Manager) -> usize
-    ensures { λ r. ⌜ r ≡ ownerOf manager ⌝ }
-{
-    match manager {
-        Manager::Shared { wts: _, rts: _ } => 0,
-        Manager::Owned { core } => core,
-    }
 }
 
 // Where the bytes of a commit lie, if they start at `start`.

@@ -1,7 +1,7 @@
 -- By the answer: 1 for a commit, and 0 for any other.
 use borrow.Author.Needs.{needs}
-use Rattle.driver.proofs.turn.commits_of.Statement.{statement}
-use Rattle.driver.proofs.turn.commits_of.Tie as tie
+use Rattle.listing.proofs.commits_of.Statement.{statement}
+use Rattle.listing.proofs.commits_of.Tie as tie
 
 returns : tie.Need-returns
 returns c = rw (c .enum-told .given .1)

@@ -1,7 +1,7 @@
 -- By the call: the core that it names; the line's owner for a yield.
 use borrow.Author.Needs.{needs}
-use Rattle.driver.proofs.turn.core_of.Statement.{statement}
-use Rattle.driver.proofs.turn.core_of.Tie as tie
+use Rattle.turns.proofs.about.core_of.Statement.{statement}
+use Rattle.turns.proofs.about.core_of.Tie as tie
 
 returns : tie.Need-returns
 returns c = rw (c .before .call .given .1)

@@ -1,7 +1,7 @@
 -- By the slot's case.
 use borrow.Author.Needs.{needs}
-use Rattle.turns.proofs.slot_line.Statement.{statement}
-use Rattle.turns.proofs.slot_line.Tie as tie
+use Rattle.turns.proofs.about.slot_line.Statement.{statement}
+use Rattle.turns.proofs.about.slot_line.Tie as tie
 
 returns-2 : tie.Need-returns-2
 returns-2 c = rw (c .before .slot .given .1)
