@@ -1,6 +1,7 @@
 # make run [JOURNAL=path]      play a journal (default: examples/sample.journal); standard output is just the listing
 # make test                    prove every crate, try the must-fail edits, run the programs and the project's other tests
 # make bench                   speed of the engine, the line check and steps (not part of make test)
+# make wrong-programs          try further wrong programs, which the prover must refuse (not part of make test)
 # make memcheck                the C test of the line check under valgrind
 # make install [PREFIX=path]   the program, the static library, the header and the manual page (default: /usr/local)
 # make help                    this list
@@ -8,7 +9,7 @@
 PREFIX = /usr/local
 JOURNAL = examples/sample.journal
 
-.PHONY: help run test bench memcheck install build
+.PHONY: help run test bench wrong-programs memcheck install build
 
 help:
 	@sed -n 's/^# \(make .*\)/\1/p' Makefile
@@ -27,6 +28,9 @@ test:
 
 bench: build
 	@tests/bench
+
+wrong-programs:
+	@tests/wrong-programs/run
 
 memcheck: build
 	@tests/host/memcheck
