@@ -10,4 +10,5 @@ pub use input::input_refusal;
 pub use input::lengths_fit;
 pub use input::machine_refusal;
 pub use input::state_fits;
+pub use state::refused;
 pub use state::state_refusal;

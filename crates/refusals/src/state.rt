@@ -3,12 +3,16 @@
 ghost use mathlib.Core.Path.{_≡_};
 ghost use Rattle.protocol.specs.Pick.{pick, both, fails};
 ghost use Rattle.protocol.specs.Stamps.{fits};
+ghost use Rattle.protocol.specs.Tables.{row};
 ghost use Rattle.protocol.specs.Refusals.{isEmpty, isAsked, isAnswered, isHeld, isOwned, hasOwner, stands, inFlight, loadAsks, storePasses, servePasses, stateRefusal};
+use protocol::Answer;
 use protocol::Call;
 use protocol::Copy;
 use protocol::Core;
+use protocol::Effect;
 use protocol::Line;
 use protocol::Manager;
+use protocol::Move;
 use protocol::Recall;
 use protocol::Slot;
 use protocol::Stamp;
@@ -195,5 +199,18 @@ fn of_take(writeback: Writeback) -> u8
     match writeback {
         Writeback::None => 25,
         Writeback::Flight { wts: _, rts: _ } => 0,
+    }
+}
+
+// A refusal: the pieces stay as they are, and no bytes move.
+pub fn refused(number: u8, core: Core, copy: Copy, line: Line) -> Effect
+    ensures { λ r. ⌜ r ≡ row (Answer.Refused number) Move.Still core copy line ⌝ }
+{
+    Effect {
+        answer: Answer::Refused(number),
+        moves: Move::Still,
+        core,
+        copy,
+        line,
     }
 }

@@ -43,13 +43,3 @@ pub serve-spared :
 unfolding stateRefusal stateRules
 serve-spared p lease e h =
     passed (servePasses (p .core .slot) (p .line .manager) lease) 27 [] (lit< tt) (passed (fails (isAsked (p .core .slot))) 21 _ (lit< tt) (rw e at h) .1) .0
-
--- a store to an owned copy that is not refused: rts + 1 fits
-pub store-fits : {x : Copy} {w r : Stamp} {d : Bool} → x ≡ CopyOwned w r d → storePasses x ≡ false → fits r 1 ≡ true
-store-fits {r = r} e h = not-true (fits r 1) (rw e at h)
-
--- a load served on a shared line that is not refused: the asked lts + lease fits
-pub lease-fits :
-    (a : Want) (l : ℕ) (t : Stamp) (h : Held) (m : Manager) (lease : ℕ) {w r : Stamp} → a ≡ WantLoad → m ≡ Shared w r
-    → servePasses (Asked a l t h) m lease ≡ false → fits t lease ≡ true
-lease-fits a l t h m lease e f p = not-true (fits t lease) (rw (e, f) at p)

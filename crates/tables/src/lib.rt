@@ -4,10 +4,9 @@
 // the three pieces, and which line of bytes moves. The definitions that it is equal to are those of
 // `protocol`; there are no arrays and no buffers here. A core's clocks are changed only by the
 // methods of `Clocks`.
-mod rows;
-
 ghost use mathlib.Core.Path.{_≡_};
-ghost use Rattle.protocol.specs.Tables.{effectOf};
+ghost use Rattle.protocol.specs.Refusals.{stateRefusal};
+ghost use Rattle.protocol.specs.Tables.{tableOf, effectOf};
 ghost use Rattle.tables.specs.Number.{numberOf};
 use protocol::Answer;
 use protocol::Call;
@@ -16,6 +15,24 @@ use protocol::Core;
 use protocol::Effect;
 use protocol::Line;
 
+// The row of a call that is not refused.
+fn of_call(call: Call, core: Core, copy: Copy, line: Line, lease: u32) -> Effect
+    requires { ⌜ stateRefusal call (record { core = core; copy = copy; line = line }) lease ≡ 0 ⌝ }
+    ensures { λ r. ⌜ r ≡ tableOf call (record { core = core; copy = copy; line = line }) lease ⌝ }
+{
+    match call {
+        Call::Load { core: c, line: l } => core_rows::load(c, l, core, copy, line),
+        Call::Store { core: c, line: l } => core_rows::store(c, l, core, copy, line),
+        Call::Fence { core: c } => core_rows::fence(c, core, copy, line),
+        Call::Evict { core: _, line: _ } => writeback_rows::evict(core, copy, line),
+        Call::Advance { core: _, by } => core_rows::advance(by, core, copy, line),
+        Call::Serve { core: c } => request_rows::serve(c, core, copy, line, lease),
+        Call::Receive { core: _ } => request_rows::receive(core, copy, line),
+        Call::Yield { line: _ } => writeback_rows::yield_line(core, copy, line),
+        Call::Take { line: _ } => writeback_rows::take(core, copy, line),
+    }
+}
+
 // What a call makes of the pieces that it looks at: the row of its table, or the number that it is
 // refused with and the pieces as they are.
 pub fn effect(call: Call, core: Core, copy: Copy, line: Line, lease: u32) -> Effect
@@ -23,9 +40,9 @@ pub fn effect(call: Call, core: Core, copy: Copy, line: Line, lease: u32) -> Eff
 {
     let number = refusals::state_refusal(call, core, copy, line, lease);
     if number != 0 {
-        return rows::refused(number, core, copy, line);
+        return refusals::refused(number, core, copy, line);
     }
-    rows::of_call(call, core, copy, line, lease)
+    of_call(call, core, copy, line, lease)
 }
 
 // The number of a refusal; 0 for any other answer.

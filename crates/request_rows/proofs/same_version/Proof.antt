@@ -1,0 +1,19 @@
+-- The versions are equal exactly if their timestamps are.
+use borrow.Author.Needs.{needs}
+use Rattle.request_rows.proofs.same_version.Statement.{statement}
+use Rattle.request_rows.proofs.same_version.Tie as tie
+
+enum-told : tie.Need-enum-told
+enum-told c = search needs
+
+enum-known-held : tie.Need-enum-known-held
+enum-known-held c = search needs
+
+returns : tie.Need-returns
+returns c = search needs
+
+returns-2 : tie.Need-returns-2
+returns-2 c = rw (c .before .before .before .held .given .1)
+
+pub same-version-spec : {M : Type 1} → statement M
+same-version-spec = tie.close (tie.spec enum-told enum-known-held returns returns-2)
