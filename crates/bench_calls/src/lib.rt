@@ -18,7 +18,7 @@ fn masked(x: u64, mask: u64) -> usize {
 
 // 1 for a refusal, else 0.
 fn refusals(answer: Answer) -> u64 {
-    if 0 < tables::number_of(answer) { 1 } else { 0 }
+    if 0 < answers::number_of(answer) { 1 } else { 0 }
 }
 
 // Makes `count` calls on a fresh engine: 25 in 100 loads, 20 stores, 15 serves, 15 receives, and 5

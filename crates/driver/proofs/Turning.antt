@@ -1,7 +1,7 @@
 -- One turn of the driver's loop: what a call gives, from its pieces, and that refusals 1 and 2 stay as they were found.
 use Prim.Native.Nat.{ℕ, _≤_, _<_}
 use mathlib.Core.Path.{_≡_, refl, sym, _∙_, ap}
-use mathlib.Core.Bool.{Bool, true}
+use mathlib.Core.Bool.{true}
 use mathlib.Core.List.{[]}
 use native.Mathlib.Omega.{arith}
 use lib.ListN.{length, length-replicate}
@@ -30,7 +30,7 @@ use Rattle.places.specs.Moves.{Moves}
 use Rattle.places.proofs.Places.{placed-place}
 use Rattle.turns.proofs.Effects.{step-refused, step-accepted, Sound, effect-sound, effect-moves}
 use Rattle.turns.specs.About.{namedLine, coreBy, lineBy}
-use Rattle.listing.specs.Counts.{commitsOf, refusalsOf}
+use Rattle.answers.specs.Answers.{commitsOf, refusalsOf}
 use Rattle.driver.specs.Listing.{isCommit, isRefusal}
 
 -- ---- the count of an answer

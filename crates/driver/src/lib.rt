@@ -225,8 +225,8 @@ pub fn play(
                         places::move_bytes(moves, z, private, shared, c, l, &bytes[0..count]);
                         used = e;
                         steps = met;
-                        commits += listing::commits_of(answer);
-                        refusals += listing::refusals_of(answer);
+                        commits += answers::commits_of(answer);
+                        refusals += answers::refusals_of(answer);
                         at = next;
                         continue;
                     }

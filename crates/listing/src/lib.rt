@@ -3,7 +3,6 @@
 // A text that does not fit leaves the buffer as it was, so its length must be known before its first byte is put. A number's
 // digits come last digit first; so a line is built back to front in a local buffer, which is then put as one text. A commit's
 // data are put behind it, straight into the lent buffer.
-ghost use mathlib.Core.Path.{_≡_};
 ghost use mathlib.Core.List.{_++_};
 ghost use Prim.Native.Nat.{_+_, _≤_};
 ghost use lib.ListN.{length};
@@ -13,7 +12,6 @@ ghost use Rattle.spelling.specs.Decimal.{decimal};
 ghost use Rattle.spelling.specs.Hex.{hex};
 ghost use Rattle.spelling.specs.Over.{PutAt};
 ghost use Rattle.listing.specs.Record.{recordText, endText};
-ghost use Rattle.listing.specs.Counts.{commitsOf, refusalsOf};
 ghost use Rattle.listing.specs.Back.{Room, Field, Tail};
 use protocol::Answer;
 use protocol::Place;
@@ -201,66 +199,4 @@ pub fn put_end(out: &mut [u8], at: usize, steps: u64, commits: u64, refused: u64
         b" refused=",
         refused,
     )
-}
-
-// How many commits an answer is: 1 or 0.
-pub fn commits_of(answer: Answer) -> u64
-    ensures { λ r. ⌜ r ≡ commitsOf answer ⌝ }
-{
-    match answer {
-        Answer::Refused(_) => 0,
-        Answer::Open => 0,
-        Answer::Ask => 0,
-        Answer::Recall => 0,
-        Answer::Share => 0,
-        Answer::Renew => 0,
-        Answer::Own => 0,
-        Answer::Drop => 0,
-        Answer::Evict => 0,
-        Answer::Advance => 0,
-        Answer::Yield => 0,
-        Answer::Take => 0,
-        Answer::CommitLoad {
-            core: _,
-            line: _,
-            ts: _,
-        } => 1,
-        Answer::CommitStore {
-            core: _,
-            line: _,
-            ts: _,
-        } => 1,
-        Answer::CommitFence { core: _, ts: _ } => 1,
-    }
-}
-
-// How many refusals an answer is: 1 or 0.
-pub fn refusals_of(answer: Answer) -> u64
-    ensures { λ r. ⌜ r ≡ refusalsOf answer ⌝ }
-{
-    match answer {
-        Answer::Refused(_) => 1,
-        Answer::Open => 0,
-        Answer::Ask => 0,
-        Answer::Recall => 0,
-        Answer::Share => 0,
-        Answer::Renew => 0,
-        Answer::Own => 0,
-        Answer::Drop => 0,
-        Answer::Evict => 0,
-        Answer::Advance => 0,
-        Answer::Yield => 0,
-        Answer::Take => 0,
-        Answer::CommitLoad {
-            core: _,
-            line: _,
-            ts: _,
-        } => 0,
-        Answer::CommitStore {
-            core: _,
-            line: _,
-            ts: _,
-        } => 0,
-        Answer::CommitFence { core: _, ts: _ } => 0,
-    }
 }

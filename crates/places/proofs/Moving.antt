@@ -1,8 +1,7 @@
 -- A move whose places and lengths fit: the copy of one line that does it leaves the buffers that the move's definition gives.
-use Prim.Native.Nat.{ℕ, _+_, _≤_, _<_}
-use mathlib.Core.Path.{_≡_, refl, sym, _∙_}
-use mathlib.Core.Bool.{Bool, true, false}
-use native.Mathlib.Omega.{arith}
+use Prim.Native.Nat.{ℕ, _+_, _≤_}
+use mathlib.Core.Path.{_≡_, _∙_}
+use mathlib.Core.Bool.{true}
 use lib.Dec.{eqb}
 use lib.ListN.{length}
 use borrow.Author.Tests.{eqb-true}
@@ -18,7 +17,7 @@ use Rattle.refusals.specs.Input.{lengthsFit}
 use Rattle.places.specs.Kept.{placeFits}
 use Rattle.places.specs.Moves.{givenFits, moveFits, Moves}
 use Rattle.protocol.proofs.Tests.{both-true}
-use Rattle.protocol.proofs.Places.{inside, copy-ends, manager-ends, writeback-ends, answer-ends}
+use Rattle.protocol.proofs.Places.{copy-ends, manager-ends, writeback-ends, answer-ends}
 use Rattle.places.proofs.Places.{place-placed}
 
 -- lengths np, nq and n of the buffers and of a store's bytes that fit

@@ -2,16 +2,15 @@
 use Prim.Native.Nat.{ℕ}
 use mathlib.Core.Path.{_≡_, refl}
 use mathlib.Core.List.{[], _∷_}
-use lib.Dec.{eqb}
 use lib.ListN.{length}
 use borrow.Author.Tests.{ne-eqb}
 use native.Mathlib.Omega.{arith}
 use Rattle.protocol.specs.Pick.{every, first}
 use Rattle.protocol.specs.Limits.{openingFits}
-use Rattle.protocol.specs.Machine.{Pieces, coreOf, lineOf, piecesAt, applied}
+use Rattle.protocol.specs.Machine.{coreOf, lineOf, applied}
 use Rattle.protocol.specs.Refusals.{ownersFit, slotsFit, stateFits, buffersFit, machineRefusal, callRules, callRefusal, stateRules, stateRefusal, refusal}
 use Rattle.protocol.specs.Tables.{loadOwned, loadTable, storeTable, fenceTable, serveLoad, serveAsked, serveTable, tableOf}
-use Rattle.protocol.specs.Step.{Reply, refused, meaning, commitBytes, accepted, step}
+use Rattle.protocol.specs.Step.{refused, meaning, commitBytes, accepted, step}
 use Rattle.protocol.specs.declared.Effect.{Effect}
 use Rattle.reference_points.specs.Points.{Point, machineOf, given, Holds, w1, w2, w3, w4, w5, w6, w7, w8, w9, w10, w11fits, w11passes, w12, none, more, PointsTheorem}
 

@@ -31,7 +31,7 @@ use Rattle.protocol.specs.declared.Call.the-variants.{Load, Store, Fence, Evict
 use Rattle.protocol.specs.declared.Move.{Move}
 use Rattle.protocol.specs.declared.Move.the-variants.{Still, Store as MoveStore, Answer as MoveAnswer, Receive as MoveReceive, Writeback as MoveWriteback, Take as MoveTake}
 use Rattle.protocol.specs.declared.Effect.{Effect}
-use Rattle.tables.proofs.Laws.{picked}
+use Rattle.protocol.proofs.Tests.{picked}
 
 -- the bytes that move are a line: those given to a store, n of them, are as many as the width; the others lie in the buffers
 abbrev pub Sized : Opening → ℕ → Move → Type 0

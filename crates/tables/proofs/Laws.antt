@@ -1,30 +1,16 @@
 -- Laws of tests and refusals: what a rule that does not apply says.
 use Prim.Native.Nat.{ℕ}
 use mathlib.Core.Path.{_≡_}
-use mathlib.Core.Bool.{Bool, true, false}
+use mathlib.Core.Bool.{true, false}
 use mathlib.Core.List.{[]}
 use lib.Dec.{lit<}
-use Rattle.protocol.specs.Pick.{pick, both, fails}
+use Rattle.protocol.specs.Pick.{both, fails}
 use Rattle.protocol.specs.Stamps.{fits}
 use Rattle.protocol.specs.Machine.{Pieces}
 use Rattle.protocol.specs.Refusals.{isOwned, isEmpty, isAsked, storePasses, servePasses, stateRules, stateRefusal}
 use Rattle.protocol.proofs.Refusals.{not-true, passed}
-use Rattle.protocol.specs.declared.Stamp.{Stamp}
-use Rattle.protocol.specs.declared.Copy.{Copy}
-use Rattle.protocol.specs.declared.Copy.the-variants.{Owned as CopyOwned}
-use Rattle.protocol.specs.declared.Want.{Want}
-use Rattle.protocol.specs.declared.Want.the-variants.{Load as WantLoad}
-use Rattle.protocol.specs.declared.Held.{Held}
-use Rattle.protocol.specs.declared.Slot.the-variants.{Asked}
-use Rattle.protocol.specs.declared.Manager.{Manager}
-use Rattle.protocol.specs.declared.Manager.the-variants.{Shared}
 use Rattle.protocol.specs.declared.Call.{Call}
 use Rattle.protocol.specs.declared.Call.the-variants.{Store, Advance, Serve}
-
--- what holds of both values holds of the one that is picked
-pub picked : {A : Type 0} (P : A → Type 0) (b : Bool) {x y : A} → P x → P y → P (pick b x y)
-picked P true p q = p
-picked P false p q = q
 
 -- what each call that adds to a timestamp may go by where it is not refused: no sum passes the greatest
 pub store-spared : {call : Call} {c l : ℕ} (p : Pieces) (lease : ℕ) → call ≡ Store c l → stateRefusal call p lease ≡ 0 → storePasses (p .copy) ≡ false

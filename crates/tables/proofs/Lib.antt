@@ -1,4 +1,3 @@
--- `Laws`: what the proofs here cite of tests and refusals. `Answers` and `Keep`: laws of `effectOf` for callers.
+-- `Laws`: what the proofs here cite of refusals. `Keep`: laws of `effectOf` for callers.
 pub mod Laws
-pub mod Answers
 pub mod Keep

@@ -7,8 +7,6 @@
 ghost use mathlib.Core.Path.{_≡_};
 ghost use Rattle.protocol.specs.Refusals.{stateRefusal};
 ghost use Rattle.protocol.specs.Tables.{tableOf, effectOf};
-ghost use Rattle.tables.specs.Number.{numberOf};
-use protocol::Answer;
 use protocol::Call;
 use protocol::Copy;
 use protocol::Core;
@@ -43,35 +41,4 @@ pub fn effect(call: Call, core: Core, copy: Copy, line: Line, lease: u32) -> Eff
         return refusals::refused(number, core, copy, line);
     }
     of_call(call, core, copy, line, lease)
-}
-
-// The number of a refusal; 0 for any other answer.
-pub fn number_of(answer: Answer) -> u8
-    ensures { λ r. ⌜ r ≡ numberOf answer ⌝ }
-{
-    match answer {
-        Answer::Refused(n) => n,
-        Answer::Open => 0,
-        Answer::Ask => 0,
-        Answer::Recall => 0,
-        Answer::Share => 0,
-        Answer::Renew => 0,
-        Answer::Own => 0,
-        Answer::Drop => 0,
-        Answer::Evict => 0,
-        Answer::Advance => 0,
-        Answer::Yield => 0,
-        Answer::Take => 0,
-        Answer::CommitLoad {
-            core: _,
-            line: _,
-            ts: _,
-        } => 0,
-        Answer::CommitStore {
-            core: _,
-            line: _,
-            ts: _,
-        } => 0,
-        Answer::CommitFence { core: _, ts: _ } => 0,
-    }
 }

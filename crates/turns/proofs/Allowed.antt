@@ -1,7 +1,7 @@
 -- A call that none of 1 to 6 refuses: the core and the line that it is about are there.
 use Prim.Native.Nat.{ℕ}
 use mathlib.Core.Path.{_≡_}
-use mathlib.Core.Bool.{Bool, true}
+use mathlib.Core.Bool.{true}
 use Rattle.protocol.specs.Buffers.{Placed}
 use Rattle.protocol.specs.Machine.{Machine, coreOf, lineOf}
 use Rattle.protocol.specs.Refusals.{machineRefusal}

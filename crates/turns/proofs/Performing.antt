@@ -19,7 +19,6 @@ use Rattle.places.specs.declared.Kept.{Kept}
 use Rattle.places.specs.Kept.{Keeps}
 use Rattle.turns.specs.declared.Span.{Span}
 use Rattle.turns.specs.declared.Turn.{Turn}
-use Rattle.turns.specs.declared.Done.{Done}
 use Rattle.turns.specs.Turns.{spanOf, Turns}
 use Rattle.turns.specs.Calls.{Performs}
 use Rattle.turns.proofs.Effects.{step-refused, step-accepted, Sound, effect-sound, effect-moves}

@@ -1,6 +1,6 @@
 -- Refused or not, by the limits.
 use borrow.Author.Needs.{needs}
-use mathlib.Core.Path.{refl, ap, _∙_}
+use mathlib.Core.Path.{ap, _∙_}
 use Rattle.protocol.specs.Pick.{first}
 use Rattle.protocol.specs.Fresh.{freshState}
 use Rattle.protocol.specs.Refusals.{openRefusal}

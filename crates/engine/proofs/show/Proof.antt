@@ -1,9 +1,7 @@
 -- The part that `shown_at` names lies in its buffer.
-use mathlib.Core.Path.{refl, sym, ap, _∙_}
 use native.Mathlib.Omega.{arith}
 use borrow.Author.Needs.{needs}
-use Rattle.engine.specs.Calls.{shownBytes}
-use Rattle.engine.proofs.Showing.{Lies, shown-lies, lies}
+use Rattle.engine.proofs.Showing.{lies}
 use Rattle.engine.proofs.show.Statement.{statement}
 use Rattle.engine.proofs.show.Tie as tie
 

@@ -1,5 +1,4 @@
 -- Core and line are there, so no sum passes the arrays.
-use mathlib.Core.Path.{refl}
 use native.Mathlib.Omega.{arith}
 use borrow.Author.Needs.{needs}
 use Rattle.protocol.proofs.Tests.{was-false, was-true}

@@ -1,5 +1,4 @@
 -- By the move: each copies one line to its place.
-use mathlib.Core.Path.{refl}
 use borrow.Author.Needs.{needs}
 use Rattle.protocol.proofs.Tests.{was-false, was-true}
 use Rattle.places.proofs.Moving.{move-placed, still-moves, store-moves, answer-moves, receive-moves, writeback-moves, take-moves}

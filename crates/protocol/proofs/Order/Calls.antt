@@ -1,5 +1,5 @@
 -- Every call, with any numbers and any bytes, keeps the invariant, and what it commits fits the log.
-use Prim.Native.Nat.{ℕ, _≤_, _<_}
+use Prim.Native.Nat.{ℕ}
 use mathlib.Core.Path.{_≡_, refl}
 use mathlib.Core.Bool.{Bool, true, false}
 use mathlib.Core.List.{List}

@@ -1,31 +1,28 @@
 -- The invariant of the machine and the log of commits, and that a step's effect on one core and one line keeps it, if it keeps that
 -- line's part.
-use Prim.Native.Nat.{ℕ, _+_, _*_, _≤_, _<_}
-use mathlib.Core.Path.{_≡_, refl, sym, _∙_, ap}
+use Prim.Native.Nat.{ℕ, _≤_, _<_}
+use mathlib.Core.Path.{_≡_, sym, _∙_}
 use mathlib.Core.Logic.{_⊎_, inl, inr, ⊎-elim}
-use mathlib.Core.List.{List, [], _∷_}
+use mathlib.Core.List.{List}
 use native.Mathlib.Omega.{arith}
 use native.Mathlib.Decide.{ℕ-discrete}
 use Rattle.protocol.specs.Buffers.{Bytes}
-use Rattle.protocol.specs.Machine.{Machine, coreAt, copyAt, lineAt, applied}
+use Rattle.protocol.specs.Machine.{Machine, coreAt, copyAt, applied}
 use Rattle.protocol.specs.Step.{Op, load, store, fence}
 use Rattle.protocol.specs.Run.{Commit}
 use Rattle.protocol.specs.Order.{Stores}
-use Rattle.protocol.specs.declared.Stamp.{Stamp}
 use Rattle.protocol.specs.declared.Clocks.{Clocks}
 use Rattle.protocol.specs.declared.Copy.{Copy}
 use Rattle.protocol.specs.declared.Copy.the-variants.{None as NoCopy, Shared as CopyShared, Owned as CopyOwned}
 use Rattle.protocol.specs.declared.Held.{Held}
 use Rattle.protocol.specs.declared.Held.the-variants.{Version}
-use Rattle.protocol.specs.declared.Grant.{Grant}
 use Rattle.protocol.specs.declared.Grant.the-variants.{Share as GrantShare, Renew as GrantRenew, Own as GrantOwn}
 use Rattle.protocol.specs.declared.Slot.{Slot}
 use Rattle.protocol.specs.declared.Slot.the-variants.{Empty, Asked, Answered}
-use Rattle.protocol.specs.declared.Core.{Core}
 use Rattle.protocol.specs.declared.Effect.{Effect}
 use Rattle.protocol.proofs.Moves.{GivenFits}
-use Rattle.protocol.proofs.Order.Log.{All, none, more, all-map, Touches}
-use Rattle.protocol.proofs.Order.Versions.{Spot, atManager, atWriteback, atCopy, atSlot, Content, nothing, put, Newest, LineFits, thin, settle, settle-two}
+use Rattle.protocol.proofs.Order.Log.{All, more, all-map, Touches}
+use Rattle.protocol.proofs.Order.Versions.{Spot, atManager, atWriteback, atCopy, atSlot, Content, put, Newest, LineFits, thin, settle, settle-two}
 use Rattle.protocol.proofs.Order.Look.{look, Shape, About, SlotStep, core-at, core-off, copy-at, copy-off, shape-applied, copy-spot-off, slot-spot-off, line-spots-off}
 
 -- the commit loads from or stores to line l

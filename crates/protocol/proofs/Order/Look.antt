@@ -2,13 +2,13 @@
 use Prim.Native.Nat.{ℕ, _+_, _*_, _≤_, _<_}
 use mathlib.Core.Path.{_≡_, refl, sym, _∙_, ap}
 use mathlib.Core.Logic.{_⊎_, inl, inr}
-use mathlib.Core.Bool.{Bool, true, false}
+use mathlib.Core.Bool.{true, false}
 use native.Mathlib.Omega.{arith}
 use native.Mathlib.Decide.{ℕ-discrete}
 use lib.ListN.{length, getD, set, length-set}
 use lib.Seq.{getD-set-same, getD-set-other}
 use Rattle.protocol.specs.Fresh.{freshCore, freshCell, freshLine}
-use Rattle.protocol.specs.Buffers.{Bytes, part, splice, privateLength, sharedLength, copyBytes, managerBytes, writebackBytes, answerBytes, movedPrivate, movedShared}
+use Rattle.protocol.specs.Buffers.{Bytes, privateLength, sharedLength, copyBytes, managerBytes, writebackBytes, answerBytes, movedShared}
 use Rattle.protocol.specs.Machine.{Machine, coreAt, copyAt, lineAt, applied}
 use Rattle.protocol.specs.declared.Stamp.{Stamp}
 use Rattle.protocol.specs.declared.Copy.{Copy}
@@ -26,12 +26,10 @@ use Rattle.protocol.specs.declared.Writeback.the-variants.{None as NoWri
 use Rattle.protocol.specs.declared.Line.{Line}
 use Rattle.protocol.specs.declared.Opening.{Opening}
 use Rattle.protocol.specs.declared.State.{State}
-use Rattle.protocol.specs.declared.Move.{Move}
-use Rattle.protocol.specs.declared.Move.the-variants.{Still, Store as MoveStore, Answer as MoveAnswer, Receive as MoveReceive, Writeback as MoveWriteback, Take as MoveTake}
 use Rattle.protocol.specs.declared.Effect.{Effect}
 use Rattle.protocol.proofs.Bytes.{grid-row, grid-column}
 use Rattle.protocol.proofs.Moves.{managerAfter, writebackAfter, copyAfter, answerAfter, AnswerStays, GivenFits, manager-after, writeback-after, copy-after, answer-after, manager-other, writeback-other, answer-other, private-other, length-movedShared, length-movedPrivate}
-use Rattle.protocol.proofs.Order.Versions.{Spot, atManager, atWriteback, atCopy, atSlot, Mark, clean, mine, Content, nothing, snapshot, renewal, newest}
+use Rattle.protocol.proofs.Order.Versions.{Spot, atManager, atWriteback, atCopy, atSlot, clean, mine, Content, nothing, snapshot, renewal, newest}
 
 -- ---- what stands at each spot
 

@@ -20,8 +20,7 @@ use Rattle.protocol.specs.declared.Writeback.{Writeback}
 use Rattle.protocol.specs.declared.Writeback.the-variants.{None as NoWriteback, Flight}
 use Rattle.protocol.specs.declared.Answer.{Answer}
 use Rattle.protocol.specs.declared.Answer.the-variants.{Refused, Open, Ask, Recall, Share, Renew, Own, Drop, Evict, Advance, Yield, Take, CommitLoad, CommitStore, CommitFence}
-use Rattle.protocol.specs.declared.Move.{Move}
-use Rattle.protocol.specs.declared.Move.the-variants.{Still, Store as MoveStore, Answer as MoveAnswer, Receive as MoveReceive, Writeback as MoveWriteback, Take as MoveTake}
+use Rattle.protocol.specs.declared.Move.the-variants.{Writeback as MoveWriteback}
 
 -- ---- the timestamps in a row
 

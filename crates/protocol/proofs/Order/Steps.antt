@@ -1,21 +1,21 @@
 -- Each row of the nine tables keeps the invariant, and what it commits fits the log.
-use Prim.Native.Nat.{ℕ, _+_, _*_, _≤_, _<_, max}
+use Prim.Native.Nat.{ℕ, _≤_, _<_}
 use mathlib.Core.Path.{_≡_, refl, sym, _∙_, ap}
-use mathlib.Core.Logic.{_⊎_, inl, inr, ⊎-elim}
+use mathlib.Core.Logic.{inl, inr}
 use mathlib.Core.Bool.{Bool, true, false}
 use mathlib.Core.List.{List, [], _∷_}
 use native.Mathlib.Omega.{arith}
 use native.Mathlib.Decide.{ℕ-discrete}
-use lib.Dec.{leb, eqb}
+use lib.Dec.{leb}
 use borrow.Author.Tests.{leb-true}
 use lib.ListN.{length}
 use Rattle.protocol.specs.Pick.{pick}
-use Rattle.protocol.specs.Stamps.{stamp, later}
+use Rattle.protocol.specs.Stamps.{later}
 use Rattle.protocol.specs.Clock.{storeTime}
 use Rattle.protocol.specs.Buffers.{Bytes, copyBytes, managerBytes, writebackBytes, answerBytes}
 use Rattle.protocol.specs.Machine.{Machine, Pieces, piecesAt, coreAt, copyAt, lineAt, applied, slotLine}
 use Rattle.protocol.specs.Tables.{row, noRow, heldOf, asking, loadOwned, loadShared, loadTable, storeTable, fenceTable, advanceTable, evictTable, sameVersion, leasedTo, serveLoad, serveAsked, serveTable, receiveRenew, receiveGrant, receiveTable, yielded, yieldTable, takeTable, writtenBack, managed, slotted}
-use Rattle.protocol.specs.Step.{Op, load, store, fence, Reply, refused, done, commit, meaning, commitBytes, Outcome, accepted}
+use Rattle.protocol.specs.Step.{Op, load, store, fence, Reply, refused, done, commit, meaning, commitBytes, accepted}
 use Rattle.protocol.specs.Run.{place, Commit, commitAt}
 use Rattle.protocol.specs.Order.{TsoKeeps, Stores}
 use Rattle.protocol.specs.declared.Stamp.{Stamp}
@@ -25,7 +25,7 @@ use Rattle.protocol.specs.declared.Copy.the-variants.{None as NoCopy, Sh
 use Rattle.protocol.specs.declared.Want.{Want}
 use Rattle.protocol.specs.declared.Want.the-variants.{Load as WantLoad, Store as WantStore}
 use Rattle.protocol.specs.declared.Held.{Held}
-use Rattle.protocol.specs.declared.Held.the-variants.{None as NothingHeld, Version}
+use Rattle.protocol.specs.declared.Held.the-variants.{Version}
 use Rattle.protocol.specs.declared.Grant.{Grant}
 use Rattle.protocol.specs.declared.Grant.the-variants.{Share as GrantShare, Renew as GrantRenew, Own as GrantOwn}
 use Rattle.protocol.specs.declared.Slot.{Slot}
@@ -44,11 +44,11 @@ use Rattle.protocol.specs.declared.Move.{Move}
 use Rattle.protocol.specs.declared.Move.the-variants.{Still, Answer as MoveAnswer, Writeback as MoveWriteback}
 use Rattle.protocol.specs.declared.Effect.{Effect}
 use Rattle.protocol.proofs.Moves.{GivenFits, managerAfter, writebackAfter, copyAfter, answerAfter}
-use Rattle.protocol.proofs.Order.Log.{All, none, more, all-map, Touches, Fits, OpFits}
-use Rattle.protocol.proofs.Order.Versions.{Spot, atManager, atWriteback, atCopy, atSlot, Mark, clean, mine, Content, nothing, snapshot, renewal, newest, put, put-at, Newest, Stands, NotNewest, ContentFits, LineFits, Lease, keep, put-newest, move, demote, quiet, write, sees-snapshot, sees-clean, sees-mine, lease-of, lease-renewed}
-use Rattle.protocol.proofs.Order.Look.{look, viewCopy, viewSlot, viewGrant, viewManager, viewWriteback, granted, view-at, SlotStep, core-at, look-manager, look-writeback, look-copy, look-slot}
+use Rattle.protocol.proofs.Order.Log.{more, all-map, Touches, Fits, OpFits}
+use Rattle.protocol.proofs.Order.Versions.{atManager, atWriteback, atCopy, atSlot, clean, mine, nothing, snapshot, renewal, newest, put, put-at, Newest, Stands, NotNewest, ContentFits, LineFits, Lease, keep, put-newest, move, demote, quiet, write, sees-snapshot, sees-clean, sees-mine, lease-of, lease-renewed}
+use Rattle.protocol.proofs.Order.Look.{look, viewCopy, viewSlot, viewGrant, viewManager, viewWriteback, view-at, SlotStep, core-at, look-manager, look-writeback, look-copy, look-slot}
 use Rattle.protocol.proofs.Order.Rows.{read-within, lease-grows, read-after, read-clocked, read-version, shared-version, shared-within, store-past, store-after-loads, store-after-stores, same-version, grant-within, manager-grows, evict-lease, yield-lease, evict-moves, yield-moves}
-use Rattle.protocol.proofs.Order.Invariant.{On, ClockFits, AskFits, NotOwned, PairFits, Within, Inv, clocks-applied, inv-applied, none-changes, one-changes, two-change}
+use Rattle.protocol.proofs.Order.Invariant.{On, ClockFits, AskFits, NotOwned, PairFits, Inv, clocks-applied, inv-applied, none-changes, one-changes, two-change}
 
 -- the commit of core c at t
 abbrev pub commitBy : ℕ → ℕ → Stamp → Op Bytes → Commit Bytes

@@ -6,10 +6,10 @@ use mathlib.Core.Logic.{_⊎_, inl, inr, ⊎-elim}
 use mathlib.Core.Bool.{Bool, true, false}
 use mathlib.Core.List.{List, [], _∷_, _++_}
 use native.Mathlib.Omega.{arith}
-use native.Mathlib.Decide.{decLt, ℕ-discrete}
+use native.Mathlib.Decide.{decLt}
 use lib.Dec.{ltb, eqb}
-use borrow.Author.Tests.{ltb-true, ltb-false, eqb-true, lt-ltb, le-ltb, eq-eqb}
-use lib.ListN.{length, getD, replicate, length-replicate}
+use borrow.Author.Tests.{ltb-true, eqb-true, lt-ltb, le-ltb, eq-eqb}
+use lib.ListN.{getD, replicate, length-replicate}
 use Rattle.protocol.specs.Pick.{pick}
 use Rattle.protocol.specs.Stamps.{Precedes, precedes}
 use Rattle.protocol.specs.Limits.{openingFits}
@@ -18,9 +18,8 @@ use Rattle.protocol.specs.Refusals.{openRefusal}
 use Rattle.protocol.specs.Buffers.{Bytes, privateLength, sharedLength, managerBytes}
 use Rattle.protocol.specs.Machine.{Machine, freshMachine, coreAt, copyAt, lineAt}
 use Rattle.protocol.specs.Step.{Op, Reply, refused, done, commit, step}
-use Rattle.protocol.specs.Run.{Given, Record, place, run, Commit, commitAt, commitOf, commits}
-use Rattle.protocol.specs.Order.{In, here, there, Before, Earlier, TsoKeeps, Stores, Loads, MaySee, LastWrite, Obeys, TSO, commitsOf, OpenTheorem, OrderTheorem, StrictTotal, SortTheorem, KeyTheorem}
-use Rattle.protocol.specs.declared.Key.{Key}
+use Rattle.protocol.specs.Run.{Given, place, run, Commit, commitAt, commitOf, commits}
+use Rattle.protocol.specs.Order.{In, here, there, Before, Earlier, TsoKeeps, Stores, LastWrite, Obeys, OpenTheorem, OrderTheorem, SortTheorem, KeyTheorem}
 use Rattle.protocol.specs.declared.Cell.{Cell}
 use Rattle.protocol.specs.declared.Copy.the-variants.{None as NoCopy}
 use Rattle.protocol.specs.declared.Opening.{Opening}
@@ -29,11 +28,11 @@ use Rattle.protocol.specs.declared.Call.the-variants.{Load, Store, Fence
 use Rattle.protocol.proofs.Bytes.{row-le, zeros, zeros-part}
 use Rattle.protocol.proofs.Places.{Inside, inside}
 use Rattle.protocol.proofs.Refusals.{opening-fit}
-use Rattle.protocol.proofs.Order.Log.{All, none, more, all-map, all-at, in-nil, in-cons, Last, fresh, Fits, LogFits, start, log-obeys}
+use Rattle.protocol.proofs.Order.Log.{All, none, more, all-map, all-at, in-nil, fresh, LogFits, start, log-obeys}
 use Rattle.protocol.proofs.Order.Log.{step as log-step}
-use Rattle.protocol.proofs.Order.Versions.{Spot, atManager, atWriteback, atCopy, atSlot, clean, Newest, LineFits, ContentFits}
+use Rattle.protocol.proofs.Order.Versions.{Spot, atManager, atWriteback, atCopy, atSlot, Newest, ContentFits}
 use Rattle.protocol.proofs.Order.Look.{look, Shape}
-use Rattle.protocol.proofs.Order.Invariant.{On, Rest, Inv}
+use Rattle.protocol.proofs.Order.Invariant.{On, Inv}
 use Rattle.protocol.proofs.Order.Steps.{Good, commitBy}
 use Rattle.protocol.proofs.Order.Calls.{step-good}
 

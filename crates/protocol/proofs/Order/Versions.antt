@@ -1,14 +1,14 @@
 -- One line (or any part of it that has a value of its own): the spots where a version of it may stand, and the changes that keep what the
 -- order needs. Nothing here knows the machine, nor what a value is: `Wr e x`, the commit e writes the value x; `Tch e`, it loads from or
 -- stores to the line.
-use Prim.Native.Nat.{ℕ, _+_, _≤_, _<_}
+use Prim.Native.Nat.{ℕ, _≤_, _<_}
 use mathlib.Core.Path.{_≡_, refl, sym, _∙_, ap}
 use mathlib.Core.Logic.{_⊎_, inl, inr, ⊎-elim}
-use mathlib.Core.List.{List, [], _∷_}
+use mathlib.Core.List.{List, _∷_}
 use native.Mathlib.Omega.{arith}
 use native.Mathlib.Decide.{ℕ-discrete}
 use Rattle.protocol.specs.Run.{Commit}
-use Rattle.protocol.proofs.Order.Log.{All, none, more, all-map, Last, fresh, found, past, last-map, last-same, Sees}
+use Rattle.protocol.proofs.Order.Log.{All, more, all-map, Last, found, past, last-map, last-same, Sees}
 
 -- a spot where a version may stand: the manager, the writeback, a core's copy, the answer in a core's slot
 pub data Spot : Type 0 where

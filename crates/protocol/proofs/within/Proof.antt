@@ -1,6 +1,5 @@
 -- 1 is at most n exactly if n is not below 1.
-use native.Mathlib.Omega.{arith}
-use borrow.Author.Tests.{lt-ltb, le-ltb, le-leb, lt-leb, eq-eqb, ne-eqb, ltb-true, leb-true, leb-false}
+use borrow.Author.Tests.{le-leb, lt-leb}
 use Rattle.protocol.proofs.within.Statement.{statement}
 use Rattle.protocol.proofs.within.Tie as tie
 

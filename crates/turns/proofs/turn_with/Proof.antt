@@ -1,8 +1,6 @@
 -- The table's effect, the place of its bytes, and its move.
-use mathlib.Core.Path.{refl, sym, ap}
+use mathlib.Core.Path.{ap}
 use borrow.Author.Needs.{needs}
-use Rattle.protocol.specs.Buffers.{Bytes}
-use Rattle.protocol.specs.declared.Answer.{Answer}
 use Rattle.protocol.specs.declared.Effect.{Effect}
 use Rattle.turns.proofs.turn_with.Statement.{statement}
 use Rattle.turns.proofs.turn_with.Tie as tie

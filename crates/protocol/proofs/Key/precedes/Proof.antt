@@ -1,6 +1,6 @@
 -- The timestamps decide, and the places where they are equal.
 use native.Mathlib.Omega.{arith}
-use borrow.Author.Tests.{lt-ltb, le-ltb, le-leb, lt-leb, eq-eqb, ne-eqb, ltb-true, leb-true, leb-false}
+use borrow.Author.Tests.{lt-ltb, le-ltb, eq-eqb, ne-eqb}
 use Rattle.protocol.proofs.Key.precedes.Statement.{statement}
 use Rattle.protocol.proofs.Key.precedes.Tie as tie
 

@@ -1,5 +1,5 @@
 -- The four limits, one after the other.
-use Rattle.protocol.proofs.Tests.{leb-same, was-false, was-true}
+use Rattle.protocol.proofs.Tests.{was-false, was-true}
 use Rattle.protocol.specs.Limits.{openingFits}
 use borrow.Author.Needs.{needs}
 use Rattle.protocol.proofs.Opening.fits.Statement.{statement}

@@ -1,7 +1,7 @@
 -- The sum, where `fits` answered that it fits.
 use Prim.Native.Nat.{_+_}
 use native.Mathlib.Omega.{arith}
-use borrow.Author.Tests.{lt-ltb, le-ltb, le-leb, lt-leb, eq-eqb, ne-eqb, ltb-true, leb-true, leb-false}
+use borrow.Author.Tests.{leb-true}
 use mathlib.Core.Path.{sym, _∙_}
 use borrow.Author.Needs.{needs}
 use Rattle.protocol.proofs.Stamp.after.Statement.{statement}

@@ -1,7 +1,7 @@
 -- A sum fits exactly if the summand is at most what is left.
 use Prim.Native.Nat.{_+_, _-_}
 use native.Mathlib.Omega.{arith}
-use Rattle.protocol.proofs.Tests.{leb-same, was-false, was-true}
+use Rattle.protocol.proofs.Tests.{leb-same}
 use borrow.Author.Needs.{needs}
 use Rattle.protocol.proofs.Stamp.fits.Statement.{statement}
 use Rattle.protocol.proofs.Stamp.fits.Tie as tie

@@ -27,8 +27,8 @@ use Rattle.protocol.specs.declared.Call.the-variants.{Load, Store, Fence, Evict
 use Rattle.protocol.specs.declared.Answer.the-variants.{Refused}
 use Rattle.protocol.specs.declared.Move.the-variants.{Still}
 use Rattle.protocol.specs.declared.Effect.{Effect}
-use Rattle.tables.specs.Number.{numberOf}
-use Rattle.tables.proofs.Laws.{picked}
+use Rattle.answers.specs.Answers.{numberOf}
+use Rattle.protocol.proofs.Tests.{picked}
 
 -- the answer has no number
 abbrev pub Unnumbered : Effect → Type 0
