@@ -37,8 +37,7 @@ pub struct Span {
 }
 
 // What a call makes of the pieces that it looks at: one core, its copy of one line, the manager's
-// line. `count` bytes of a load's or a store's commit
-// lie in the private buffer as the call leaves it, from `start`; 0 and 0 beside any other answer.
+// line. `start` and `count` are those of `Done`.
 pub struct Turn {
     pub answer: Answer,
     pub start: usize,
