@@ -43,6 +43,10 @@ static void calls(uint64_t count, size_t cores, size_t lines, size_t width) {
 
 int main(int argc, char **argv) {
     uint64_t count = argc > 1 ? strtoull(argv[1], 0, 10) : 1000000;
+    if (argc > 2 && strtoull(argv[2], 0, 10) == 0) { /* for callgrind: the copies alone */
+        copies(count);
+        return 0;
+    }
     if (argc > 2) { /* for callgrind: the calls of one size alone, 2 or 16 cores */
         size_t cores = strtoull(argv[2], 0, 10), lines = cores == 16 ? 64 : 2, width = cores == 16 ? 64 : 8;
         printf("%llu\n", (unsigned long long)bench_calls(count, cores - 1, lines - 1, width, private_bytes, cores * lines * width, shared_bytes, (2 * lines + cores) * width));
