@@ -15,6 +15,7 @@ pub use flight_calls::yield_line;
 pub use turns::Done;
 ghost use mathlib.Core.Path.{_≡_};
 ghost use mathlib.Core.List.{[]};
+ghost use Rattle.protocol.specs.Buffers.{part};
 ghost use Rattle.protocol.specs.Machine.{machine};
 ghost use Rattle.protocol.specs.Refusals.{isHeld};
 ghost use Rattle.protocol.specs.Step.{shown};
@@ -129,4 +130,20 @@ pub fn show<'a>(s: State, private: &'a [u8], shared: &'a [u8], core: usize, line
         Buffer::Private => &private[start..end],
         Buffer::Shared => &shared[start..end],
     }
+}
+
+// The bytes of a commit, `count` of them from `start` in the private buffer, as a call hands them back in `Done`; as many of them as
+// the buffer has, for any start and count. Nothing is copied.
+pub fn commit_bytes(private: &[u8], start: usize, count: usize) -> &[u8]
+    ensures { λ r. ⌜ now r ≡ part (now («private» .entry)) start count ⌝ }
+{
+    let length = private.len();
+    if length < start {
+        return &private[0..0];
+    }
+    if length - start < count {
+        return &private[start..length];
+    }
+    let end = start + count;
+    &private[start..end]
 }

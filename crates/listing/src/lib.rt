@@ -39,7 +39,7 @@ fn tail(line: &mut [u8; 128], text: &[u8]) -> usize
 }
 
 // A text, bytes in hex behind it, and a newline, into a lent buffer at a place. Where they do not fit, it is left as it was.
-fn put_with_data(out: &mut [u8], at: usize, head: &[u8], bytes: &[u8]) -> Put
+pub fn put_with_data(out: &mut [u8], at: usize, head: &[u8], bytes: &[u8]) -> Put
     ensures { λ r. ⌜ PutAt (now (out .entry)) at (now (head .entry) ++ hex (now (bytes .entry)) ++ text "\n") (now (out .exit)) r ⌝ }
 {
     if out.len() < at {

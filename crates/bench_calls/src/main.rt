@@ -1,0 +1,132 @@
+// Makes mixed calls on one engine, for the benchmark (tests/calls/bench), and prints how many of them
+// were refused.
+//
+// Its arguments are the count of calls, and the engine's cores, lines and width. The lease is 10 and
+// the buffers are zeros.
+use engine::Done;
+use libc::STDERR_FILENO;
+use libc::STDOUT_FILENO;
+use protocol::Opening;
+use spelling::Number;
+
+// A pseudo-random number after another.
+fn next(x: u64) -> u64 {
+    let a = x ^ (x << 13);
+    let b = a ^ (a >> 7);
+    b ^ (b << 17)
+}
+
+// A number below n, or 0.
+fn below(x: u64, n: usize) -> usize {
+    if n == 0 {
+        return 0;
+    }
+    x as usize % n
+}
+
+// Makes `count` calls on a fresh engine: 25 in 100 loads, 20 stores, 15 serves, 15 receives, and 5
+// each of evict, yield, take, fence and advance. Answers how many of them were refused.
+fn calls(count: u32, opening: Opening, private: &mut [u8], shared: &mut [u8], given: &[u8]) -> u64 {
+    let cores = opening.cores;
+    let lines = opening.lines;
+    let o = engine::open(opening);
+    let answer = o.answer;
+    let state = o.state;
+    let mut d = Done {
+        answer,
+        start: 0,
+        count: 0,
+        state,
+    };
+    let mut x: u64 = 1;
+    let mut refused: u64 = 0;
+    let mut i: u32 = 0;
+    while i < count {
+        i += 1;
+        let a = d.answer;
+        refused = std::num::wrapping_add_u64(refused, answers::refusals_of(a));
+        x = next(x);
+        let kind = (x % 4294967296) % 20;
+        let core = below(x >> 32, cores);
+        let line = below(x >> 40, lines);
+        if kind < 5 {
+            d = engine::load(d.state, private, shared, core, line);
+            continue;
+        }
+        if kind < 9 {
+            d = engine::store(d.state, private, shared, core, line, given);
+            continue;
+        }
+        if kind < 12 {
+            d = engine::serve(d.state, private, shared, core);
+            continue;
+        }
+        if kind < 15 {
+            d = engine::receive(d.state, private, shared, core);
+            continue;
+        }
+        if kind < 16 {
+            d = engine::evict(d.state, private, shared, core, line);
+            continue;
+        }
+        if kind < 17 {
+            d = engine::yield_line(d.state, private, shared, line);
+            continue;
+        }
+        if kind < 18 {
+            d = engine::take(d.state, private, shared, line);
+            continue;
+        }
+        if kind < 19 {
+            d = engine::fence(d.state, private, shared, core);
+            continue;
+        }
+        d = engine::advance(d.state, private, shared, core, 1);
+    }
+    let a = d.answer;
+    std::num::wrapping_add_u64(refused, answers::refusals_of(a))
+}
+
+// The number that an argument spells, or 0.
+fn argument(i: usize) -> u32 {
+    let mut text = [0u8; 16];
+    let n = os::arg(i, &mut text);
+    match spelling::read_number(&text[0..n]) {
+        Number::Value(value) => value,
+        Number::Wrong => 0,
+    }
+}
+
+fn main() {
+    let count = argument(1);
+    let opening = Opening {
+        cores: argument(2) as usize,
+        lines: argument(3) as usize,
+        width: argument(4) as usize,
+        lease: 10,
+    };
+    if !opening.fits() {
+        io::write_all(
+            STDERR_FILENO,
+            b"usage: bench_calls CALLS CORES LINES WIDTH\n",
+        );
+        return;
+    }
+    let cores = opening.cores;
+    let lines = opening.lines;
+    let width = opening.width;
+    let copies = cores * lines * width;
+    let places = (2 * lines + cores) * width;
+    let mut private = [0u8; 65536];
+    let mut shared = [0u8; 9216];
+    let given = [7u8; 64];
+    let refused = calls(
+        count,
+        opening,
+        &mut private[0..copies],
+        &mut shared[0..places],
+        &given[0..width],
+    );
+    io::print_decimal(STDOUT_FILENO, refused);
+    io::write_all(STDOUT_FILENO, b"\n");
+}
