@@ -38,20 +38,20 @@ load-answer : (x : Copy) (c l : ℕ) (p : Pieces) → Unnumbered (loadTable x c 
 unfolding loadTable loadOwned
 load-answer NoCopy c l p = refl
 load-answer (CopyShared w r) c l p = picked Unnumbered (leb (p .core .clocks .lts .0) (r .0)) refl refl
-load-answer (CopyOwned w r true) c l p = refl
-load-answer (CopyOwned w r false) c l p = refl
+load-answer (CopyOwned true w r) c l p = refl
+load-answer (CopyOwned false w r) c l p = refl
 
 store-answer : (x : Copy) (c l : ℕ) (p : Pieces) → Unnumbered (storeTable x c l p)
 unfolding storeTable
 store-answer NoCopy c l p = refl
 store-answer (CopyShared w r) c l p = refl
-store-answer (CopyOwned w r d) c l p = refl
+store-answer (CopyOwned d w r) c l p = refl
 
 evict-answer : (x : Copy) (p : Pieces) → Unnumbered (evictTable x p)
 unfolding evictTable
 evict-answer NoCopy p = refl
 evict-answer (CopyShared w r) p = refl
-evict-answer (CopyOwned w r d) p = refl
+evict-answer (CopyOwned d w r) p = refl
 
 lend-answer : (b : Bool) (l : ℕ) (w r : Stamp) (p : Pieces) → Unnumbered (serveLoad b l w r p)
 unfolding serveLoad
@@ -74,7 +74,7 @@ renew-answer : (x : Copy) (r : Stamp) (p : Pieces) → Unnumbered (receiveRenew 
 unfolding receiveRenew
 renew-answer NoCopy r p = refl
 renew-answer (CopyShared w v) r p = refl
-renew-answer (CopyOwned w v d) r p = refl
+renew-answer (CopyOwned d w v) r p = refl
 
 grant-answer : (g : Grant) (w r : Stamp) (p : Pieces) → Unnumbered (receiveGrant g w r p)
 unfolding receiveGrant
@@ -92,7 +92,7 @@ yield-answer : (x : Copy) (p : Pieces) → Unnumbered (yieldTable x p)
 unfolding yieldTable
 yield-answer NoCopy p = refl
 yield-answer (CopyShared w r) p = refl
-yield-answer (CopyOwned w r d) p = refl
+yield-answer (CopyOwned d w r) p = refl
 
 take-answer : (b : Writeback) (p : Pieces) → Unnumbered (takeTable b p)
 unfolding takeTable

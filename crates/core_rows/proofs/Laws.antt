@@ -9,5 +9,5 @@ use Rattle.protocol.specs.declared.Copy.the-variants.{Owned as CopyOwned}
 use Rattle.protocol.proofs.Refusals.{not-true}
 
 -- a store to an owned copy that is not refused: rts + 1 fits
-pub store-fits : {x : Copy} {w r : Stamp} {d : Bool} → x ≡ CopyOwned w r d → storePasses x ≡ false → fits r 1 ≡ true
+pub store-fits : {x : Copy} {w r : Stamp} {d : Bool} → x ≡ CopyOwned d w r → storePasses x ≡ false → fits r 1 ≡ true
 store-fits {r = r} e h = not-true (fits r 1) (rw e at h)

@@ -32,9 +32,9 @@ fn held_of(copy: Copy) -> Held
         Copy::None => Held::None,
         Copy::Shared { wts, rts: _ } => Held::Version(wts),
         Copy::Owned {
+            dirty: _,
             wts: _,
             rts: _,
-            dirty: _,
         } => Held::None,
     }
 }
@@ -88,7 +88,7 @@ pub fn load(c: usize, l: usize, core: Core, copy: Copy, line: Line) -> Effect
                 ask(Want::Load, l, core, copy, line)
             }
         }
-        Copy::Owned { wts, rts, dirty } => {
+        Copy::Owned { dirty, wts, rts } => {
             let lts = before.lts;
             if dirty {
                 let end = rts.later(lts);
@@ -101,9 +101,9 @@ pub fn load(c: usize, l: usize, core: Core, copy: Copy, line: Line) -> Effect
                     moves: Move::Still,
                     core,
                     copy: Copy::Owned {
+                        dirty: true,
                         wts,
                         rts: end,
-                        dirty: true,
                     },
                     line,
                 }
@@ -120,9 +120,9 @@ pub fn load(c: usize, l: usize, core: Core, copy: Copy, line: Line) -> Effect
                     moves: Move::Still,
                     core: Core { clocks: next, slot },
                     copy: Copy::Owned {
+                        dirty: false,
                         wts,
                         rts: end,
-                        dirty: false,
                     },
                     line,
                 }
@@ -142,9 +142,9 @@ fn stored(c: usize, l: usize, core: Core, copy: Copy, line: Line) -> Effect
         Copy::None => ask(Want::Store, l, core, copy, line),
         Copy::Shared { wts: _, rts: _ } => ask(Want::Store, l, core, copy, line),
         Copy::Owned {
+            dirty: _,
             wts: _,
             rts,
-            dirty: _,
         } => {
             let clocks = before.store(rts);
             let ts = clocks.sts;
@@ -157,9 +157,9 @@ fn stored(c: usize, l: usize, core: Core, copy: Copy, line: Line) -> Effect
                 moves: Move::Store,
                 core: Core { clocks, slot },
                 copy: Copy::Owned {
+                    dirty: true,
                     wts: ts,
                     rts: ts,
-                    dirty: true,
                 },
                 line,
             }
@@ -175,9 +175,9 @@ fn passes(copy: Copy) -> bool
         Copy::None => false,
         Copy::Shared { wts: _, rts: _ } => false,
         Copy::Owned {
+            dirty: _,
             wts: _,
             rts,
-            dirty: _,
         } => { if rts.fits(1) { false } else { true } }
     }
 }

@@ -70,9 +70,9 @@ fn is_held(copy: Copy) -> bool
         Copy::None => false,
         Copy::Shared { wts: _, rts: _ } => true,
         Copy::Owned {
+            dirty: _,
             wts: _,
             rts: _,
-            dirty: _,
         } => true,
     }
 }

@@ -113,12 +113,12 @@ isAnswered (Answered g l w r) = true
 abbrev pub isHeld : Copy → Bool
 isHeld NoCopy = false
 isHeld (CopyShared w r) = true
-isHeld (CopyOwned w r d) = true
+isHeld (CopyOwned d w r) = true
 
 abbrev pub isOwned : Copy → Bool
 isOwned NoCopy = false
 isOwned (CopyShared w r) = false
-isOwned (CopyOwned w r d) = true
+isOwned (CopyOwned d w r) = true
 
 -- the line is owned
 abbrev pub hasOwner : Manager → Bool
@@ -140,13 +140,13 @@ inFlight (Flight w r) = true
 abbrev pub loadAsks : Copy → Stamp → Bool
 loadAsks NoCopy lts = true
 loadAsks (CopyShared w r) lts = ltb (r .0) (lts .0)
-loadAsks (CopyOwned w r d) lts = false
+loadAsks (CopyOwned d w r) lts = false
 
 -- rts + 1 passes the greatest timestamp (store to an owned line)
 abbrev pub storePasses : Copy → Bool
 storePasses NoCopy = false
 storePasses (CopyShared w r) = false
-storePasses (CopyOwned w r d) = fails (fits r 1)
+storePasses (CopyOwned d w r) = fails (fits r 1)
 
 -- asked lts + lease passes the greatest timestamp (serve of a load on a shared line)
 abbrev pub servePasses : Slot → Manager → ℕ → Bool

@@ -57,7 +57,7 @@ noRow p = row (Refused 0) Still (p .core) (p .copy) (p .line)
 abbrev pub heldOf : Copy → Held
 heldOf NoCopy = NothingHeld
 heldOf (CopyShared w r) = Version w
-heldOf (CopyOwned w r d) = NothingHeld
+heldOf (CopyOwned d w r) = NothingHeld
 
 -- "ask. The slot becomes asked": load or store, line, the lts when asked, the wts of the shared copy held
 abbrev pub asking : Want → ℕ → Pieces → Effect
@@ -73,9 +73,9 @@ raised w p = clocked (p .core) (loaded (p .core .clocks) w)
 -- "owned, not dirty: lts becomes max(lts, wts), commit there; rts becomes max(rts, lts)"
 unfoldable pub loadOwned : Bool → ℕ → ℕ → Stamp → Stamp → Pieces → Effect
 loadOwned true c l w r p =
-    row (CommitLoad c l (p .core .clocks .lts)) Still (p .core) (CopyOwned w (later r (p .core .clocks .lts)) true) (p .line)
+    row (CommitLoad c l (p .core .clocks .lts)) Still (p .core) (CopyOwned true w (later r (p .core .clocks .lts))) (p .line)
 loadOwned false c l w r p =
-    row (CommitLoad c l (loaded (p .core .clocks) w .lts)) Still (raised w p) (CopyOwned w (later r (loaded (p .core .clocks) w .lts)) false) (p .line)
+    row (CommitLoad c l (loaded (p .core .clocks) w .lts)) Still (raised w p) (CopyOwned false w (later r (loaded (p .core .clocks) w .lts))) (p .line)
 
 -- "shared, lts ≤ rts: lts becomes max(lts, wts), commit there"
 abbrev pub loadShared : ℕ → ℕ → Stamp → Pieces → Effect
@@ -84,7 +84,7 @@ loadShared c l w p =
 
 -- "shared, lts > rts, or none: ask"
 unfoldable pub loadTable : Copy → ℕ → ℕ → Pieces → Effect
-loadTable (CopyOwned w r d) c l p = loadOwned d c l w r p
+loadTable (CopyOwned d w r) c l p = loadOwned d c l w r p
 loadTable (CopyShared w r) c l p = pick (leb (p .core .clocks .lts .0) (r .0)) (loadShared c l w p) (asking WantLoad l p)
 loadTable NoCopy c l p = asking WantLoad l p
 
@@ -92,9 +92,9 @@ loadTable NoCopy c l p = asking WantLoad l p
 
 -- "owned: ts = max(lts, sts, rts + 1); sts, wts and rts become ts, bytes replaced, dirty; commit at ts. Else: ask."
 unfoldable pub storeTable : Copy → ℕ → ℕ → Pieces → Effect
-storeTable (CopyOwned w r d) c l p =
+storeTable (CopyOwned d w r) c l p =
     row (CommitStore c l (storeTime (p .core .clocks) r)) MoveStore (clocked (p .core) (stored (p .core .clocks) r))
-    (CopyOwned (storeTime (p .core .clocks) r) (storeTime (p .core .clocks) r) true) (p .line)
+    (CopyOwned true (storeTime (p .core .clocks) r) (storeTime (p .core .clocks) r)) (p .line)
 storeTable (CopyShared w r) c l p = asking WantStore l p
 storeTable NoCopy c l p = asking WantStore l p
 
@@ -117,7 +117,7 @@ writtenBack m w r = record { manager = m .manager; recall = m .recall; writeback
 -- "shared: copy becomes none. Owned: its wts, rts and bytes become the writeback, copy none."
 unfoldable pub evictTable : Copy → Pieces → Effect
 evictTable (CopyShared w r) p = row AnswerEvict Still (p .core) NoCopy (p .line)
-evictTable (CopyOwned w r d) p = row AnswerEvict MoveWriteback (p .core) NoCopy (writtenBack (p .line) w r)
+evictTable (CopyOwned d w r) p = row AnswerEvict MoveWriteback (p .core) NoCopy (writtenBack (p .line) w r)
 evictTable NoCopy p = noRow p
 
 -- ---- serve
@@ -169,13 +169,13 @@ serveTable Empty c p lease = noRow p
 -- "Renew: a shared copy takes the slot's rts, answer renew; no copy, or an owned one: no copy changes, answer drop."
 unfoldable pub receiveRenew : Copy → Stamp → Pieces → Effect
 receiveRenew (CopyShared w r) rts p = row Renew Still (slotted (p .core) Empty) (CopyShared w rts) (p .line)
-receiveRenew (CopyOwned w r d) rts p = row Drop Still (slotted (p .core) Empty) (p .copy) (p .line)
+receiveRenew (CopyOwned d w r) rts p = row Drop Still (slotted (p .core) Empty) (p .copy) (p .line)
 receiveRenew NoCopy rts p = row Drop Still (slotted (p .core) Empty) (p .copy) (p .line)
 
 -- "share or own: copy becomes shared or owned with the slot's wts, rts and bytes, not dirty; answer share or own. .. Slot becomes empty."
 unfoldable pub receiveGrant : Grant → Stamp → Stamp → Pieces → Effect
 receiveGrant GrantShare w r p = row Share MoveReceive (slotted (p .core) Empty) (CopyShared w r) (p .line)
-receiveGrant GrantOwn w r p = row Own MoveReceive (slotted (p .core) Empty) (CopyOwned w r false) (p .line)
+receiveGrant GrantOwn w r p = row Own MoveReceive (slotted (p .core) Empty) (CopyOwned false w r) (p .line)
 receiveGrant GrantRenew w r p = receiveRenew (p .copy) r p
 
 -- receive (core with an answered slot)
@@ -194,7 +194,7 @@ yielded NoRecall w r = NoCopy
 
 -- "the owner's wts, rts and bytes become the writeback"
 unfoldable pub yieldTable : Copy → Pieces → Effect
-yieldTable (CopyOwned w r d) p = row AnswerYield MoveWriteback (p .core) (yielded (p .line .recall) w r) (writtenBack (p .line) w r)
+yieldTable (CopyOwned d w r) p = row AnswerYield MoveWriteback (p .core) (yielded (p .line .recall) w r) (writtenBack (p .line) w r)
 yieldTable (CopyShared w r) p = noRow p
 yieldTable NoCopy p = noRow p
 

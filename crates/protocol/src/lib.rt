@@ -116,11 +116,12 @@ impl Clocks {
 }
 
 // A core's private copy of a line: wts is the timestamp of the store that made it, rts the end of
-// its lease, dirty whether this core has stored to it since it became owned.
+// its lease, dirty whether this core has stored to it since it became owned. dirty stands first, in
+// the room beside the variant's tag: a copy then takes 12 bytes, not 16.
 pub enum Copy {
     None,
     Shared { wts: Stamp, rts: Stamp },
-    Owned { wts: Stamp, rts: Stamp, dirty: bool },
+    Owned { dirty: bool, wts: Stamp, rts: Stamp },
 }
 
 // What a request asks for.

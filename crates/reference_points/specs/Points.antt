@@ -76,10 +76,10 @@ abbrev pub storeRow : ℕ → ℕ → ℕ → ℕ → Point
 storeRow lts sts rts ts =
     record {
       lease = 10;
-      before = pieces (core lts sts Empty) (CopyOwned (stamp 0) (stamp rts) false) owned;
+      before = pieces (core lts sts Empty) (CopyOwned false (stamp 0) (stamp rts)) owned;
       call = Store 0 0;
       reply = commit 0 (stamp ts) (store 0 given);
-      after = pieces (core lts ts Empty) (CopyOwned (stamp ts) (stamp ts) true) owned;
+      after = pieces (core lts ts Empty) (CopyOwned true (stamp ts) (stamp ts)) owned;
     }
 
 -- a load that commits: the line at the manager, lts and the copy before it, its ts, and the copy after it
@@ -169,11 +169,11 @@ w7 = loadRow (managed 4 9) 2 (CopyShared (stamp 4) (stamp 9)) 4 (CopyShared (sta
 
 -- W8 dirty, wts and rts 11, lts 0: ts 0
 abbrev pub w8 : Point
-w8 = loadRow owned 0 (CopyOwned (stamp 11) (stamp 11) true) 0 (CopyOwned (stamp 11) (stamp 11) true)
+w8 = loadRow owned 0 (CopyOwned true (stamp 11) (stamp 11)) 0 (CopyOwned true (stamp 11) (stamp 11))
 
 -- W9 owned, not dirty, wts 3, rts 7, lts 12: ts 12, rts 12
 abbrev pub w9 : Point
-w9 = loadRow owned 12 (CopyOwned (stamp 3) (stamp 7) false) 12 (CopyOwned (stamp 3) (stamp 12) false)
+w9 = loadRow owned 12 (CopyOwned false (stamp 3) (stamp 7)) 12 (CopyOwned false (stamp 3) (stamp 12))
 
 -- W10 serve, asked lts 12, lease 10, rts 1: rts 22
 abbrev pub w10 : Point

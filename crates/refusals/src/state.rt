@@ -70,9 +70,9 @@ fn of_load(slot: Slot, copy: Copy, lts: Stamp) -> u8
         Copy::None => of_request(slot),
         Copy::Shared { wts: _, rts } => { if rts.0 < lts.0 { of_request(slot) } else { 0 } }
         Copy::Owned {
+            dirty: _,
             wts: _,
             rts: _,
-            dirty: _,
         } => 0,
     }
 }
@@ -85,9 +85,9 @@ fn of_store(slot: Slot, copy: Copy) -> u8
         Copy::None => of_request(slot),
         Copy::Shared { wts: _, rts: _ } => of_request(slot),
         Copy::Owned {
+            dirty: _,
             wts: _,
             rts,
-            dirty: _,
         } => of_sum(rts, 1),
     }
 }
@@ -107,9 +107,9 @@ fn of_evict(copy: Copy) -> u8
         Copy::None => 26,
         Copy::Shared { wts: _, rts: _ } => 0,
         Copy::Owned {
+            dirty: _,
             wts: _,
             rts: _,
-            dirty: _,
         } => 0,
     }
 }
@@ -185,9 +185,9 @@ fn of_owner(copy: Copy) -> u8
         Copy::None => 24,
         Copy::Shared { wts: _, rts: _ } => 24,
         Copy::Owned {
+            dirty: _,
             wts: _,
             rts: _,
-            dirty: _,
         } => 0,
     }
 }

@@ -261,9 +261,9 @@ fn receive_renew(rts: Stamp, core: Core, copy: Copy, line: Line) -> Effect
             line,
         },
         Copy::Owned {
+            dirty: _,
             wts: _,
             rts: _,
-            dirty: _,
         } => dropped(emptied, copy, line),
     }
 }
@@ -291,9 +291,9 @@ fn receive_grant(grant: Grant, wts: Stamp, rts: Stamp, core: Core, copy: Copy, l
             moves: Move::Receive,
             core: emptied,
             copy: Copy::Owned {
+                dirty: false,
                 wts,
                 rts,
-                dirty: false,
             },
             line,
         },

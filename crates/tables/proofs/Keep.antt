@@ -61,20 +61,20 @@ module _ (o : Opening) (n : ℕ) (p : Pieces) (slot : slotFits (o .lines) (p .co
   load-fits NoCopy c l i = ask-fits WantLoad l i
   load-fits (CopyShared w r) c l i =
       picked (Fits o n) (leb (p .core .clocks .lts .0) (r .0)) (record { slot = slot; owner = owner; bytes = tt }) (ask-fits WantLoad l i)
-  load-fits (CopyOwned w r true) c l i = record { slot = slot; owner = owner; bytes = tt }
-  load-fits (CopyOwned w r false) c l i = record { slot = slot; owner = owner; bytes = tt }
+  load-fits (CopyOwned true w r) c l i = record { slot = slot; owner = owner; bytes = tt }
+  load-fits (CopyOwned false w r) c l i = record { slot = slot; owner = owner; bytes = tt }
 
   store-fits : (x : Copy) (c l : ℕ) → ltb l (o .lines) ≡ true → n ≡ o .width → Fits o n (storeTable x c l p)
   unfolding storeTable
   store-fits NoCopy c l i b = ask-fits WantStore l i
   store-fits (CopyShared w r) c l i b = ask-fits WantStore l i
-  store-fits (CopyOwned w r d) c l i b = record { slot = slot; owner = owner; bytes = b }
+  store-fits (CopyOwned d w r) c l i b = record { slot = slot; owner = owner; bytes = b }
 
   evict-fits : (x : Copy) → Fits o n (evictTable x p)
   unfolding evictTable
   evict-fits NoCopy = record { slot = slot; owner = owner; bytes = tt }
   evict-fits (CopyShared w r) = record { slot = slot; owner = owner; bytes = tt }
-  evict-fits (CopyOwned w r d) = record { slot = slot; owner = owner; bytes = tt }
+  evict-fits (CopyOwned d w r) = record { slot = slot; owner = owner; bytes = tt }
 
   lend-fits : (b : Bool) (l : ℕ) (w r : Stamp) → ltb l (o .lines) ≡ true → Fits o n (serveLoad b l w r p)
   unfolding serveLoad
@@ -99,7 +99,7 @@ module _ (o : Opening) (n : ℕ) (p : Pieces) (slot : slotFits (o .lines) (p .co
   unfolding receiveRenew
   renew-fits NoCopy r = record { slot = refl; owner = owner; bytes = tt }
   renew-fits (CopyShared w v) r = record { slot = refl; owner = owner; bytes = tt }
-  renew-fits (CopyOwned w v d) r = record { slot = refl; owner = owner; bytes = tt }
+  renew-fits (CopyOwned d w v) r = record { slot = refl; owner = owner; bytes = tt }
 
   grant-fits : (g : Grant) (w r : Stamp) → Fits o n (receiveGrant g w r p)
   unfolding receiveGrant
@@ -117,7 +117,7 @@ module _ (o : Opening) (n : ℕ) (p : Pieces) (slot : slotFits (o .lines) (p .co
   unfolding yieldTable
   yield-fits NoCopy = record { slot = slot; owner = owner; bytes = tt }
   yield-fits (CopyShared w r) = record { slot = slot; owner = owner; bytes = tt }
-  yield-fits (CopyOwned w r d) = record { slot = slot; owner = owner; bytes = tt }
+  yield-fits (CopyOwned d w r) = record { slot = slot; owner = owner; bytes = tt }
 
   take-fits : (b : Writeback) → Fits o n (takeTable b p)
   unfolding takeTable

@@ -1,4 +1,4 @@
--- Laws of tests and refusals: what a rule that does not apply says.
+-- Laws of refusals: what a rule that does not apply says.
 use Prim.Native.Nat.{ℕ}
 use mathlib.Core.Path.{_≡_}
 use mathlib.Core.Bool.{true, false}

@@ -94,20 +94,20 @@ module _ (o : Opening) (c l : ℕ) (given p q : Bytes) where
   unfolding loadTable loadOwned meaning movedPrivate
   load-sound NoCopy a b k = record { fits = refl; bytes = refl }
   load-sound (CopyShared w r) a b k = either (leb (k .core .clocks .lts .0) (r .0)) _ _ (record { fits = refl; bytes = refl }) (record { fits = refl; bytes = refl })
-  load-sound (CopyOwned w r true) a b k = record { fits = refl; bytes = refl }
-  load-sound (CopyOwned w r false) a b k = record { fits = refl; bytes = refl }
+  load-sound (CopyOwned true w r) a b k = record { fits = refl; bytes = refl }
+  load-sound (CopyOwned false w r) a b k = record { fits = refl; bytes = refl }
 
   store-sound : (x : Copy) (a b : ℕ) (k : Pieces) → length given ≡ o .width → copyStart o c l + o .width ≤ length p → Sound o c l given p q (Store a b) (storeTable x a b k)
   unfolding storeTable meaning movedPrivate
   store-sound NoCopy a b k e h = record { fits = refl; bytes = refl }
   store-sound (CopyShared w r) a b k e h = record { fits = refl; bytes = refl }
-  store-sound (CopyOwned w r d) a b k e h = record { fits = eq-eqb _ _ e; bytes = rw (part-same p (copyStart o c l) given (rw e h) (o .width) e) }
+  store-sound (CopyOwned d w r) a b k e h = record { fits = eq-eqb _ _ e; bytes = rw (part-same p (copyStart o c l) given (rw e h) (o .width) e) }
 
   evict-sound : (x : Copy) (a b : ℕ) (k : Pieces) → Sound o c l given p q (Evict a b) (evictTable x k)
   unfolding evictTable meaning
   evict-sound NoCopy a b k = record { fits = refl; bytes = refl }
   evict-sound (CopyShared w r) a b k = record { fits = refl; bytes = refl }
-  evict-sound (CopyOwned w r d) a b k = record { fits = refl; bytes = refl }
+  evict-sound (CopyOwned d w r) a b k = record { fits = refl; bytes = refl }
 
   grant-sound : (t : Bool) (a b : ℕ) (w r : Stamp) (k : Pieces) → Sound o c l given p q (Serve a) (serveLoad t b w r k)
   unfolding serveLoad meaning
@@ -130,7 +130,7 @@ module _ (o : Opening) (c l : ℕ) (given p q : Bytes) where
   unfolding receiveRenew meaning
   renew-sound NoCopy a r k = record { fits = refl; bytes = refl }
   renew-sound (CopyShared w s) a r k = record { fits = refl; bytes = refl }
-  renew-sound (CopyOwned w s d) a r k = record { fits = refl; bytes = refl }
+  renew-sound (CopyOwned d w s) a r k = record { fits = refl; bytes = refl }
 
   granted-sound : (g : Grant) (a : ℕ) (w r : Stamp) (k : Pieces) → Sound o c l given p q (Receive a) (receiveGrant g w r k)
   unfolding receiveGrant meaning
@@ -148,7 +148,7 @@ module _ (o : Opening) (c l : ℕ) (given p q : Bytes) where
   unfolding yieldTable meaning
   yield-sound NoCopy b k = record { fits = refl; bytes = refl }
   yield-sound (CopyShared w r) b k = record { fits = refl; bytes = refl }
-  yield-sound (CopyOwned w r d) b k = record { fits = refl; bytes = refl }
+  yield-sound (CopyOwned d w r) b k = record { fits = refl; bytes = refl }
 
   take-sound : (x : Writeback) (b : ℕ) (k : Pieces) → Sound o c l given p q (Take b) (takeTable x k)
   unfolding takeTable meaning

@@ -43,7 +43,7 @@ pub fn evict(core: Core, copy: Copy, line: Line) -> Effect
             copy: Copy::None,
             line,
         },
-        Copy::Owned { wts, rts, dirty: _ } => {
+        Copy::Owned { dirty: _, wts, rts } => {
             let back = written_back(line, wts, rts);
             Effect {
                 answer: Answer::Evict,
@@ -75,7 +75,7 @@ pub fn yield_line(core: Core, copy: Copy, line: Line) -> Effect
     match copy {
         Copy::None => refusals::refused(0, core, copy, line),
         Copy::Shared { wts: _, rts: _ } => refusals::refused(0, core, copy, line),
-        Copy::Owned { wts, rts, dirty: _ } => {
+        Copy::Owned { dirty: _, wts, rts } => {
             let left = yielded_copy(recall, wts, rts);
             let back = written_back(line, wts, rts);
             Effect {

@@ -40,12 +40,12 @@ ClockFits fence t k = t ≤ k .lts .0
 abbrev pub AskFits : Held → Copy → Type 0
 AskFits h NoCopy = Unit {0}
 AskFits h (CopyShared w r) = h ≡ Version w
-AskFits h (CopyOwned w r d) = ⊥
+AskFits h (CopyOwned d w r) = ⊥
 
 abbrev pub NotOwned : Copy → Type 0
 NotOwned NoCopy = Unit {0}
 NotOwned (CopyShared w r) = Unit {0}
-NotOwned (CopyOwned w r d) = ⊥
+NotOwned (CopyOwned d w r) = ⊥
 
 abbrev pub PairFits : ℕ → Slot → Copy → Type 0
 PairFits l Empty v = Unit {0}

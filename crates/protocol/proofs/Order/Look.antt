@@ -44,8 +44,8 @@ viewWriteback (Flight w r) b = newest clean (w .0) (r .0) b
 abbrev pub viewCopy : ℕ → Copy → Bytes → Content Bytes
 viewCopy c NoCopy b = nothing
 viewCopy c (CopyShared w r) b = snapshot (w .0) (r .0) b
-viewCopy c (CopyOwned w r true) b = newest (mine c) (w .0) (r .0) b
-viewCopy c (CopyOwned w r false) b = newest clean (w .0) (r .0) b
+viewCopy c (CopyOwned true w r) b = newest (mine c) (w .0) (r .0) b
+viewCopy c (CopyOwned false w r) b = newest clean (w .0) (r .0) b
 
 abbrev pub granted : Grant → Stamp → Stamp → Bytes → Content Bytes
 granted GrantShare w r b = snapshot (w .0) (r .0) b

@@ -46,7 +46,7 @@ timeOf (CommitFence c t) = t .0
 abbrev pub copyRts : Copy → ℕ
 copyRts NoCopy = 0
 copyRts (CopyShared w r) = r .0
-copyRts (CopyOwned w r d) = r .0
+copyRts (CopyOwned d w r) = r .0
 
 abbrev pub slotRts : Slot → ℕ
 slotRts Empty = 0
@@ -102,15 +102,15 @@ module _ (c l : ℕ) (w r : Stamp) (p : Pieces) where
   -- ---- store
 
   -- a store stands past the lease of its copy, and at or after both clocks
-  pub store-past : (d : Bool) → r .0 < timeOf (storeTable (CopyOwned w r d) c l p .answer)
+  pub store-past : (d : Bool) → r .0 < timeOf (storeTable (CopyOwned d w r) c l p .answer)
   unfolding storeTable
   store-past d = omega arith
 
-  pub store-after-loads : (d : Bool) → p .core .clocks .lts .0 ≤ timeOf (storeTable (CopyOwned w r d) c l p .answer)
+  pub store-after-loads : (d : Bool) → p .core .clocks .lts .0 ≤ timeOf (storeTable (CopyOwned d w r) c l p .answer)
   unfolding storeTable
   store-after-loads d = omega arith
 
-  pub store-after-stores : (d : Bool) → p .core .clocks .sts .0 ≤ timeOf (storeTable (CopyOwned w r d) c l p .answer)
+  pub store-after-stores : (d : Bool) → p .core .clocks .sts .0 ≤ timeOf (storeTable (CopyOwned d w r) c l p .answer)
   unfolding storeTable
   store-after-stores d = omega arith
 
@@ -139,19 +139,19 @@ manager-grows l w r t lease p false = omega arith
 
 module _ (w r : Stamp) (d : Bool) (p : Pieces) where
   -- the writeback has the whole lease of the owner's copy
-  pub evict-lease : r .0 ≤ writebackRts (evictTable (CopyOwned w r d) p .line .writeback)
+  pub evict-lease : r .0 ≤ writebackRts (evictTable (CopyOwned d w r) p .line .writeback)
   unfolding evictTable
   evict-lease = omega arith
 
-  pub yield-lease : r .0 ≤ writebackRts (yieldTable (CopyOwned w r d) p .line .writeback)
+  pub yield-lease : r .0 ≤ writebackRts (yieldTable (CopyOwned d w r) p .line .writeback)
   unfolding yieldTable
   yield-lease = omega arith
 
   -- its bytes come along
-  pub evict-moves : evictTable (CopyOwned w r d) p .moves ≡ MoveWriteback
+  pub evict-moves : evictTable (CopyOwned d w r) p .moves ≡ MoveWriteback
   unfolding evictTable
   evict-moves = refl
 
-  pub yield-moves : yieldTable (CopyOwned w r d) p .moves ≡ MoveWriteback
+  pub yield-moves : yieldTable (CopyOwned d w r) p .moves ≡ MoveWriteback
   unfolding yieldTable
   yield-moves = refl

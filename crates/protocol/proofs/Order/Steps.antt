@@ -71,7 +71,7 @@ pair-none l (Answered GrantRenew n w r) = λ e. tt
 pair-none l (Answered GrantOwn n w r) = λ e. tt
 
 -- beside an owned copy any copy may come that is asked nothing of
-pair-owned : (l : ℕ) (v : Slot) (w r : Stamp) (d : Bool) (u : Copy) → PairFits l v (CopyOwned w r d) → PairFits l v u
+pair-owned : (l : ℕ) (v : Slot) (w r : Stamp) (d : Bool) (u : Copy) → PairFits l v (CopyOwned d w r) → PairFits l v u
 pair-owned l Empty w r d u p = tt
 pair-owned l (Asked a n t h) w r d u p = λ e. absurd (p e)
 pair-owned l (Answered GrantShare n x y) w r d u p = λ e. absurd (p e)
@@ -79,12 +79,12 @@ pair-owned l (Answered GrantRenew n x y) w r d u p = λ e. absurd (p e)
 pair-owned l (Answered GrantOwn n x y) w r d u p = λ e. absurd (p e)
 
 -- an owner's slot has nothing on its line
-slot-nothing : (l : ℕ) (v : Slot) (w r : Stamp) (d : Bool) (b : Bytes) → PairFits l v (CopyOwned w r d) → viewSlot l v b ≡ nothing
+slot-nothing : (l : ℕ) (v : Slot) (w r : Stamp) (d : Bool) (b : Bytes) → PairFits l v (CopyOwned d w r) → viewSlot l v b ≡ nothing
 slot-nothing l Empty w r d b p = refl
 slot-nothing l (Asked a n t h) w r d b p = refl
 slot-nothing l (Answered g n x y) w r d b p = go g (ℕ-discrete n l) p
   where
-    go : (g : Grant) (k : Dec (n ≡ l)) → PairFits l (Answered g n x y) (CopyOwned w r d) → viewGrant k g x y b ≡ nothing
+    go : (g : Grant) (k : Dec (n ≡ l)) → PairFits l (Answered g n x y) (CopyOwned d w r) → viewGrant k g x y b ≡ nothing
     go GrantShare (yes q) p = absurd (p q)
     go GrantRenew (yes q) p = absurd (p q)
     go GrantOwn (yes q) p = absurd (p q)
@@ -95,7 +95,7 @@ slot-nothing l (Answered g n x y) w r d b p = go g (ℕ-discrete n l) p
 ask-not-owned : (h : Held) (v : Copy) → AskFits h v → NotOwned v
 ask-not-owned h NoCopy a = tt
 ask-not-owned h (CopyShared w r) a = tt
-ask-not-owned h (CopyOwned w r d) a = a
+ask-not-owned h (CopyOwned d w r) a = a
 
 -- ---- the order of one core's commits
 
@@ -158,13 +158,13 @@ module _ (z : Bytes) (p : ℕ) {H : List (Commit Bytes)} (call : Call) (given : 
   pair-at : (v : Copy) → copyAt (m .state) c l ≡ v → PairFits l (k .slot) v
   pair-at v e = rw e at (I .rest .pairs c l hl)
 
-  owner-slot : (w r : Stamp) (d : Bool) → copyAt (m .state) c l ≡ CopyOwned w r d → look m l (atSlot c) ≡ nothing
+  owner-slot : (w r : Stamp) (d : Bool) → copyAt (m .state) c l ≡ CopyOwned d w r → look m l (atSlot c) ≡ nothing
   unfolding look
-  owner-slot w r d e = slot-nothing l (k .slot) w r d (answerBytes (m .state .opening) (m .shared) c) (pair-at (CopyOwned w r d) e)
+  owner-slot w r d e = slot-nothing l (k .slot) w r d (answerBytes (m .state .opening) (m .shared) c) (pair-at (CopyOwned d w r) e)
 
-  owned-stands : (w r : Stamp) (d : Bool) → copyAt (m .state) c l ≡ CopyOwned w r d → Stands g (atCopy c) (w .0) (r .0) bytes
-  owned-stands w r true e = at-copy (CopyOwned w r true) e .0
-  owned-stands w r false e = at-copy (CopyOwned w r false) e .0
+  owned-stands : (w r : Stamp) (d : Bool) → copyAt (m .state) c l ≡ CopyOwned d w r → Stands g (atCopy c) (w .0) (r .0) bytes
+  owned-stands w r true e = at-copy (CopyOwned true w r) e .0
+  owned-stands w r false e = at-copy (CopyOwned false w r) e .0
 
   -- ---- the invariant after a row that commits nothing, and after one that commits
   keeps : {g′ : Newest Bytes} (d : Effect) (hg : GivenOk d) → SlotStep m (I .rest .shape) c l hc hl given d hg → PairFits l (d .core .slot) (d .copy)
@@ -262,12 +262,12 @@ module _ (z : Bytes) (p : ℕ) {H : List (Commit Bytes)} (call : Call) (given : 
         lease : Lease z (Stores l) (On l) H g c (w .0) (r .0) bytes
         lease = at-copy (CopyShared w r) e
 
-    load-dirty : (w r : Stamp) → copyAt (m .state) c l ≡ CopyOwned w r true → GoodRow (loadOwned true c l w r ps)
+    load-dirty : (w r : Stamp) → copyAt (m .state) c l ≡ CopyOwned true w r → GoodRow (loadOwned true c l w r ps)
     unfolding accepted meaning look loadOwned
     load-dirty w r e = rw cb (
       mk t bytes,
       fits-load t bytes (read-after c l w r ps true) (sees-mine z (Stores l) (On l) c (t .0) (v .1 .0)),
-      load-keeps d tt t (inl (refl, tt)) (pair-owned l (k .slot) w r true (CopyOwned w r′ true) (pair-at (CopyOwned w r true) e))
+      load-keeps d tt t (inl (refl, tt)) (pair-owned l (k .slot) w r true (CopyOwned true w r′) (pair-at (CopyOwned true w r) e))
           (omega arith) (omega arith) (read-clocked c l w r ps true) (read-within c l w r ps true)
           (one-changes I c l hc hl given d tt (atCopy c) (newest (mine c) (w .0) (r′ .0) bytes) (copySpot d tt)
           (inr (managerSpot d tt)) (inr (writebackSpot d tt)) (inl refl) (inr (slotSpot d tt))
@@ -286,15 +286,15 @@ module _ (z : Bytes) (p : ℕ) {H : List (Commit Bytes)} (call : Call) (given : 
         r′ = later r t
 
         v : ContentFits z (Stores l) (On l) H g (atCopy c) (newest (mine c) (w .0) (r .0) bytes)
-        v = at-copy (CopyOwned w r true) e
+        v = at-copy (CopyOwned true w r) e
 
-    load-clean : (w r : Stamp) → copyAt (m .state) c l ≡ CopyOwned w r false → GoodRow (loadOwned false c l w r ps)
+    load-clean : (w r : Stamp) → copyAt (m .state) c l ≡ CopyOwned false w r → GoodRow (loadOwned false c l w r ps)
     unfolding accepted meaning look loadOwned
     load-clean w r e = rw cb (
       mk t bytes,
       fits-load t bytes (read-after c l w r ps false)
           (rw (v .0 .isX) at (sees-clean z (Stores l) (On l) c (t .0) (omega (arith, v .0 .isW, read-version c l w r ps)) J)),
-      load-keeps d tt t (inl (refl, tt)) (pair-owned l (k .slot) w r false (CopyOwned w r′ false) (pair-at (CopyOwned w r false) e))
+      load-keeps d tt t (inl (refl, tt)) (pair-owned l (k .slot) w r false (CopyOwned false w r′) (pair-at (CopyOwned false w r) e))
           (omega arith) (omega arith) (read-clocked c l w r ps false) (read-within c l w r ps false)
           (one-changes I c l hc hl given d tt (atCopy c) (newest clean (w .0) (r′ .0) bytes) (copySpot d tt)
           (inr (managerSpot d tt)) (inr (writebackSpot d tt)) (inl refl) (inr (slotSpot d tt))
@@ -313,13 +313,13 @@ module _ (z : Bytes) (p : ℕ) {H : List (Commit Bytes)} (call : Call) (given : 
         r′ = later r t
 
         v : ContentFits z (Stores l) (On l) H g (atCopy c) (newest clean (w .0) (r .0) bytes)
-        v = at-copy (CopyOwned w r false) e
+        v = at-copy (CopyOwned false w r) e
 
     pub load-good : (v : Copy) → copyAt (m .state) c l ≡ v → GoodRow (loadTable v c l ps)
     unfolding loadTable
     load-good NoCopy e = asks WantLoad (rw e tt)
-    load-good (CopyOwned w r true) e = load-dirty w r e
-    load-good (CopyOwned w r false) e = load-clean w r e
+    load-good (CopyOwned true w r) e = load-dirty w r e
+    load-good (CopyOwned false w r) e = load-clean w r e
     load-good (CopyShared w r) e = go (leb (k .clocks .lts .0) (r .0)) refl
       where
         go : (b : Bool) → leb (k .clocks .lts .0) (r .0) ≡ b → GoodRow (pick b (loadShared c l w ps) (asking WantLoad l ps))
@@ -328,9 +328,9 @@ module _ (z : Bytes) (p : ℕ) {H : List (Commit Bytes)} (call : Call) (given : 
 
   -- ---- store
 
-  store-owned : (w r : Stamp) (b : Bool) → copyAt (m .state) c l ≡ CopyOwned w r b → length given ≡ m .state .opening .width
+  store-owned : (w r : Stamp) (b : Bool) → copyAt (m .state) c l ≡ CopyOwned b w r → length given ≡ m .state .opening .width
       → ((t : Stamp) → commitAt (place p) call given t (store l given) ≡ commitBy p c t (store l given) ∷ []) → commitBytes call given bytes ≡ given
-      → GoodRow (storeTable (CopyOwned w r b) c l ps)
+      → GoodRow (storeTable (CopyOwned b w r) c l ps)
   unfolding accepted meaning look storeTable
   store-owned w r b e n mk cb = rw cb (
     mk t,
@@ -338,7 +338,7 @@ module _ (z : Bytes) (p : ℕ) {H : List (Commit Bytes)} (call : Call) (given : 
       inOrder = all-map (λ a i j q. kept-all (a .op) (a .ts .0) (t .0) (k .clocks) (store-after-loads c l w r ps b) (store-after-stores c l w r ps b) (i j)) (I .rest .clocks c);
       opFits = all-map (λ a f q. omega (arith, f q, v .isR, store-past c l w r ps b)) (J .top);
     },
-    commits-keeps d n t (store l given) (inl (refl, tt)) (pair-owned l (k .slot) w r b (CopyOwned t t true) (pair-at (CopyOwned w r b) e))
+    commits-keeps d n t (store l given) (inl (refl, tt)) (pair-owned l (k .slot) w r b (CopyOwned true t t) (pair-at (CopyOwned b w r) e))
         (omega arith) (store-after-stores c l w r ps b) (omega arith) (λ l′ i x q. i (cc)) (λ l′ i q. i (sym q))
         (one-changes I c l hc hl given d n {g = record { spot = atCopy c; w = t .0; r = t .0; leased = g .leased; x = given }} (atCopy c) (newest (mine c) (t .0) (t .0) given) (copySpot d n)
         (inr (managerSpot d n)) (inr (writebackSpot d n)) (inl refl) (inr (slotSpot d n))
@@ -347,7 +347,7 @@ module _ (z : Bytes) (p : ℕ) {H : List (Commit Bytes)} (call : Call) (given : 
   )
     where
       d : Effect
-      d = storeTable (CopyOwned w r b) c l ps
+      d = storeTable (CopyOwned b w r) c l ps
 
       t : Stamp
       t = storeTime (k .clocks) r
@@ -359,7 +359,7 @@ module _ (z : Bytes) (p : ℕ) {H : List (Commit Bytes)} (call : Call) (given : 
       → ((t : Stamp) → commitAt (place p) call given t (store l given) ≡ commitBy p c t (store l given) ∷ []) → commitBytes call given bytes ≡ given
       → GoodRow (storeTable v c l ps)
   unfolding storeTable
-  store-good (CopyOwned w r b) e n mk cb = store-owned w r b e n mk cb
+  store-good (CopyOwned b w r) e n mk cb = store-owned w r b e n mk cb
   store-good NoCopy e n mk cb = asks WantStore (rw e tt)
   store-good (CopyShared w r) e n mk cb = asks WantStore (rw e refl)
 
@@ -422,15 +422,15 @@ module _ (z : Bytes) (p : ℕ) {H : List (Commit Bytes)} (call : Call) (given : 
       keeps d tt (inl (refl, tt)) (pair-none l (k .slot)) (omega arith) (omega arith)
       (one-changes I c l hc hl given d tt (atCopy c) nothing (copySpot d tt) (inr (managerSpot d tt)) (inr (writebackSpot d tt)) (inl refl) (inr (slotSpot d tt))
       (keep z (Stores l) (On l) J (atCopy c) nothing tt))
-  evict-good (CopyOwned w r b) e =
-      writes-back AnswerEvict (evictTable (CopyOwned w r b) ps .moves) w r r NoCopy (evict-moves w r b ps) (evict-lease w r b ps)
+  evict-good (CopyOwned b w r) e =
+      writes-back AnswerEvict (evictTable (CopyOwned b w r) ps .moves) w r r NoCopy (evict-moves w r b ps) (evict-lease w r b ps)
       (pair-none l (k .slot)) tt (owned-stands w r b e) (keep z (Stores l) (On l) J (atCopy c) nothing tt)
 
   pub yield-good : (v : Copy) → copyAt (m .state) c l ≡ v → GoodRow (yieldTable v ps)
   unfolding accepted meaning look yieldTable
   yield-good NoCopy e = no-row
   yield-good (CopyShared w r) e = no-row
-  yield-good (CopyOwned w r b) e = go (lineAt (m .state) l .recall)
+  yield-good (CopyOwned b w r) e = go (lineAt (m .state) l .recall)
     where
       i : Stands g (atCopy c) (w .0) (r .0) bytes
       i = owned-stands w r b e
@@ -439,7 +439,7 @@ module _ (z : Bytes) (p : ℕ) {H : List (Commit Bytes)} (call : Call) (given : 
           → LineFits z (Stores l) (On l) H (put (atCopy c) (viewCopy c u bytes) (look m l)) g′
           → Inv z H (applied m c l given (row AnswerYield MoveWriteback k u (writtenBack (lineAt (m .state) l) w r)))
       yields u pr n j K =
-          writes-back AnswerYield (yieldTable (CopyOwned w r b) ps .moves) w r r u (yield-moves w r b ps) (yield-lease w r b ps) pr n j K
+          writes-back AnswerYield (yieldTable (CopyOwned b w r) ps .moves) w r r u (yield-moves w r b ps) (yield-lease w r b ps) pr n j K
 
       flushed : Inv z H (applied m c l given (row AnswerYield MoveWriteback k NoCopy (writtenBack (lineAt (m .state) l) w r)))
       flushed = yields NoCopy (pair-none l (k .slot)) tt i (keep z (Stores l) (On l) J (atCopy c) nothing tt)
@@ -448,7 +448,7 @@ module _ (z : Bytes) (p : ℕ) {H : List (Commit Bytes)} (call : Call) (given : 
       go NoRecall = flushed
       go Flush = flushed
       go Downgrade =
-          yields (CopyShared w r) (pair-owned l (k .slot) w r b (CopyShared w r) (pair-at (CopyOwned w r b) e)) tt
+          yields (CopyShared w r) (pair-owned l (k .slot) w r b (CopyShared w r) (pair-at (CopyOwned b w r) e)) tt
           (record { isSpot = i .isSpot; isW = i .isW; isR = i .isR; isX = i .isX }) (demote z (Stores l) (On l) J c (w .0) (r .0) bytes i)
 
   -- ---- take
@@ -559,7 +559,7 @@ module _ (z : Bytes) (p : ℕ) {H : List (Commit Bytes)} (call : Call) (given : 
   receive-renew : (v : Copy) (w r : Stamp) → copyAt (m .state) c l ≡ v → k .slot ≡ Answered GrantRenew l w r → GoodRow (receiveRenew v r ps)
   unfolding accepted meaning look receiveRenew
   receive-renew NoCopy w r i e = dropped w r (receiveRenew NoCopy r ps) refl
-  receive-renew (CopyOwned w₁ r₁ b) w r i e = dropped w r (receiveRenew (CopyOwned w₁ r₁ b) r ps) refl
+  receive-renew (CopyOwned b w₁ r₁) w r i e = dropped w r (receiveRenew (CopyOwned b w₁ r₁) r ps) refl
   receive-renew (CopyShared w₁ r₁) w r i e =
       let d = receiveRenew (CopyShared w₁ r₁) r ps in
       let f : AskFits (Version w) (CopyShared w₁ r₁) = (rw (e, i) at (I .rest .pairs c l hl)) refl in
