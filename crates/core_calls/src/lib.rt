@@ -3,24 +3,12 @@
 // The state goes in by value and comes back by value, and both buffers are lent. Each call takes any
 // values at all and has no `requires`; one that is refused hands back the state that it got and leaves
 // both buffers as they were. What it promises is an equation with `step` of crate `protocol`.
-ghost use mathlib.Core.Path.{_≡_};
 ghost use mathlib.Core.List.{[]};
 ghost use Rattle.protocol.specs.Machine.{machine};
 ghost use Rattle.turns.specs.Calls.{Performs};
-use protocol::Answer;
 use protocol::Call;
-use protocol::Cell;
-use protocol::Copy;
 use protocol::Core;
-use protocol::Grant;
-use protocol::Held;
-use protocol::Line;
-use protocol::Manager;
-use protocol::Opening;
-use protocol::Slot;
-use protocol::Stamp;
 use protocol::State;
-use protocol::Want;
 use turns::Done;
 
 // A core loads a line.
@@ -33,12 +21,7 @@ pub fn load(s: State, private: &mut [u8], shared: &mut [u8], core: usize, line: 
     let lines = s.line;
     let n = refusals::input_refusal(call, opening, cores, lines, private.len(), shared.len(), 0);
     if n != 0 {
-        return Done {
-            answer: Answer::Refused(n),
-            start: 0,
-            count: 0,
-            state: s,
-        };
+        return turns::handed_back(n, s);
     }
     let mut next = s;
     let at = places::kept_at(opening, core, line);
@@ -89,12 +72,7 @@ pub fn store(
         given.len(),
     );
     if n != 0 {
-        return Done {
-            answer: Answer::Refused(n),
-            start: 0,
-            count: 0,
-            state: s,
-        };
+        return turns::handed_back(n, s);
     }
     let mut next = s;
     let at = places::kept_at(opening, core, line);
@@ -142,12 +120,7 @@ pub fn fence(s: State, private: &mut [u8], shared: &mut [u8], core: usize) -> Do
     let lines = s.line;
     let n = refusals::input_refusal(call, opening, cores, lines, private.len(), shared.len(), 0);
     if n != 0 {
-        return Done {
-            answer: Answer::Refused(n),
-            start: 0,
-            count: 0,
-            state: s,
-        };
+        return turns::handed_back(n, s);
     }
     let mut next = s;
     let line = 0;
@@ -184,12 +157,7 @@ pub fn evict(s: State, private: &mut [u8], shared: &mut [u8], core: usize, line:
     let lines = s.line;
     let n = refusals::input_refusal(call, opening, cores, lines, private.len(), shared.len(), 0);
     if n != 0 {
-        return Done {
-            answer: Answer::Refused(n),
-            start: 0,
-            count: 0,
-            state: s,
-        };
+        return turns::handed_back(n, s);
     }
     let mut next = s;
     let at = places::kept_at(opening, core, line);
@@ -225,12 +193,7 @@ pub fn advance(s: State, private: &mut [u8], shared: &mut [u8], core: usize, by:
     let lines = s.line;
     let n = refusals::input_refusal(call, opening, cores, lines, private.len(), shared.len(), 0);
     if n != 0 {
-        return Done {
-            answer: Answer::Refused(n),
-            start: 0,
-            count: 0,
-            state: s,
-        };
+        return turns::handed_back(n, s);
     }
     let mut next = s;
     let line = 0;

@@ -11,7 +11,6 @@ ghost use lib.ListN.{length};
 ghost use Rattle.driver.specs.Play.{stands, Starts, Plays};
 use journal::Next;
 use protocol::Answer;
-use protocol::Call;
 use protocol::Cell;
 use protocol::Opening;
 use protocol::Place;

@@ -14,7 +14,6 @@ pub use flight_calls::take;
 pub use flight_calls::yield_line;
 pub use turns::Done;
 ghost use mathlib.Core.Path.{_≡_};
-ghost use mathlib.Core.List.{[]};
 ghost use Rattle.protocol.specs.Buffers.{part};
 ghost use Rattle.protocol.specs.Machine.{machine};
 ghost use Rattle.protocol.specs.Refusals.{isHeld};
@@ -23,21 +22,11 @@ ghost use Rattle.engine.specs.Calls.{Opens, shownBytes};
 use protocol::Answer;
 use protocol::Buffer;
 use protocol::Call;
-use protocol::Cell;
 use protocol::Copy;
 use protocol::Core;
-use protocol::Effect;
-use protocol::Grant;
-use protocol::Held;
-use protocol::Line;
-use protocol::Manager;
-use protocol::Move;
 use protocol::Opening;
 use protocol::Shown;
-use protocol::Slot;
-use protocol::Stamp;
 use protocol::State;
-use protocol::Want;
 
 // What opening an engine gives.
 pub struct Opened {

@@ -4,24 +4,12 @@
 // The state goes in by value and comes back by value, and both buffers are lent. Each call takes any
 // values at all and has no `requires`; one that is refused hands back the state that it got and leaves
 // both buffers as they were. What it promises is an equation with `step` of crate `protocol`.
-ghost use mathlib.Core.Path.{_≡_};
 ghost use mathlib.Core.List.{[]};
 ghost use Rattle.protocol.specs.Machine.{machine};
 ghost use Rattle.turns.specs.Calls.{Performs};
-use protocol::Answer;
 use protocol::Call;
-use protocol::Cell;
-use protocol::Copy;
 use protocol::Core;
-use protocol::Grant;
-use protocol::Held;
-use protocol::Line;
-use protocol::Manager;
-use protocol::Opening;
-use protocol::Slot;
-use protocol::Stamp;
 use protocol::State;
-use protocol::Want;
 use turns::Done;
 
 // The manager serves the request of a core.
@@ -34,12 +22,7 @@ pub fn serve(s: State, private: &mut [u8], shared: &mut [u8], core: usize) -> Do
     let lines = s.line;
     let n = refusals::input_refusal(call, opening, cores, lines, private.len(), shared.len(), 0);
     if n != 0 {
-        return Done {
-            answer: Answer::Refused(n),
-            start: 0,
-            count: 0,
-            state: s,
-        };
+        return turns::handed_back(n, s);
     }
     let mut next = s;
     let asking = next.core[core];
@@ -78,12 +61,7 @@ pub fn receive(s: State, private: &mut [u8], shared: &mut [u8], core: usize) -> 
     let lines = s.line;
     let n = refusals::input_refusal(call, opening, cores, lines, private.len(), shared.len(), 0);
     if n != 0 {
-        return Done {
-            answer: Answer::Refused(n),
-            start: 0,
-            count: 0,
-            state: s,
-        };
+        return turns::handed_back(n, s);
     }
     let mut next = s;
     let asking = next.core[core];
@@ -122,12 +100,7 @@ pub fn yield_line(s: State, private: &mut [u8], shared: &mut [u8], line: usize) 
     let lines = s.line;
     let n = refusals::input_refusal(call, opening, cores, lines, private.len(), shared.len(), 0);
     if n != 0 {
-        return Done {
-            answer: Answer::Refused(n),
-            start: 0,
-            count: 0,
-            state: s,
-        };
+        return turns::handed_back(n, s);
     }
     let mut next = s;
     let recalled = next.line[line];
@@ -166,12 +139,7 @@ pub fn take(s: State, private: &mut [u8], shared: &mut [u8], line: usize) -> Don
     let lines = s.line;
     let n = refusals::input_refusal(call, opening, cores, lines, private.len(), shared.len(), 0);
     if n != 0 {
-        return Done {
-            answer: Answer::Refused(n),
-            start: 0,
-            count: 0,
-            state: s,
-        };
+        return turns::handed_back(n, s);
     }
     let mut next = s;
     let core = 0;

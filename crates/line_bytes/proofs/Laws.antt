@@ -74,18 +74,11 @@ module _ (P : Bytes → Type 0) where
   after-shifted buf to from n p q = after P (leb n 64) (λ e. p) q
 
 -- the length
-pub copied-length : (dst src : Bytes) → length (copied dst src) ≡ length dst
-unfolding copied
-copied-length dst src = after (λ (x : Bytes). length x ≡ length dst) (eqb (length dst) (length src)) (λ e. sym (eqb-true _ _ e)) refl
-
 pub put-length : (buf : Bytes) (at : ℕ) (src : Bytes) → length (put buf at src) ≡ length buf
 put-length buf at src = after-put (λ (x : Bytes). length x ≡ length buf) buf at src (length-splice buf at src) refl
 
 pub moved-length : (dst : Bytes) (at : ℕ) (src : Bytes) (from n : ℕ) → length (moved dst at src from n) ≡ length dst
 moved-length dst at src from n = after-moved (λ (x : Bytes). length x ≡ length dst) dst at src from n (put-length dst at _) refl
-
-pub shifted-length : (buf : Bytes) (to from n : ℕ) → length (shifted buf to from n) ≡ length buf
-shifted-length buf to from n = after-shifted (λ (x : Bytes). length x ≡ length buf) buf to from n (moved-length buf to buf from n) refl
 
 -- "all other bytes stay": an index before the n bytes from a, or past them
 abbrev pub Elsewhere : ℕ → ℕ → ℕ → Type 0

@@ -6,7 +6,7 @@
 // and the fixed values that a fresh engine starts from. No function here has a `requires`.
 ghost use mathlib.Core.Path.{_≡_};
 ghost use Rattle.protocol.specs.Stamps.{greatest, later, fits, after, precedes};
-ghost use Rattle.protocol.specs.Clock.{loaded, stored, storedIfFits, fenced, advancedIfFits};
+ghost use Rattle.protocol.specs.Clock.{loaded, storedIfFits, fenced, advancedIfFits};
 ghost use Rattle.protocol.specs.Fresh.{freshCore, freshCell, freshLine, freshState, smallest};
 ghost use Rattle.protocol.specs.Limits.{within, openingFits};
 

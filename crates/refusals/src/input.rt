@@ -10,14 +10,10 @@ ghost use Rattle.protocol.specs.Refusals.{ownerFits, slotFits, ownersFit, slots
 ghost use Rattle.refusals.specs.Input.{machineWith, inputRefusal, lengthsFit};
 use protocol::Call;
 use protocol::Core;
-use protocol::Grant;
-use protocol::Held;
 use protocol::Line;
 use protocol::Manager;
 use protocol::Opening;
 use protocol::Slot;
-use protocol::Stamp;
-use protocol::Want;
 
 // Whether the core that owns a line, if one does, is one of the cores.
 fn owner_fits(cores: usize, manager: Manager) -> bool

@@ -21,7 +21,6 @@ use protocol::Recall;
 use protocol::Slot;
 use protocol::Stamp;
 use protocol::Want;
-use protocol::Writeback;
 
 // The recall after a request for an owned line.
 fn recall_after(want: Want, recall: Recall) -> Recall

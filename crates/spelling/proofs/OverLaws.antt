@@ -207,11 +207,6 @@ module _ (old : List ℕ) (end n : ℕ) (new : List ℕ) (r : ℕ) (p : PutBefor
       let room = twenty-yes (length old) end t w in
       (rw room at (p .bytes)) ∙ ap (λ (k : ℕ). over old k (decimal n)) (sym (rw room at (p .answer)))
 
-  pub before-part : take (end - r) (drop r new) ≡ decimal n
-  before-part =
-      let size : end - r ≡ length (decimal n) = omega (arith, before-place) in
-      ap₂ (λ (k : ℕ) (l : List ℕ). take k (drop r l)) size before-laid ∙ over-part old r (decimal n) (omega (arith, before-place))
-
   -- what stands from the number on
   pub before-from : drop r new ≡ decimal n ++ drop end old
   before-from =

@@ -170,15 +170,6 @@ pub fn put_number_before(out: &mut [u8], end: usize, n: u64) -> usize
     k
 }
 
-// A number in decimal, into a lent buffer at a place. Where it does not fit, the buffer is left as it was.
-pub fn put_number(out: &mut [u8], at: usize, n: u64) -> Put
-    ensures { λ r. ⌜ PutAt (now (out .entry)) at (decimal n) (now (out .exit)) r ⌝ }
-{
-    let mut digits = [0u8; 20];
-    let k = put_number_before(&mut digits, 20, n);
-    put_text(out, at, &digits[k..20])
-}
-
 // The hex digit of a number below 16.
 fn hex_digit(d: u8) -> u8
     requires { ⌜ d < 16 ⌝ }

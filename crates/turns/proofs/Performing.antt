@@ -19,8 +19,9 @@ use Rattle.places.specs.declared.Kept.{Kept}
 use Rattle.places.specs.Kept.{Keeps}
 use Rattle.turns.specs.declared.Span.{Span}
 use Rattle.turns.specs.declared.Turn.{Turn}
+use Rattle.turns.specs.declared.Done.{Done}
 use Rattle.turns.specs.Turns.{spanOf, Turns}
-use Rattle.turns.specs.Calls.{Performs}
+use Rattle.turns.specs.Calls.{handedBack, Performs}
 use Rattle.turns.proofs.Effects.{step-refused, step-accepted, Sound, effect-sound, effect-moves}
 use Rattle.turns.proofs.Allowed.{allowed-at, allowed-place}
 
@@ -30,11 +31,12 @@ module _ (s : State) (p q : Bytes) (call : Call) (given : Bytes) (n : ℕ) (e : 
   here = rw (length-replicate, length-replicate) at e
 
   -- a call that one of 1 to 6 refuses
-  pub refused-performs : (n ≡ 0 → ⊥) → Performs (machine s p q) call given (record { answer = Refused n; start = 0; count = 0; state = s }) p q
+  pub refused-performs : (n ≡ 0 → ⊥) → (r : Done) → r ≡ handedBack n s → Performs (machine s p q) call given r p q
   unfolding meaning
-  refused-performs h =
+  refused-performs h r back =
       let t = step-refused (machine s p q) call given (λ z. h (here ∙ z)) in
-      record { reply = rw (t, here); machine = rw t; span = refl }
+      let performed : Performs (machine s p q) call given (handedBack n s) p q = record { reply = rw (t, here); machine = rw t; span = refl } in
+      rw back performed
 
   -- a call that none of them refuses: the effect on core c and line l written back, its bytes moved
   module _ (h : n ≡ 0) where

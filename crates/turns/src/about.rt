@@ -4,12 +4,8 @@ ghost use mathlib.Core.Path.{_≡_};
 ghost use Rattle.protocol.specs.Machine.{slotLine, ownerOf};
 ghost use Rattle.turns.specs.About.{namedLine, coreBy, lineBy};
 use protocol::Call;
-use protocol::Grant;
-use protocol::Held;
 use protocol::Manager;
 use protocol::Slot;
-use protocol::Stamp;
-use protocol::Want;
 
 // The line that a slot speaks of.
 pub fn slot_line(slot: Slot) -> usize

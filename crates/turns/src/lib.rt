@@ -13,22 +13,14 @@ pub use about::slot_line;
 ghost use mathlib.Core.Path.{_≡_};
 ghost use mathlib.Core.List.{[]};
 ghost use Rattle.turns.specs.Turns.{spanOf, Turns};
+ghost use Rattle.turns.specs.Calls.{handedBack};
 use protocol::Answer;
 use protocol::Call;
 use protocol::Cell;
-use protocol::Copy;
 use protocol::Core;
-use protocol::Effect;
-use protocol::Grant;
-use protocol::Held;
 use protocol::Line;
-use protocol::Manager;
-use protocol::Move;
 use protocol::Opening;
-use protocol::Slot;
-use protocol::Stamp;
 use protocol::State;
-use protocol::Want;
 
 // A part of the private buffer: `count` bytes from `start`.
 pub struct Span {
@@ -55,6 +47,18 @@ pub struct Done {
     pub start: usize,
     pub count: usize,
     pub state: State,
+}
+
+// What a call hands back that one of 1 to 6 refuses: its number, and the state as it was.
+pub fn handed_back(n: u8, s: State) -> Done
+    ensures { λ r. ⌜ r ≡ handedBack n s ⌝ }
+{
+    Done {
+        answer: Answer::Refused(n),
+        start: 0,
+        count: 0,
+        state: s,
+    }
 }
 
 // Where the bytes of a commit lie, if they start at `start`.

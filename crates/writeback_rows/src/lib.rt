@@ -6,15 +6,11 @@ use protocol::Answer;
 use protocol::Copy;
 use protocol::Core;
 use protocol::Effect;
-use protocol::Grant;
-use protocol::Held;
 use protocol::Line;
 use protocol::Manager;
 use protocol::Move;
 use protocol::Recall;
-use protocol::Slot;
 use protocol::Stamp;
-use protocol::Want;
 use protocol::Writeback;
 
 // A version on its way back to the manager.

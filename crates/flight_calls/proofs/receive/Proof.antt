@@ -9,7 +9,7 @@ use Rattle.flight_calls.proofs.receive.Statement.{statement}
 use Rattle.flight_calls.proofs.receive.Tie as tie
 
 returns : tie.Need-returns
-returns c = refused-performs _ _ _ _ _ _ (c .before .input-refusal .ensures) (c .if1 .taken)
+returns c = refused-performs _ _ _ _ _ _ (c .before .before .input-refusal .ensures) (c .before .if1 .taken) _ (c .handed-back .ensures)
 
 mul-asking : tie.Need-mul-asking
 mul-asking c =
@@ -33,6 +33,7 @@ pub receive-spec : {M : Type 1} → statement M
 receive-spec =
     tie.close
     (tie.spec
+    (λ c κs. search needs)
     (λ c κs. search needs)
     returns
     mul-asking

@@ -9,7 +9,7 @@ use Rattle.flight_calls.proofs.yield_line.Statement.{statement}
 use Rattle.flight_calls.proofs.yield_line.Tie as tie
 
 returns : tie.Need-returns
-returns c = refused-performs _ _ _ _ _ _ (c .before .input-refusal .ensures) (c .if1 .taken)
+returns c = refused-performs _ _ _ _ _ _ (c .before .before .input-refusal .ensures) (c .before .if1 .taken) _ (c .handed-back .ensures)
 
 mul-recalled : tie.Need-mul-recalled
 mul-recalled c =
@@ -33,6 +33,7 @@ pub yield-line-spec : {M : Type 1} → statement M
 yield-line-spec =
     tie.close
     (tie.spec
+    (λ c κs. search needs)
     (λ c κs. search needs)
     returns
     mul-recalled

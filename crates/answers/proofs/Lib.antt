@@ -1,2 +1,0 @@
--- Laws for callers.
-pub mod Numbers
