@@ -26,7 +26,7 @@ fn below(x: u64, n: usize) -> usize {
 
 // Makes `count` calls on a fresh engine: 25 in 100 loads, 20 stores, 15 serves, 15 receives, and 5
 // each of evict, yield, take, fence and advance. Answers how many of them were refused.
-fn calls(count: u32, opening: Opening, private: &mut [u8], shared: &mut [u8], given: &[u8]) -> u64 {
+fn calls(count: u64, opening: Opening, private: &mut [u8], shared: &mut [u8], given: &[u8]) -> u64 {
     let cores = opening.cores;
     let lines = opening.lines;
     let o = engine::open(opening);
@@ -40,7 +40,7 @@ fn calls(count: u32, opening: Opening, private: &mut [u8], shared: &mut [u8], gi
     };
     let mut x: u64 = 1;
     let mut refused: u64 = 0;
-    let mut i: u32 = 0;
+    let mut i: u64 = 0;
     while i < count {
         i += 1;
         let a = d.answer;
@@ -87,29 +87,31 @@ fn calls(count: u32, opening: Opening, private: &mut [u8], shared: &mut [u8], gi
     std::num::wrapping_add_u64(refused, answers::refusals_of(a))
 }
 
-// The number that an argument spells, or 0.
-fn argument(i: usize) -> u32 {
+// One more than the greatest number of an argument.
+const WRONG: u64 = 4294967296;
+
+// The number that an argument spells, or WRONG.
+fn argument(i: usize) -> u64 {
     let mut text = [0u8; 16];
     let n = os::arg(i, &mut text);
     match spelling::read_number(&text[0..n]) {
-        Number::Value(value) => value,
-        Number::Wrong => 0,
+        Number::Value(value) => value as u64,
+        Number::Wrong => WRONG,
     }
 }
 
-fn main() {
-    let count = argument(1);
-    let opening = Opening {
-        cores: argument(2) as usize,
-        lines: argument(3) as usize,
-        width: argument(4) as usize,
-        lease: 10,
-    };
+// Says how the program is called.
+fn usage() {
+    io::write_all(
+        STDERR_FILENO,
+        b"usage: bench_calls CALLS CORES LINES WIDTH\n",
+    );
+}
+
+// Makes `count` calls on an engine of an opening, and prints how many of them were refused.
+fn run(count: u64, opening: Opening) {
     if !opening.fits() {
-        io::write_all(
-            STDERR_FILENO,
-            b"usage: bench_calls CALLS CORES LINES WIDTH\n",
-        );
+        usage();
         return;
     }
     let cores = opening.cores;
@@ -129,4 +131,19 @@ fn main() {
     );
     io::print_decimal(STDOUT_FILENO, refused);
     io::write_all(STDOUT_FILENO, b"\n");
+}
+
+fn main() {
+    let count = argument(1);
+    let opening = Opening {
+        cores: argument(2) as usize,
+        lines: argument(3) as usize,
+        width: argument(4) as usize,
+        lease: 10,
+    };
+    if count == WRONG {
+        usage();
+        return;
+    }
+    run(count, opening);
 }

@@ -62,11 +62,11 @@ pub record Going (j : Bytes) (from : Standing) (p₀ q₀ old : Bytes) (z : Size
 
 -- ---- the loop begins
 
-pub met : (j : Bytes) (s : Standing) → stands (length j) s ≡ true → Met j (s .at) (s .steps .0) (s .commits) (s .refusals)
+pub met : (j : Bytes) (s : Standing) → stands (length j) s ≡ true → Met j (s .at) (s .steps) (s .commits) (s .refusals)
 met j s e =
     let a = both-true (fails (eqb (s .form) 0)) _ e in
     let b = both-true (leb (s .at) (length j)) _ (a .1) in
-    let d = both-true (leb (s .steps .0) (s .at)) _ (b .1) in
+    let d = both-true (leb (s .steps) (s .at)) _ (b .1) in
     let f = both-true (leb (s .commits) (s .at)) _ (d .1) in
     record { inside = leb-true _ _ (b .0); few-steps = leb-true _ _ (d .0); few-commits = leb-true _ _ (f .0); few-refusals = leb-true _ _ (f .1) }
 
@@ -74,7 +74,7 @@ unnamed : (b : Bool) → fails b ≡ true → b ≡ false
 unnamed true e = sym e
 unnamed false e = refl
 
-pub going-start : (j : Bytes) (s : Standing) (p q old : Bytes) (base : ℕ) → stands (length j) s ≡ true → base ≡ machineRefusal (machine (s .state) p q) → Going j s p q old (s .state .opening) base (s .form) p q old (s .state) (s .at) (s .steps .0) (s .commits) (s .refusals) 0
+pub going-start : (j : Bytes) (s : Standing) (p q old : Bytes) (base : ℕ) → stands (length j) s ≡ true → base ≡ machineRefusal (machine (s .state) p q) → Going j s p q old (s .state .opening) base (s .form) p q old (s .state) (s .at) (s .steps) (s .commits) (s .refusals) 0
 unfolding run lines
 going-start j s p q old base e b =
     record {

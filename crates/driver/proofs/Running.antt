@@ -81,26 +81,26 @@ abbrev pub given : Call → Bytes → Given
 given call bs = record { call = call; bytes = bs }
 
 abbrev recordAt : Standing → Bytes → Bytes → Call → Bytes → Record
-recordAt b p q call bs = record { place = place (b .steps .0 + 1); given = given call bs; reply = step (machine (b .state) p q) call bs .reply }
+recordAt b p q call bs = record { place = place (b .steps + 1); given = given call bs; reply = step (machine (b .state) p q) call bs .reply }
 
 -- a step more
 module _ {j : Bytes} {a b : Standing} {p q p' q' : Bytes} {gs : List Given} (l : Leads j a p q gs b p' q') (call : Call) (bs : Bytes) where
   records-more : runFrom a p q (gs ++ (given call bs ∷ [])) .records ≡ runFrom a p q gs .records ++ (recordAt b p' q' call bs ∷ [])
   unfolding run
   records-more =
-      let k : a .steps .0 + 1 + length gs ≡ b .steps .0 + 1 =
-      omega (arith, run-length gs (a .steps .0 + 1) (machine (a .state) p q), ap (λ (c : Counts). c .steps) (l .counts)) in
-      run-records gs (given call bs ∷ []) (a .steps .0 + 1) (machine (a .state) p q) ∙ rw (k, ← l .machine)
+      let k : a .steps + 1 + length gs ≡ b .steps + 1 =
+      omega (arith, run-length gs (a .steps + 1) (machine (a .state) p q), ap (λ (c : Counts). c .steps) (l .counts)) in
+      run-records gs (given call bs ∷ []) (a .steps + 1) (machine (a .state) p q) ∙ rw (k, ← l .machine)
 
-  pub lines-more : lines (runFrom a p q (gs ++ (given call bs ∷ [])) .records) ≡ lines (runFrom a p q gs .records) ++ recordText (place (b .steps .0 + 1)) (step (machine (b .state) p' q') call bs .reply)
+  pub lines-more : lines (runFrom a p q (gs ++ (given call bs ∷ [])) .records) ≡ lines (runFrom a p q gs .records) ++ recordText (place (b .steps + 1)) (step (machine (b .state) p' q') call bs .reply)
   unfolding lines
   lines-more =
       ap lines records-more ∙ lines-append (runFrom a p q gs .records) (recordAt b p' q' call bs ∷ [])
-      ∙ ap (λ (t : Bytes). lines (runFrom a p q gs .records) ++ t) (append-nil (recordText (place (b .steps .0 + 1)) (step (machine (b .state) p' q') call bs .reply)))
+      ∙ ap (λ (t : Bytes). lines (runFrom a p q gs .records) ++ t) (append-nil (recordText (place (b .steps + 1)) (step (machine (b .state) p' q') call bs .reply)))
 
   pub leads-more :
       (d : Standing) (x y : Bytes) {start end : ℕ} → NextOf j (b .at) (b .form) (Step call start end (d .at)) → Data (part j start (end - start)) bs
-      → d .form ≡ b .form → machine (d .state) x y ≡ step (machine (b .state) p' q') call bs .machine → d .steps .0 ≡ b .steps .0 + 1
+      → d .form ≡ b .form → machine (d .state) x y ≡ step (machine (b .state) p' q') call bs .machine → d .steps ≡ b .steps + 1
       → d .commits ≡ b .commits + isCommit (step (machine (b .state) p' q') call bs .reply)
       → d .refusals ≡ b .refusals + isRefusal (step (machine (b .state) p' q') call bs .reply)
       → Leads j a p q (gs ++ (given call bs ∷ [])) d x y
@@ -109,7 +109,7 @@ module _ {j : Bytes} {a b : Standing} {p q p' q' : Bytes} {gs : List Given} (l :
       record {
         steps = steps-append (l .steps) (aLine (rw (l .form) at n) g noLine);
         form = ef ∙ l .form;
-        machine = em ∙ sym (run-last gs (given call bs ∷ []) (a .steps .0 + 1) (machine (a .state) p q) ∙ rw (← l .machine));
+        machine = em ∙ sym (run-last gs (given call bs ∷ []) (a .steps + 1) (machine (a .state) p q) ∙ rw (← l .machine));
         counts =
             rw (es, ec, er)
             (one ∙ ap (λ (k : Counts). counted k (recordAt b p' q' call bs ∷ [])) (l .counts)
@@ -118,7 +118,7 @@ module _ {j : Bytes} {a b : Standing} {p q p' q' : Bytes} {gs : List Given} (l :
     where
       one :
           record {
-            steps = b .steps .0 + 1;
+            steps = b .steps + 1;
             commits = b .commits + isCommit (step (machine (b .state) p' q') call bs .reply);
             refusals = b .refusals + isRefusal (step (machine (b .state) p' q') call bs .reply);
           }

@@ -50,7 +50,7 @@ onward {a = a} {p = p} {q = q} {gs = gs} l {t} x =
 -- where no step is left, the last lines are the listing
 ended : {j : Bytes} {s : Standing} {p q : Bytes} {e : Ending} → EndsAt j (s .form) (s .at) e → ListingAt j s p q (lastLines (countsOf s) e)
 unfolding run lines count
-ended {s = s} {e = e} r = record { steps = []; ending = e; reads = record { to = s .at; steps = noLine; ends = r }; text = rw (add-zero (s .steps .0), add-zero (s .commits), add-zero (s .refusals)) }
+ended {s = s} {e = e} r = record { steps = []; ending = e; reads = record { to = s .at; steps = noLine; ends = r }; text = rw (add-zero (s .steps), add-zero (s .commits), add-zero (s .refusals)) }
 
 told-done : {j : Bytes} {from : Standing} {p q : Bytes} {there : Standing} {p' q' text : Bytes} {room : ℕ} {g : Progress} → Tells j from p q there p' q' text room g → g ≡ Done → ListingAt j from p q text
 told-done {j} {from} {p} {q} (done s l r t) e = subst (ListingAt j from p q) (sym t) (onward l (ended r))
@@ -85,7 +85,7 @@ told-onward :
     → g ≡ More → 0 < length text → (from .at < there .at) × (there .at ≤ length j)
 told-onward (done s l r t) e h = absurd (let z : _≡_ {A = ℕ} 0 1 = cc in omega arith)
 told-onward {j} {from} {p} {q} (more {gs = gs} s l t y r) e h =
-    let n = lines-some gs (from .steps .0 + 1) (machine (from .state) p q) (rw t at h) in
+    let n = lines-some gs (from .steps + 1) (machine (from .state) p q) (rw t at h) in
     (omega (arith, steps-long (l .steps)), steps-inside (l .steps) (met j from s .inside))
 told-onward (unfit s a b d t) e h = absurd (let z : _≡_ {A = ℕ} 0 1 = cc in omega arith)
 

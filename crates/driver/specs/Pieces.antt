@@ -4,7 +4,6 @@ use mathlib.Core.Path.{_≡_}
 use mathlib.Core.Bool.{Bool, true, false}
 use lib.ListN.{length, take}
 use Rattle.protocol.specs.Buffers.{Bytes, part}
-use Rattle.protocol.specs.Run.{place}
 use Rattle.protocol.specs.declared.Opening.{Opening as Sizes}
 use Rattle.protocol.specs.declared.State.{State}
 use Rattle.protocol.specs.declared.Call.{Call}
@@ -45,7 +44,7 @@ pub record Decodes (digits buf : Bytes) (n : ℕ) : Type 0 where
 
 -- a standing, from its parts
 abbrev pub standingAt : ℕ → ℕ → ℕ → ℕ → ℕ → State → Standing
-standingAt at form steps commits refusals s = record { at = at; form = form; steps = place steps; commits = commits; refusals = refusals; state = s }
+standingAt at form steps commits refusals s = record { at = at; form = form; steps = steps; commits = commits; refusals = refusals; state = s }
 
 -- how far a call came whose next piece was put, or had no room
 abbrev pub playedBy : Put → ℕ → Standing → Played

@@ -28,18 +28,18 @@ use Rattle.driver.specs.declared.Played.{Played}
 
 -- what was met before a standing
 abbrev pub countsOf : Standing → Counts
-countsOf s = record { steps = s .steps .0; commits = s .commits; refusals = s .refusals }
+countsOf s = record { steps = s .steps; commits = s .commits; refusals = s .refusals }
 
 -- the steps gs made from a standing with the buffers p and q
 abbrev pub runFrom : Standing → Bytes → Bytes → List Given → Run
-runFrom s p q gs = run gs (s .steps .0 + 1) (machine (s .state) p q)
+runFrom s p q gs = run gs (s .steps + 1) (machine (s .state) p q)
 
 -- a run of a journal of n bytes may stand there: its first line was read, the place is not past the end, and no more was met than there
 -- are bytes before the place (a line has one byte or more)
 abbrev pub stands : ℕ → Standing → Bool
 stands n s =
     both (untrue (eqb (s .form) 0))
-    (both (leb (s .at) n) (both (leb (s .steps .0) (s .at)) (both (leb (s .commits) (s .at)) (leb (s .refusals) (s .at)))))
+    (both (leb (s .at) n) (both (leb (s .steps) (s .at)) (both (leb (s .commits) (s .at)) (leb (s .refusals) (s .at)))))
 
 -- the steps gs lead from the standing a, with the buffers p and q, to the standing b, with the buffers p' and q': the lines of the journal
 -- between the two places spell them, the machine is the one after them, and they are counted
@@ -54,7 +54,7 @@ pub data Piece (journal : Bytes) (s : Standing) (p q : Bytes) : Bytes → Type 0
   aStep :
       {call : Call} {start end next : ℕ} {bs : Bytes} → NextOf journal (s .at) (s .form) (Step call start end next)
       → Data (part journal start (end - start)) bs
-      → Piece journal s p q (recordText (place (s .steps .0 + 1)) (step (machine (s .state) p q) call bs .reply))
+      → Piece journal s p q (recordText (place (s .steps + 1)) (step (machine (s .state) p q) call bs .reply))
   theEnd : {e : Ending} → EndsAt journal (s .form) (s .at) e → Piece journal s p q (lastLines (countsOf s) e)
 
 -- ---- play
@@ -88,7 +88,7 @@ pub record Plays (journal : Bytes) (from : Standing) (p q old p' q' new : Bytes)
 
 -- the standing after the first line: nothing met, the fresh state
 abbrev pub opened : ℕ → ℕ → Sizes → Standing
-opened at form o = record { at = at; form = form; steps = place 0; commits = 0; refusals = 0; state = freshState o }
+opened at form o = record { at = at; form = form; steps = 0; commits = 0; refusals = 0; state = freshState o }
 
 -- the standing of a journal that opens no engine, or whose first line is not out yet
 abbrev pub nowhere : Standing

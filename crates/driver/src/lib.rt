@@ -21,7 +21,7 @@ use spelling::Put;
 pub struct Standing {
     pub at: usize,
     pub form: u32,
-    pub steps: Place,
+    pub steps: u64,
     pub commits: u64,
     pub refusals: u64,
     pub state: State,
@@ -52,7 +52,6 @@ fn may_stand(journal: &[u8], from: Standing) -> bool
     ensures { λ r. ⌜ r ≡ stands (length (now (journal .entry))) from ⌝ }
 {
     let at = from.at;
-    let steps = from.steps;
     if from.form == 0 {
         return false;
     }
@@ -60,7 +59,7 @@ fn may_stand(journal: &[u8], from: Standing) -> bool
         return false;
     }
     let most = at as u64;
-    if most < steps.0 {
+    if most < from.steps {
         return false;
     }
     if most < from.commits {
@@ -117,9 +116,8 @@ pub fn play(
     }
     let mut s = from.state;
     let form = from.form;
-    let place = from.steps;
     let mut at = from.at;
-    let mut steps = place.0;
+    let mut steps = from.steps;
     let mut commits = from.commits;
     let mut refusals = from.refusals;
     let mut used: usize = 0;

@@ -50,7 +50,7 @@ pub(crate) fn standing(
     Standing {
         at,
         form,
-        steps: Place(steps),
+        steps,
         commits,
         refusals,
         state,

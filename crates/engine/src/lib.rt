@@ -1,7 +1,7 @@
-// The engine: opening it, the nine calls on it, and `show`.
+// The engine: opening it, the nine calls on it, and the bytes of a line or of a commit.
 //
 // Every function takes any values at all and has no `requires`. What each promises is an equation with
-// `opened`, `step` or `shown` of crate `protocol`. Callers write `d = load(d.state, ..)`, which saves a
+// `opened`, `step`, `shown` or `part` of crate `protocol`. Callers write `d = load(d.state, ..)`, which saves a
 // copy of the state against one by way of a local.
 pub use core_calls::advance;
 pub use core_calls::evict;
@@ -121,8 +121,8 @@ pub fn show<'a>(s: State, private: &'a [u8], shared: &'a [u8], core: usize, line
     }
 }
 
-// The bytes of a commit, `count` of them from `start` in the private buffer, as a call hands them back in `Done`; as many of them as
-// the buffer has, for any start and count. Nothing is copied.
+// The bytes of a commit: `count` of them from `start` in the private buffer, as `Done` says where a
+// call made one. For any start and count, as many of them as the buffer has. Nothing is copied.
 pub fn commit_bytes(private: &[u8], start: usize, count: usize) -> &[u8]
     ensures { λ r. ⌜ now r ≡ part (now («private» .entry)) start count ⌝ }
 {

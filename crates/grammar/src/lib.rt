@@ -221,7 +221,7 @@ fn find(line: &[u8], from: usize, to: usize) -> Found
     }
 }
 
-// A number as a place.
+// A number as an index: of a core or of a line.
 fn index(n: u32) -> usize
     ensures { λ r. ⌜ r ≡ n ⌝ }
 {

@@ -38,7 +38,7 @@ fn tail(line: &mut [u8; 128], text: &[u8]) -> usize
     start
 }
 
-// A text, bytes in hex behind it, and a newline, into a lent buffer at a place. Where they do not fit, it is left as it was.
+// A text, bytes in hex behind it, and a newline, into a lent buffer from `at` on. Where they do not fit, it is left as it was.
 pub fn put_with_data(out: &mut [u8], at: usize, head: &[u8], bytes: &[u8]) -> Put
     ensures { λ r. ⌜ PutAt (now (out .entry)) at (now (head .entry) ++ hex (now (bytes .entry)) ++ text "\n") (now (out .exit)) r ⌝ }
 {
@@ -126,7 +126,7 @@ fn put_access(
     put_with_data(out, at, &head[e..], bytes)
 }
 
-// The record of a call, into a lent buffer at a place: `place` is the call's position in the list, `answer` what it answered, and
+// The record of a call, into a lent buffer from `at` on: `place` is the call's place in the list, `answer` what it answered, and
 // `bytes` are the bytes of a load's or a store's commit. Where the record does not fit, the buffer is left as it was.
 pub fn put_record(out: &mut [u8], at: usize, place: Place, answer: Answer, bytes: &[u8]) -> Put
     ensures { λ r. ⌜ PutAt (now (out .entry)) at (recordText place (meaning answer (now (bytes .entry)))) (now (out .exit)) r ⌝ }
@@ -184,7 +184,7 @@ pub fn put_record(out: &mut [u8], at: usize, place: Place, answer: Answer, bytes
     }
 }
 
-// The end line, into a lent buffer at a place: the step lines met, the commits, and the refused lines above it. Where it does not
+// The end line, into a lent buffer from `at` on: the step lines met, the commits, and the refused lines above it. Where it does not
 // fit, the buffer is left as it was.
 pub fn put_end(out: &mut [u8], at: usize, steps: u64, commits: u64, refused: u64) -> Put
     ensures { λ r. ⌜ PutAt (now (out .entry)) at (endText steps commits refused) (now (out .exit)) r ⌝ }

@@ -1,8 +1,8 @@
-// Bytes move at every place where they can, and each refusal is met once. Three cores, two lines, a
-// width of two bytes, a lease of 2.
+// Bytes move at every place where they can, and each refusal of an opening or a call, 1 to 7 and 20 to
+// 27, is met once. Three cores, two lines, a width of two bytes, a lease of 2.
 //
 // A list has five bytes for each call: its kind, a digit for the core, a digit for the line, one byte
-// more, and a blank. The kinds are L load, S store (the byte fills the line), s store of no bytes,
+// more, and a blank. The kinds are L load, S store (the byte and a `-`), s store of no bytes,
 // F fence, E evict, A advance (by the digit), M advance by the greatest number, V serve, R receive,
 // Y yield and T take. The core and the line say besides what is shown.
 use engine::Done;
@@ -118,7 +118,7 @@ fn play(list: &[u8]) {
         let line = digit(list[at + 2]);
         let value = list[at + 3];
         let by = (value % 16) as u32;
-        let given = [value; 2];
+        let given = [value, b'-'];
         d = make(d, &mut private, &mut shared, kind, core, line, by, &given);
         print(n, d, &private, &shared, core, line);
         at += 5;

@@ -1,7 +1,7 @@
 // The refusals of a call as code: 1 to 6, because of the input, and 20 to 27, because of the state.
 //
-// Each function gives the first number that applies, or 0 where none does, for any values at all. The
-// definitions that they are equal to are those of `protocol`.
+// The first number that applies, or 0 where none does, for any values at all; whether 1 or 2 applies by
+// itself; and what a refused call makes of its pieces. All equal the definitions of `protocol`.
 mod input;
 mod state;
 

@@ -86,7 +86,7 @@ last-length k (stopped n) =
 
 -- what is written next, whatever it is
 pub piece-length : {j : Bytes} {s : Standing} {p q t : Bytes} → Piece j s p q t → length t ≤ 246
-piece-length {s = s} {p} {q} (aStep {call = call} {bs = bs} x d) = step-length (place (s .steps .0 + 1)) (machine (s .state) p q) call bs
+piece-length {s = s} {p} {q} (aStep {call = call} {bs = bs} x d) = step-length (place (s .steps + 1)) (machine (s .state) p q) call bs
 piece-length {s = s} (theEnd {e = e} x) = last-length (countsOf s) e
 
 -- ---- play
@@ -177,7 +177,7 @@ count-few f h (r ∷ rs) = omega (arith, h (r .reply), count-few f h rs)
 
 -- a run may stand there, from what is to hold
 may-stand :
-    (n : ℕ) (s : Standing) → (s .form ≡ 0 → ⊥) → s .at ≤ n → s .steps .0 ≤ s .at → s .commits ≤ s .at → s .refusals ≤ s .at
+    (n : ℕ) (s : Standing) → (s .form ≡ 0 → ⊥) → s .at ≤ n → s .steps ≤ s .at → s .commits ≤ s .at → s .refusals ≤ s .at
     → stands n s ≡ true
 may-stand n s f a b c d = rw (ne-eqb (s .form) 0 f, le-leb _ _ a, le-leb _ _ b, le-leb _ _ c, le-leb _ _ d)
 
@@ -195,9 +195,9 @@ leads-stand :
 leads-stand {j} {from} {p} {q} {gs} {there} s l =
     let m = met j from s in
     let rs : List Record = runFrom from p q gs .records in
-    let n = run-length gs (from .steps .0 + 1) (machine (from .state) p q) in
+    let n = run-length gs (from .steps + 1) (machine (from .state) p q) in
     let k = steps-long (l .steps) in
-    let es : there .steps .0 ≡ from .steps .0 + length rs = ap (λ (c : Counts). c .steps) (l .counts) in
+    let es : there .steps ≡ from .steps + length rs = ap (λ (c : Counts). c .steps) (l .counts) in
     let ec : there .commits ≡ from .commits + count isCommit rs = ap (λ (c : Counts). c .commits) (l .counts) in
     let er : there .refusals ≡ from .refusals + count isRefusal rs = ap (λ (c : Counts). c .refusals) (l .counts) in
     may-stand (length j) there (λ z. form-named (length j) from s (sym (l .form) ∙ z)) (steps-inside (l .steps) (m .inside))

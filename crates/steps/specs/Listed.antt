@@ -1,16 +1,16 @@
--- What was written where standard output took it all.
+-- What `steps` answers. No contract can speak of what a write did with its bytes: false says no more than that one failed.
 use mathlib.Core.Bool.{Bool, true, false}
 use mathlib.Core.List.{List}
 use Rattle.protocol.specs.Buffers.{Bytes}
 use Rattle.driver.specs.Calls.{Plays-on, Playing}
 use Rattle.driver.specs.declared.Standing.{Standing}
 
--- the listing from a standing on, with the buffers p and q: `play` was called until it was done, and what each call wrote was taken
+-- from a standing on, with the buffers p and q: true, and calls of `play` lead from there to the listing's end
 pub data Ended (journal : Bytes) (from : Standing) (p q : Bytes) : Bool → Type 0 where
   ended : {ts : List Bytes} → Plays-on journal from p q ts → Ended journal from p q true
   stopped : Ended journal from p q false
 
--- the whole listing
+-- from the start: true, and `start` and calls of `play` give the whole listing
 pub data Listed (journal : Bytes) : Bool → Type 0 where
   whole : {ts : List Bytes} → Playing journal ts → Listed journal true
   part : Listed journal false
