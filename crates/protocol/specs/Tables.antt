@@ -47,9 +47,9 @@ clocked k t = record { clocks = t; slot = k .slot }
 abbrev pub slotted : Core → Slot → Core
 slotted k s = record { clocks = k .clocks; slot = s }
 
--- no row has these pieces: a call that finds them is refused (number 0 is no number)
-abbrev pub noRow : Pieces → Effect
-noRow p = row (Refused 0) Still (p .core) (p .copy) (p .line)
+-- a refused call: its number, and no piece changes. The tables have it where 01 has no row, since a refusal comes first
+abbrev pub refusedRow : ℕ → Pieces → Effect
+refusedRow n p = row (Refused n) Still (p .core) (p .copy) (p .line)
 
 -- ---- ask
 
@@ -118,7 +118,7 @@ writtenBack m w r = record { manager = m .manager; recall = m .recall; writeback
 unfoldable pub evictTable : Copy → Pieces → Effect
 evictTable (CopyShared w r) p = row AnswerEvict Still (p .core) NoCopy (p .line)
 evictTable (CopyOwned d w r) p = row AnswerEvict MoveWriteback (p .core) NoCopy (writtenBack (p .line) w r)
-evictTable NoCopy p = noRow p
+evictTable NoCopy p = refusedRow 26 p
 
 -- ---- serve
 
@@ -161,8 +161,8 @@ serveAsked (Shared w r) WantStore c l t h p lease =
 -- serve (core with an asked slot)
 unfoldable pub serveTable : Slot → ℕ → Pieces → ℕ → Effect
 serveTable (Asked a l t h) c p lease = serveAsked (p .line .manager) a c l t h p lease
-serveTable (Answered g l w r) c p lease = noRow p
-serveTable Empty c p lease = noRow p
+serveTable (Answered g l w r) c p lease = refusedRow 21 p
+serveTable Empty c p lease = refusedRow 21 p
 
 -- ---- receive
 
@@ -181,8 +181,8 @@ receiveGrant GrantRenew w r p = receiveRenew (p .copy) r p
 -- receive (core with an answered slot)
 unfoldable pub receiveTable : Slot → Pieces → Effect
 receiveTable (Answered g l w r) p = receiveGrant g w r p
-receiveTable (Asked a l t h) p = noRow p
-receiveTable Empty p = noRow p
+receiveTable (Asked a l t h) p = refusedRow 22 p
+receiveTable Empty p = refusedRow 22 p
 
 -- ---- yield
 
@@ -195,8 +195,8 @@ yielded NoRecall w r = NoCopy
 -- "the owner's wts, rts and bytes become the writeback"
 unfoldable pub yieldTable : Copy → Pieces → Effect
 yieldTable (CopyOwned d w r) p = row AnswerYield MoveWriteback (p .core) (yielded (p .line .recall) w r) (writtenBack (p .line) w r)
-yieldTable (CopyShared w r) p = noRow p
-yieldTable NoCopy p = noRow p
+yieldTable (CopyShared w r) p = refusedRow 24 p
+yieldTable NoCopy p = refusedRow 24 p
 
 -- ---- take
 
@@ -204,7 +204,7 @@ yieldTable NoCopy p = noRow p
 unfoldable pub takeTable : Writeback → Pieces → Effect
 takeTable (Flight w r) p =
     row AnswerTake MoveTake (p .core) (p .copy) (record { manager = Shared w r; recall = NoRecall; writeback = NoWriteback })
-takeTable NoWriteback p = noRow p
+takeTable NoWriteback p = refusedRow 25 p
 
 -- ---- the nine
 
@@ -223,5 +223,4 @@ tableOf (Take l) p lease = takeTable (p .line .writeback) p
 -- what a call makes of the pieces: its table's row, or, with the pieces as they are, the number that it is refused with (20 to 27)
 unfoldable pub effectOf : Call → Pieces → ℕ → Effect
 effectOf call p lease =
-    pick (eqb (stateRefusal call p lease) 0) (tableOf call p lease)
-    (row (Refused (stateRefusal call p lease)) Still (p .core) (p .copy) (p .line))
+    pick (eqb (stateRefusal call p lease) 0) (tableOf call p lease) (refusedRow (stateRefusal call p lease) p)

@@ -172,7 +172,7 @@ fn served(c: usize, core: Core, copy: Copy, line: Line, lease: u32) -> Effect
 {
     let slot = core.slot;
     match slot {
-        Slot::Empty => refusals::refused(0, core, copy, line),
+        Slot::Empty => refusals::refused(21, core, copy, line),
         Slot::Asked {
             want,
             line: l,
@@ -184,7 +184,7 @@ fn served(c: usize, core: Core, copy: Copy, line: Line, lease: u32) -> Effect
             line: _,
             wts: _,
             rts: _,
-        } => refusals::refused(0, core, copy, line),
+        } => refusals::refused(21, core, copy, line),
     }
 }
 
@@ -305,13 +305,13 @@ pub fn receive(core: Core, copy: Copy, line: Line) -> Effect
 {
     let slot = core.slot;
     match slot {
-        Slot::Empty => refusals::refused(0, core, copy, line),
+        Slot::Empty => refusals::refused(22, core, copy, line),
         Slot::Asked {
             want: _,
             line: _,
             lts: _,
             held: _,
-        } => refusals::refused(0, core, copy, line),
+        } => refusals::refused(22, core, copy, line),
         Slot::Answered {
             grant,
             line: _,

@@ -31,7 +31,7 @@ pub fn evict(core: Core, copy: Copy, line: Line) -> Effect
     ensures { λ r. ⌜ r ≡ evictTable copy (record { core = core; copy = copy; line = line }) ⌝ }
 {
     match copy {
-        Copy::None => refusals::refused(0, core, copy, line),
+        Copy::None => refusals::refused(26, core, copy, line),
         Copy::Shared { wts: _, rts: _ } => Effect {
             answer: Answer::Evict,
             moves: Move::Still,
@@ -69,8 +69,8 @@ pub fn yield_line(core: Core, copy: Copy, line: Line) -> Effect
 {
     let recall = line.recall;
     match copy {
-        Copy::None => refusals::refused(0, core, copy, line),
-        Copy::Shared { wts: _, rts: _ } => refusals::refused(0, core, copy, line),
+        Copy::None => refusals::refused(24, core, copy, line),
+        Copy::Shared { wts: _, rts: _ } => refusals::refused(24, core, copy, line),
         Copy::Owned { dirty: _, wts, rts } => {
             let left = yielded_copy(recall, wts, rts);
             let back = written_back(line, wts, rts);
@@ -91,7 +91,7 @@ pub fn take(core: Core, copy: Copy, line: Line) -> Effect
 {
     let flight = line.writeback;
     match flight {
-        Writeback::None => refusals::refused(0, core, copy, line),
+        Writeback::None => refusals::refused(25, core, copy, line),
         Writeback::Flight { wts, rts } => Effect {
             answer: Answer::Take,
             moves: Move::Take,

@@ -14,7 +14,7 @@ use Rattle.protocol.specs.Stamps.{later}
 use Rattle.protocol.specs.Clock.{storeTime}
 use Rattle.protocol.specs.Buffers.{Bytes, copyBytes, managerBytes, writebackBytes, answerBytes}
 use Rattle.protocol.specs.Machine.{Machine, Pieces, piecesAt, coreAt, copyAt, lineAt, applied, slotLine}
-use Rattle.protocol.specs.Tables.{row, noRow, heldOf, asking, loadOwned, loadShared, loadTable, storeTable, fenceTable, advanceTable, evictTable, sameVersion, leasedTo, serveLoad, serveAsked, serveTable, receiveRenew, receiveGrant, receiveTable, yielded, yieldTable, takeTable, writtenBack, managed, slotted}
+use Rattle.protocol.specs.Tables.{row, refusedRow, heldOf, asking, loadOwned, loadShared, loadTable, storeTable, fenceTable, advanceTable, evictTable, sameVersion, leasedTo, serveLoad, serveAsked, serveTable, receiveRenew, receiveGrant, receiveTable, yielded, yieldTable, takeTable, writtenBack, managed, slotted}
 use Rattle.protocol.specs.Step.{Op, load, store, fence, Reply, refused, done, commit, meaning, commitBytes, accepted}
 use Rattle.protocol.specs.Run.{place, Commit, commitAt}
 use Rattle.protocol.specs.Order.{TsoKeeps, Stores}
@@ -206,11 +206,12 @@ module _ (z : Bytes) (p : ℕ) {H : List (Commit Bytes)} (call : Call) (given : 
   slotSpot d hg = look-slot m (I .rest .shape) c l hc hl given d hg
 
   -- ---- rows that no accepted call has, and ask
-  no-row : GoodRow (noRow ps)
+  refused-row : (n : ℕ) → GoodRow (refusedRow n ps)
   unfolding accepted meaning look
-  no-row =
-      keeps (noRow ps) tt (inl (refl, tt)) (pair-at (copyAt (m .state) c l) refl) (omega arith) (omega arith)
-      (none-changes I c l hc hl given (noRow ps) tt (inr (managerSpot (noRow ps) tt)) (inr (writebackSpot (noRow ps) tt)) (inr (copySpot (noRow ps) tt)) (inr (slotSpot (noRow ps) tt)) J)
+  refused-row n =
+      let d = refusedRow n ps in
+      keeps d tt (inl (refl, tt)) (pair-at (copyAt (m .state) c l) refl) (omega arith) (omega arith)
+      (none-changes I c l hc hl given d tt (inr (managerSpot d tt)) (inr (writebackSpot d tt)) (inr (copySpot d tt)) (inr (slotSpot d tt)) J)
 
   asks : (a : Want) → AskFits (heldOf (copyAt (m .state) c l)) (copyAt (m .state) c l) → GoodRow (asking a l ps)
   unfolding accepted meaning look
@@ -416,7 +417,7 @@ module _ (z : Bytes) (p : ℕ) {H : List (Commit Bytes)} (call : Call) (given : 
 
   pub evict-good : (v : Copy) → copyAt (m .state) c l ≡ v → GoodRow (evictTable v ps)
   unfolding accepted meaning look evictTable
-  evict-good NoCopy e = no-row
+  evict-good NoCopy e = refused-row 26
   evict-good (CopyShared w r) e =
       let d = evictTable (CopyShared w r) ps in
       keeps d tt (inl (refl, tt)) (pair-none l (k .slot)) (omega arith) (omega arith)
@@ -428,8 +429,8 @@ module _ (z : Bytes) (p : ℕ) {H : List (Commit Bytes)} (call : Call) (given : 
 
   pub yield-good : (v : Copy) → copyAt (m .state) c l ≡ v → GoodRow (yieldTable v ps)
   unfolding accepted meaning look yieldTable
-  yield-good NoCopy e = no-row
-  yield-good (CopyShared w r) e = no-row
+  yield-good NoCopy e = refused-row 24
+  yield-good (CopyShared w r) e = refused-row 24
   yield-good (CopyOwned b w r) e = go (lineAt (m .state) l .recall)
     where
       i : Stands g (atCopy c) (w .0) (r .0) bytes
@@ -455,7 +456,7 @@ module _ (z : Bytes) (p : ℕ) {H : List (Commit Bytes)} (call : Call) (given : 
 
   pub take-good : (v : Writeback) → lineAt (m .state) l .writeback ≡ v → GoodRow (takeTable v ps)
   unfolding accepted meaning look takeTable
-  take-good NoWriteback e = no-row
+  take-good NoWriteback e = refused-row 25
   take-good (Flight w r) e =
       let d = takeTable (Flight w r) ps in
       let b = writebackBytes (m .state .opening) (m .shared) l in
@@ -538,8 +539,8 @@ module _ (z : Bytes) (p : ℕ) {H : List (Commit Bytes)} (call : Call) (given : 
 
   pub serve-good : (v : Slot) (lease : ℕ) → k .slot ≡ v → slotLine v ≡ l → GoodRow (serveTable v c ps lease)
   unfolding serveTable
-  serve-good Empty lease e q = no-row
-  serve-good (Answered y n w r) lease e q = no-row
+  serve-good Empty lease e q = refused-row 21
+  serve-good (Answered y n w r) lease e q = refused-row 21
   serve-good (Asked a n t h) lease e q = rw q (serve-line (lineAt (m .state) l .manager) a t h lease refl (rw q at e))
 
   -- ---- receive
@@ -596,6 +597,6 @@ module _ (z : Bytes) (p : ℕ) {H : List (Commit Bytes)} (call : Call) (given : 
 
   pub receive-good : (v : Slot) → k .slot ≡ v → slotLine v ≡ l → GoodRow (receiveTable v ps)
   unfolding receiveTable
-  receive-good Empty e q = no-row
-  receive-good (Asked a n t h) e q = no-row
+  receive-good Empty e q = refused-row 22
+  receive-good (Asked a n t h) e q = refused-row 22
   receive-good (Answered y n w r) e q = receive-grant y w r (rw q at e)
