@@ -121,11 +121,11 @@ pub fn play(
     let mut commits = from.commits;
     let mut refusals = from.refusals;
     let mut used: usize = 0;
-    let z = s.opening;
-    let ks = s.core;
-    let ls = s.line;
-    let lease = z.lease;
-    let base = refusals::machine_refusal(z, ks, ls, private.len(), shared.len());
+    let opening = s.opening;
+    let cores = s.core;
+    let lines = s.line;
+    let lease = opening.lease;
+    let base = refusals::machine_refusal(opening, cores, lines, private.len(), shared.len());
     loop {
         match journal::step_at(journal, at, form) {
             // No line after the first opens an engine.
@@ -155,7 +155,7 @@ pub fn play(
             } => {
                 let mut bytes = [0u8; 128];
                 let count = turn::decode(&mut bytes, journal, start, end);
-                let number = turn::number_of(base, call, z, count);
+                let number = turn::number_of(base, call, opening, count);
                 let met = steps + 1;
                 // 1 to 6: the machine stays.
                 if number != 0 {
@@ -202,7 +202,7 @@ pub fn play(
                     answer,
                     &bytes[0..count],
                     private,
-                    z,
+                    opening,
                     c,
                     l,
                 ) {
@@ -219,7 +219,7 @@ pub fn play(
                         s.core[c] = core;
                         s.cell[i] = cell;
                         s.line[l] = line;
-                        places::move_bytes(moves, z, private, shared, c, l, &bytes[0..count]);
+                        places::move_bytes(moves, opening, private, shared, c, l, &bytes[0..count]);
                         used = e;
                         steps = met;
                         commits += answers::commits_of(answer);

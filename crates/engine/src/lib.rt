@@ -70,12 +70,12 @@ fn is_held(copy: Copy) -> bool
 pub fn shown_at(s: State, private: &[u8], shared: &[u8], core: usize, line: usize) -> Shown
     ensures { λ r. ⌜ r ≡ shown (machine s (now («private» .entry)) (now (shared .entry))) core line ⌝ }
 {
-    let z = s.opening;
-    let ks = s.core;
-    let ls = s.line;
-    let width = z.width;
+    let opening = s.opening;
+    let cores = s.core;
+    let lines = s.line;
+    let width = opening.width;
     let call = Call::Load { core, line };
-    let n = refusals::input_refusal(call, z, ks, ls, private.len(), shared.len(), 0);
+    let n = refusals::input_refusal(call, opening, cores, lines, private.len(), shared.len(), 0);
     if n != 0 {
         return Shown {
             buffer: Buffer::Shared,
@@ -87,7 +87,7 @@ pub fn shown_at(s: State, private: &[u8], shared: &[u8], core: usize, line: usiz
     let e = s.cell[i];
     let copy = e.copy;
     if is_held(copy) {
-        let start = places::copy_start(z, core, line);
+        let start = places::copy_start(opening, core, line);
         let end = start + width;
         Shown {
             buffer: Buffer::Private,
@@ -95,7 +95,7 @@ pub fn shown_at(s: State, private: &[u8], shared: &[u8], core: usize, line: usiz
             end,
         }
     } else {
-        let start = places::manager_start(z, core, line);
+        let start = places::manager_start(opening, core, line);
         let end = start + width;
         Shown {
             buffer: Buffer::Shared,

@@ -70,10 +70,10 @@ fn list(journal: &[u8]) -> bool
         Progress::More => {
             let standing = played.standing;
             let state = standing.state;
-            let z = state.opening;
-            let cores = z.cores;
-            let lines = z.lines;
-            let width = z.width;
+            let opening = state.opening;
+            let cores = opening.cores;
+            let lines = opening.lines;
+            let width = opening.width;
             let n = cores * lines * width;
             let m = (2 * lines + cores) * width;
             play_on(

@@ -9,7 +9,7 @@ use Rattle.steps.proofs.list.Statement.{statement}
 use Rattle.steps.proofs.list.Tie as tie
 
 -- the sizes of the engine that was opened
-sizes : (c : tie.After-z) → Inside (c .before .before .before .before .before .before .before .before .before .before .start .result .standing .state .opening)
+sizes : (c : tie.After-opening) → Inside (c .before .before .before .before .before .before .before .before .before .before .start .result .standing .state .opening)
 sizes c = inside _ (start-fits (c .before .before .before .before .before .before .before .before .before .before .start .ensures) (c .before .before .before .enum-told .given .1))
 
 returns : tie.Need-returns
