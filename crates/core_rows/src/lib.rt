@@ -1,15 +1,15 @@
 // The rows of load, store, fence and advance as code: what each makes of one core, its copy of a line and
 // the manager's line.
 //
-// Every function takes any pieces. A sum that passes the greatest timestamp is answered with 27, the
-// pieces as they are.
+// Every row takes any pieces and decides the refusals of its step, 20 and 27: the number, with the pieces
+// as they are.
+ghost use Prim.Native.Nat.{ℕ};
 ghost use mathlib.Core.Path.{_≡_};
-ghost use mathlib.Core.Bool.{true, false};
 ghost use Rattle.protocol.specs.Pick.{pick, fails};
-ghost use Rattle.protocol.specs.Stamps.{fits};
-ghost use Rattle.protocol.specs.Refusals.{storePasses};
-ghost use Rattle.protocol.specs.Tables.{row, heldOf, asking, loadTable, storeTable, fenceTable, advanceTable};
+ghost use Rattle.protocol.specs.Refusals.{isEmpty};
+ghost use Rattle.protocol.specs.Tables.{heldOf, asking, refusedRow, effectOf};
 use protocol::Answer;
+use protocol::Call;
 use protocol::Copy;
 use protocol::Core;
 use protocol::Effect;
@@ -25,40 +25,45 @@ fn held_of(copy: Copy) -> Held
 {
     match copy {
         Copy::None => Held::None,
-        Copy::Shared { wts, rts: _ } => Held::Version(wts),
-        Copy::Owned {
-            dirty: _,
-            wts: _,
-            rts: _,
-        } => Held::None,
+        Copy::Shared { wts, .. } => Held::Version(wts),
+        Copy::Owned { .. } => Held::None,
     }
 }
 
-// The slot becomes asked.
+// The slot becomes asked, or 20 where it is in use.
 fn ask(want: Want, l: usize, core: Core, copy: Copy, line: Line) -> Effect
-    ensures { λ r. ⌜ r ≡ asking want l (record { core = core; copy = copy; line = line }) ⌝ }
+    ensures { λ r. ⌜ r ≡ pick (fails (isEmpty (core .slot))) (refusedRow 20 (record { core = core; copy = copy; line = line })) (asking want l (record { core = core; copy = copy; line = line })) ⌝ }
 {
-    let clocks = core.clocks;
-    let lts = clocks.lts;
-    let held = held_of(copy);
-    let slot = Slot::Asked {
-        want,
-        line: l,
-        lts,
-        held,
-    };
-    Effect {
-        answer: Answer::Ask,
-        moves: Move::Still,
-        core: Core { clocks, slot },
-        copy,
-        line,
+    let slot = core.slot;
+    match slot {
+        Slot::Empty => {
+            let clocks = core.clocks;
+            let lts = clocks.lts;
+            let held = held_of(copy);
+            Effect {
+                answer: Answer::Ask,
+                moves: Move::Still,
+                core: Core {
+                    clocks,
+                    slot: Slot::Asked {
+                        want,
+                        line: l,
+                        lts,
+                        held,
+                    },
+                },
+                copy,
+                line,
+            }
+        }
+        Slot::Asked { .. } => refusals::refused(20, core, copy, line),
+        Slot::Answered { .. } => refusals::refused(20, core, copy, line),
     }
 }
 
-// load: commits on an owned copy and within a shared one's lease; else asks.
+// load: commits on an owned copy and within a shared one's lease; else asks, or 20.
 pub fn load(c: usize, l: usize, core: Core, copy: Copy, line: Line) -> Effect
-    ensures { λ r. ⌜ r ≡ loadTable copy c l (record { core = core; copy = copy; line = line }) ⌝ }
+    ensures { λ r. ⌜ ((lease : ℕ) → r ≡ effectOf (Call.Load c l) (record { core = core; copy = copy; line = line }) lease) ⌝ }
 {
     let slot = core.slot;
     let before = core.clocks;
@@ -126,21 +131,20 @@ pub fn load(c: usize, l: usize, core: Core, copy: Copy, line: Line) -> Effect
     }
 }
 
-// A store whose sum fits: commits on an owned copy, past its lease; else asks.
-fn stored(c: usize, l: usize, core: Core, copy: Copy, line: Line) -> Effect
-    requires { ⌜ storePasses copy ≡ false ⌝ }
-    ensures { λ r. ⌜ r ≡ storeTable copy c l (record { core = core; copy = copy; line = line }) ⌝ }
+// store: commits on an owned copy, past its lease, or 27 where that passes the greatest timestamp; else
+// asks, or 20.
+pub fn store(c: usize, l: usize, core: Core, copy: Copy, line: Line) -> Effect
+    ensures { λ r. ⌜ ((lease : ℕ) → r ≡ effectOf (Call.Store c l) (record { core = core; copy = copy; line = line }) lease) ⌝ }
 {
     let slot = core.slot;
     let before = core.clocks;
     match copy {
         Copy::None => ask(Want::Store, l, core, copy, line),
-        Copy::Shared { wts: _, rts: _ } => ask(Want::Store, l, core, copy, line),
-        Copy::Owned {
-            dirty: _,
-            wts: _,
-            rts,
-        } => {
+        Copy::Shared { .. } => ask(Want::Store, l, core, copy, line),
+        Copy::Owned { rts, .. } => {
+            if !rts.fits(1) {
+                return refusals::refused(27, core, copy, line);
+            }
             let clocks = before.store(rts);
             let ts = clocks.sts;
             Effect {
@@ -162,35 +166,9 @@ fn stored(c: usize, l: usize, core: Core, copy: Copy, line: Line) -> Effect
     }
 }
 
-// Whether the lease of an owned copy ends at the greatest timestamp.
-fn passes(copy: Copy) -> bool
-    ensures { λ r. ⌜ r ≡ storePasses copy ⌝ }
-{
-    match copy {
-        Copy::None => false,
-        Copy::Shared { wts: _, rts: _ } => false,
-        Copy::Owned {
-            dirty: _,
-            wts: _,
-            rts,
-        } => { if rts.fits(1) { false } else { true } }
-    }
-}
-
-// store: commits on an owned copy, past its lease, or 27 where that passes the greatest timestamp; else
-// asks.
-pub fn store(c: usize, l: usize, core: Core, copy: Copy, line: Line) -> Effect
-    ensures { λ r. ⌜ r ≡ pick (storePasses copy) (row (Answer.Refused 27) Move.Still core copy line) (storeTable copy c l (record { core = core; copy = copy; line = line })) ⌝ }
-{
-    if passes(copy) {
-        return refusals::refused(27, core, copy, line);
-    }
-    stored(c, l, core, copy, line)
-}
-
 // fence: commits at the later of the core's clocks.
 pub fn fence(c: usize, core: Core, copy: Copy, line: Line) -> Effect
-    ensures { λ r. ⌜ r ≡ fenceTable c (record { core = core; copy = copy; line = line }) ⌝ }
+    ensures { λ r. ⌜ ((lease : ℕ) → r ≡ effectOf (Call.Fence c) (record { core = core; copy = copy; line = line }) lease) ⌝ }
 {
     let slot = core.slot;
     let before = core.clocks;
@@ -205,13 +183,15 @@ pub fn fence(c: usize, core: Core, copy: Copy, line: Line) -> Effect
     }
 }
 
-// An advance whose sum fits: lts grows.
-fn advanced(by: u32, core: Core, copy: Copy, line: Line) -> Effect
-    requires { ⌜ fits (core .clocks .lts) by ≡ true ⌝ }
-    ensures { λ r. ⌜ r ≡ advanceTable by (record { core = core; copy = copy; line = line }) ⌝ }
+// advance: lts grows, or 27 where it passes the greatest timestamp.
+pub fn advance(by: u32, core: Core, copy: Copy, line: Line) -> Effect
+    ensures { λ r. ⌜ ((c lease : ℕ) → r ≡ effectOf (Call.Advance c by) (record { core = core; copy = copy; line = line }) lease) ⌝ }
 {
     let slot = core.slot;
     let before = core.clocks;
+    if !before.lts.fits(by) {
+        return refusals::refused(27, core, copy, line);
+    }
     let clocks = before.advance(by);
     Effect {
         answer: Answer::Advance,
@@ -220,15 +200,4 @@ fn advanced(by: u32, core: Core, copy: Copy, line: Line) -> Effect
         copy,
         line,
     }
-}
-
-// advance: lts grows, or 27 where it passes the greatest timestamp.
-pub fn advance(by: u32, core: Core, copy: Copy, line: Line) -> Effect
-    ensures { λ r. ⌜ r ≡ pick (fails (fits (core .clocks .lts) by)) (row (Answer.Refused 27) Move.Still core copy line) (advanceTable by (record { core = core; copy = copy; line = line })) ⌝ }
-{
-    let clocks = core.clocks;
-    if !clocks.lts.fits(by) {
-        return refusals::refused(27, core, copy, line);
-    }
-    advanced(by, core, copy, line)
 }

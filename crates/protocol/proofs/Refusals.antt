@@ -11,8 +11,9 @@ use Rattle.protocol.specs.Pick.{pick, fails, Rule, first, _gives_}
 use Rattle.protocol.specs.Limits.{openingFits}
 use Rattle.protocol.specs.Fresh.{freshCore, freshLine}
 use Rattle.protocol.specs.Buffers.{privateLength, sharedLength, Placed}
-use Rattle.protocol.specs.Machine.{Machine, coreAt, lineAt, slotLine, ownerOf, coreOf, lineOf, piecesAt}
+use Rattle.protocol.specs.Machine.{Machine, Pieces, coreAt, lineAt, slotLine, ownerOf, coreOf, lineOf, piecesAt}
 use Rattle.protocol.specs.Refusals.{openRefusal, ownerFits, slotFits, ownersFit, slotsFit, stateFits, buffersFit, machineRefusal, coreRule, lineRule, callRules, callRefusal, stateRefusal, orElse, refusal}
+use Rattle.protocol.specs.Tables.{refusedRow}
 use Rattle.protocol.specs.declared.Slot.{Slot}
 use Rattle.protocol.specs.declared.Slot.the-variants.{Empty, Asked, Answered}
 use Rattle.protocol.specs.declared.Core.{Core}
@@ -22,6 +23,7 @@ use Rattle.protocol.specs.declared.Line.{Line}
 use Rattle.protocol.specs.declared.Opening.{Opening}
 use Rattle.protocol.specs.declared.Call.{Call}
 use Rattle.protocol.specs.declared.Call.the-variants.{Load, Store, Fence, Evict, Advance, Serve, Receive, Yield, Take}
+use Rattle.protocol.specs.declared.Effect.{Effect}
 use Rattle.protocol.proofs.Tests.{both-true}
 use Rattle.protocol.proofs.Scan.{every-at}
 use Rattle.protocol.proofs.Places.{Inside, inside, placed-at}
@@ -41,6 +43,13 @@ spared false n x h e = (refl, e)
 pub passed : (a : Bool) (n : ℕ) (rs : List Rule) → 0 < n → first ((a gives n) ∷ rs) ≡ 0 → (a ≡ false) × (first rs ≡ 0)
 unfolding first
 passed a n rs h e = spared a n (first rs) h e
+
+-- the only rule left of a call, as a row decides it: its number with the pieces as they are, or the table's row
+pub ruled :
+    (a : Bool) (n : ℕ) (d : Effect) (p : Pieces) → eqb n 0 ≡ false
+    → pick a (refusedRow n p) d ≡ pick (eqb (pick a n 0) 0) d (refusedRow (pick a n 0) p)
+ruled true n d p e = rw e
+ruled false n d p e = refl
 
 pub or-none : (a b : ℕ) → orElse a b ≡ 0 → (a ≡ 0) × (b ≡ 0)
 or-none a b e = go (eqb a 0) refl e

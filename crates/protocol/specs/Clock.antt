@@ -1,7 +1,6 @@
 -- A core's pair of clocks after a step: "Each core's pair of clocks takes a step and comes back as the new pair."
 use Prim.Native.Nat.{ℕ, _+_}
-use Rattle.protocol.specs.Pick.{pick}
-use Rattle.protocol.specs.Stamps.{stamp, later, fits, after}
+use Rattle.protocol.specs.Stamps.{stamp, later}
 use Rattle.protocol.specs.declared.Stamp.{Stamp}
 use Rattle.protocol.specs.declared.Clocks.{Clocks}
 
@@ -17,10 +16,6 @@ storeTime k r = later (later (k .lts) (k .sts)) (stamp (r .0 + 1))
 abbrev pub stored : Clocks → Stamp → Clocks
 stored k r = record { lts = k .lts; sts = storeTime k r }
 
--- the clocks after a store, or as they are where rts + 1 does not fit
-abbrev pub storedIfFits : Clocks → Stamp → Clocks
-storedIfFits k r = pick (fits r 1) (stored k r) k
-
 -- fence: lts becomes max(lts, sts)
 abbrev pub fenced : Clocks → Clocks
 fenced k = record { lts = later (k .lts) (k .sts); sts = k .sts }
@@ -28,7 +23,3 @@ fenced k = record { lts = later (k .lts) (k .sts); sts = k .sts }
 -- advance: lts grows by that amount
 abbrev pub advanced : Clocks → ℕ → Clocks
 advanced k n = record { lts = stamp (k .lts .0 + n); sts = k .sts }
-
--- the clocks after an advance, or as they are where lts + by does not fit
-abbrev pub advancedIfFits : Clocks → ℕ → Clocks
-advancedIfFits k n = record { lts = after (k .lts) n; sts = k .sts }

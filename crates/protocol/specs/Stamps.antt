@@ -27,10 +27,6 @@ later a b = stamp (max (a .0) (b .0))
 abbrev pub fits : Stamp → ℕ → Bool
 fits t n = leb (t .0 + n) (greatest .0)
 
--- the timestamp n later, or the same one where that does not fit
-abbrev pub after : Stamp → ℕ → Stamp
-after t n = pick (fits t n) (stamp (t .0 + n)) t
-
 -- "One commit precedes another if its timestamp is smaller, or if the timestamps are equal and its place is smaller."
 abbrev pub Precedes : Key → Key → Type 0
 Precedes a b = (a .0 .0 < b .0 .0) ⊎ ((a .0 .0 ≡ b .0 .0) × (a .1 .0 < b .1 .0))

@@ -3,10 +3,13 @@
 //
 // What each step does to these parts is written in specs/, in the words of the scope document; this
 // crate's code is what every other crate shares: comparing timestamps, stepping a core's clocks,
-// and the fixed values that a fresh engine starts from. No function here has a `requires`.
+// and the fixed values that a fresh engine starts from. Only the sums of a timestamp have a `requires`:
+// that the sum fits, which a row finds before it adds (refusal 27).
+ghost use Prim.Native.Nat.{_+_};
 ghost use mathlib.Core.Path.{_≡_};
-ghost use Rattle.protocol.specs.Stamps.{greatest, later, fits, after, precedes};
-ghost use Rattle.protocol.specs.Clock.{loaded, storedIfFits, fenced, advancedIfFits};
+ghost use mathlib.Core.Bool.{true};
+ghost use Rattle.protocol.specs.Stamps.{stamp, greatest, later, fits, precedes};
+ghost use Rattle.protocol.specs.Clock.{loaded, stored, fenced, advanced};
 ghost use Rattle.protocol.specs.Fresh.{freshCore, freshCell, freshLine, freshState, smallest};
 ghost use Rattle.protocol.specs.Limits.{within, openingFits};
 
@@ -44,15 +47,12 @@ impl Stamp {
         n <= most.0 - self.0
     }
 
-    // The timestamp n later, or the same one where that does not fit.
+    // The timestamp n later, where that is one.
     pub fn after(self, n: u32) -> Stamp
-        ensures { λ r. ⌜ r ≡ after self n ⌝ }
+        requires { ⌜ fits self n ≡ true ⌝ }
+        ensures { λ r. ⌜ r ≡ stamp (self .0 + n) ⌝ }
     {
-        if self.fits(n) {
-            Stamp(self.0 + n)
-        } else {
-            self
-        }
+        Stamp(self.0 + n)
     }
 }
 
@@ -86,15 +86,14 @@ impl Clocks {
         self
     }
 
-    // After a store to a copy whose lease ends at rts; unchanged where `rts.fits(1)` is false.
+    // After a store to a copy whose lease ends at rts, where rts + 1 is a timestamp.
     pub fn store(mut self, rts: Stamp) -> Clocks
-        ensures { λ r. ⌜ r ≡ storedIfFits self rts ⌝ }
+        requires { ⌜ fits rts 1 ≡ true ⌝ }
+        ensures { λ r. ⌜ r ≡ stored self rts ⌝ }
     {
-        if rts.fits(1) {
-            let past = rts.after(1);
-            let last = self.lts.later(self.sts);
-            self.sts = last.later(past);
-        }
+        let past = rts.after(1);
+        let last = self.lts.later(self.sts);
+        self.sts = last.later(past);
         self
     }
 
@@ -106,9 +105,10 @@ impl Clocks {
         self
     }
 
-    // After an advance; unchanged where `self.lts.fits(by)` is false.
+    // After an advance, where lts + by is a timestamp.
     pub fn advance(mut self, by: u32) -> Clocks
-        ensures { λ r. ⌜ r ≡ advancedIfFits self by ⌝ }
+        requires { ⌜ fits (self .lts) by ≡ true ⌝ }
+        ensures { λ r. ⌜ r ≡ advanced self by ⌝ }
     {
         self.lts = self.lts.after(by);
         self

@@ -1,14 +1,15 @@
 // The rows of serve and receive as code: what each makes of one core, its copy of a line and the
 // manager's line.
 //
-// Every function takes any pieces. A lease whose end passes the greatest timestamp is answered with 27,
-// the pieces as they are.
+// Every row takes any pieces and decides the refusals of its step, 21, 22 and 27: the number, with the
+// pieces as they are.
+ghost use Prim.Native.Nat.{ℕ};
 ghost use mathlib.Core.Path.{_≡_};
-ghost use mathlib.Core.Bool.{false};
 ghost use Rattle.protocol.specs.Pick.{pick};
 ghost use Rattle.protocol.specs.Refusals.{servePasses};
-ghost use Rattle.protocol.specs.Tables.{row, recalled, sameVersion, serveLoad, serveAsked, serveTable, receiveTable, receiveGrant, receiveRenew};
+ghost use Rattle.protocol.specs.Tables.{row, refusedRow, recalled, sameVersion, serveLoad, serveAsked, receiveGrant, receiveRenew, effectOf};
 use protocol::Answer;
+use protocol::Call;
 use protocol::Copy;
 use protocol::Core;
 use protocol::Effect;
@@ -105,8 +106,8 @@ fn serve_load(
     }
 }
 
-// A request served: an owned line is recalled and the slot stays; a shared one is leased to a load
-// and given to a store.
+// A request served: an owned line is recalled and the slot stays; a shared one is leased to a load, or 27
+// where the lease would pass the greatest timestamp, and given to a store.
 fn serve_asked(
     want: Want,
     c: usize,
@@ -118,15 +119,14 @@ fn serve_asked(
     line: Line,
     lease: u32,
 ) -> Effect
-    requires { ⌜ servePasses (Slot.Asked want l lts held) (line .manager) lease ≡ false ⌝ }
-    ensures { λ r. ⌜ r ≡ serveAsked (line .manager) want c l lts held (record { core = core; copy = copy; line = line }) lease ⌝ }
+    ensures { λ r. ⌜ r ≡ pick (servePasses (Slot.Asked want l lts held) (line .manager) lease) (refusedRow 27 (record { core = core; copy = copy; line = line })) (serveAsked (line .manager) want c l lts held (record { core = core; copy = copy; line = line }) lease) ⌝ }
 {
     let clocks = core.clocks;
     let manager = line.manager;
     let recall = line.recall;
     let writeback = line.writeback;
     match manager {
-        Manager::Owned { core: _ } => Effect {
+        Manager::Owned { .. } => Effect {
             answer: Answer::Recall,
             moves: Move::Still,
             core,
@@ -139,6 +139,9 @@ fn serve_asked(
         },
         Manager::Shared { wts, rts } => match want {
             Want::Load => {
+                if !lts.fits(lease) {
+                    return refusals::refused(27, core, copy, line);
+                }
                 let end = rts.later(lts.after(lease));
                 serve_load(same_version(held, wts), l, wts, end, core, copy, line)
             }
@@ -165,10 +168,9 @@ fn serve_asked(
     }
 }
 
-// A serve whose sum fits: the request in the core's slot.
-fn served(c: usize, core: Core, copy: Copy, line: Line, lease: u32) -> Effect
-    requires { ⌜ servePasses (core .slot) (line .manager) lease ≡ false ⌝ }
-    ensures { λ r. ⌜ r ≡ serveTable (core .slot) c (record { core = core; copy = copy; line = line }) lease ⌝ }
+// serve: the request in the core's slot, or 21 where it does not ask.
+pub fn serve(c: usize, core: Core, copy: Copy, line: Line, lease: u32) -> Effect
+    ensures { λ r. ⌜ r ≡ effectOf (Call.Serve c) (record { core = core; copy = copy; line = line }) lease ⌝ }
 {
     let slot = core.slot;
     match slot {
@@ -179,52 +181,8 @@ fn served(c: usize, core: Core, copy: Copy, line: Line, lease: u32) -> Effect
             lts,
             held,
         } => serve_asked(want, c, l, lts, held, core, copy, line, lease),
-        Slot::Answered {
-            grant: _,
-            line: _,
-            wts: _,
-            rts: _,
-        } => refusals::refused(21, core, copy, line),
+        Slot::Answered { .. } => refusals::refused(21, core, copy, line),
     }
-}
-
-// Whether the lease that a slot asks for ends past the greatest timestamp.
-fn passes(slot: Slot, manager: Manager, lease: u32) -> bool
-    ensures { λ r. ⌜ r ≡ servePasses slot manager lease ⌝ }
-{
-    match slot {
-        Slot::Empty => false,
-        Slot::Asked {
-            want,
-            line: _,
-            lts,
-            held: _,
-        } => match want {
-            Want::Load => match manager {
-                Manager::Shared { wts: _, rts: _ } => { if lts.fits(lease) { false } else { true } }
-                Manager::Owned { core: _ } => false,
-            },
-            Want::Store => false,
-        },
-        Slot::Answered {
-            grant: _,
-            line: _,
-            wts: _,
-            rts: _,
-        } => false,
-    }
-}
-
-// serve: the request in the core's slot, or 27 where a lease would pass the greatest timestamp.
-pub fn serve(c: usize, core: Core, copy: Copy, line: Line, lease: u32) -> Effect
-    ensures { λ r. ⌜ r ≡ pick (servePasses (core .slot) (line .manager) lease) (row (Answer.Refused 27) Move.Still core copy line) (serveTable (core .slot) c (record { core = core; copy = copy; line = line }) lease) ⌝ }
-{
-    let slot = core.slot;
-    let manager = line.manager;
-    if passes(slot, manager, lease) {
-        return refusals::refused(27, core, copy, line);
-    }
-    served(c, core, copy, line, lease)
 }
 
 // A renewal that finds no shared copy: no copy changes.
@@ -252,18 +210,14 @@ fn receive_renew(rts: Stamp, core: Core, copy: Copy, line: Line) -> Effect
     };
     match copy {
         Copy::None => dropped(emptied, copy, line),
-        Copy::Shared { wts, rts: _ } => Effect {
+        Copy::Shared { wts, .. } => Effect {
             answer: Answer::Renew,
             moves: Move::Still,
             core: emptied,
             copy: Copy::Shared { wts, rts },
             line,
         },
-        Copy::Owned {
-            dirty: _,
-            wts: _,
-            rts: _,
-        } => dropped(emptied, copy, line),
+        Copy::Owned { .. } => dropped(emptied, copy, line),
     }
 }
 
@@ -299,24 +253,19 @@ fn receive_grant(grant: Grant, wts: Stamp, rts: Stamp, core: Core, copy: Copy, l
     }
 }
 
-// receive: the grant in the core's slot.
+// receive: the grant in the core's slot, or 22 where there is no answer.
 pub fn receive(core: Core, copy: Copy, line: Line) -> Effect
-    ensures { λ r. ⌜ r ≡ receiveTable (core .slot) (record { core = core; copy = copy; line = line }) ⌝ }
+    ensures { λ r. ⌜ ((c lease : ℕ) → r ≡ effectOf (Call.Receive c) (record { core = core; copy = copy; line = line }) lease) ⌝ }
 {
     let slot = core.slot;
     match slot {
         Slot::Empty => refusals::refused(22, core, copy, line),
-        Slot::Asked {
-            want: _,
-            line: _,
-            lts: _,
-            held: _,
-        } => refusals::refused(22, core, copy, line),
+        Slot::Asked { .. } => refusals::refused(22, core, copy, line),
         Slot::Answered {
             grant,
-            line: _,
             wts,
             rts,
+            ..
         } => receive_grant(grant, wts, rts, core, copy, line),
     }
 }

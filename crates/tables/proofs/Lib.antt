@@ -1,3 +1,2 @@
--- `Laws`: what the proofs here cite of refusals. `Keep`: laws of `effectOf` for callers.
-pub mod Laws
+-- `Keep`: laws of `effectOf` for callers.
 pub mod Keep

@@ -1,44 +1,31 @@
 // The step tables as code, on one core, one private copy and one manager's line by value.
 //
-// `effect` is the table of a call with the refusals 20 to 27: what the call answers, what becomes of
+// `effect` is the table of a call with its refusals 20 to 27: what the call answers, what becomes of
 // the three pieces, and which line of bytes moves. The definitions that it is equal to are those of
 // `protocol`; there are no arrays and no buffers here. A core's clocks are changed only by the
 // methods of `Clocks`.
 ghost use mathlib.Core.Path.{_≡_};
-ghost use Rattle.protocol.specs.Refusals.{stateRefusal};
-ghost use Rattle.protocol.specs.Tables.{tableOf, effectOf};
+ghost use Rattle.protocol.specs.Tables.{effectOf};
 use protocol::Call;
 use protocol::Copy;
 use protocol::Core;
 use protocol::Effect;
 use protocol::Line;
 
-// The row of a call that is not refused.
-fn of_call(call: Call, core: Core, copy: Copy, line: Line, lease: u32) -> Effect
-    requires { ⌜ stateRefusal call (record { core = core; copy = copy; line = line }) lease ≡ 0 ⌝ }
-    ensures { λ r. ⌜ r ≡ tableOf call (record { core = core; copy = copy; line = line }) lease ⌝ }
+// What a call makes of the pieces that it looks at: the row of its table, or the number that it is
+// refused with and the pieces as they are. Each row decides.
+pub fn effect(call: Call, core: Core, copy: Copy, line: Line, lease: u32) -> Effect
+    ensures { λ r. ⌜ r ≡ effectOf call (record { core = core; copy = copy; line = line }) lease ⌝ }
 {
     match call {
         Call::Load { core: c, line: l } => core_rows::load(c, l, core, copy, line),
         Call::Store { core: c, line: l } => core_rows::store(c, l, core, copy, line),
         Call::Fence { core: c } => core_rows::fence(c, core, copy, line),
-        Call::Evict { core: _, line: _ } => writeback_rows::evict(core, copy, line),
-        Call::Advance { core: _, by } => core_rows::advance(by, core, copy, line),
+        Call::Evict { .. } => writeback_rows::evict(core, copy, line),
+        Call::Advance { by, .. } => core_rows::advance(by, core, copy, line),
         Call::Serve { core: c } => request_rows::serve(c, core, copy, line, lease),
-        Call::Receive { core: _ } => request_rows::receive(core, copy, line),
-        Call::Yield { line: _ } => writeback_rows::yield_line(core, copy, line),
-        Call::Take { line: _ } => writeback_rows::take(core, copy, line),
+        Call::Receive { .. } => request_rows::receive(core, copy, line),
+        Call::Yield { .. } => writeback_rows::yield_line(core, copy, line),
+        Call::Take { .. } => writeback_rows::take(core, copy, line),
     }
-}
-
-// What a call makes of the pieces that it looks at: the row of its table, or the number that it is
-// refused with and the pieces as they are.
-pub fn effect(call: Call, core: Core, copy: Copy, line: Line, lease: u32) -> Effect
-    ensures { λ r. ⌜ r ≡ effectOf call (record { core = core; copy = copy; line = line }) lease ⌝ }
-{
-    let number = refusals::state_refusal(call, core, copy, line, lease);
-    if number != 0 {
-        return refusals::refused(number, core, copy, line);
-    }
-    of_call(call, core, copy, line, lease)
 }

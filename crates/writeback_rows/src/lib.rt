@@ -1,8 +1,13 @@
 // The rows of evict, yield and take as code: what each makes of one core, its copy of a line and the
-// manager's line. Every function takes any pieces.
+// manager's line. Every row takes any pieces and decides the refusals of its step, 23 to 26: the number,
+// with the pieces as they are.
+ghost use Prim.Native.Nat.{ℕ};
 ghost use mathlib.Core.Path.{_≡_};
-ghost use Rattle.protocol.specs.Tables.{writtenBack, evictTable, yielded, yieldTable, takeTable};
+ghost use Rattle.protocol.specs.Pick.{both};
+ghost use Rattle.protocol.specs.Refusals.{hasOwner, stands};
+ghost use Rattle.protocol.specs.Tables.{writtenBack, yielded, effectOf};
 use protocol::Answer;
+use protocol::Call;
 use protocol::Copy;
 use protocol::Core;
 use protocol::Effect;
@@ -26,20 +31,20 @@ fn written_back(line: Line, wts: Stamp, rts: Stamp) -> Line
     }
 }
 
-// evict: a shared copy goes; an owned one becomes the writeback.
+// evict: a shared copy goes; an owned one becomes the writeback; 26 where there is none.
 pub fn evict(core: Core, copy: Copy, line: Line) -> Effect
-    ensures { λ r. ⌜ r ≡ evictTable copy (record { core = core; copy = copy; line = line }) ⌝ }
+    ensures { λ r. ⌜ ((c l lease : ℕ) → r ≡ effectOf (Call.Evict c l) (record { core = core; copy = copy; line = line }) lease) ⌝ }
 {
     match copy {
         Copy::None => refusals::refused(26, core, copy, line),
-        Copy::Shared { wts: _, rts: _ } => Effect {
+        Copy::Shared { .. } => Effect {
             answer: Answer::Evict,
             moves: Move::Still,
             core,
             copy: Copy::None,
             line,
         },
-        Copy::Owned { dirty: _, wts, rts } => {
+        Copy::Owned { wts, rts, .. } => {
             let back = written_back(line, wts, rts);
             Effect {
                 answer: Answer::Evict,
@@ -63,15 +68,34 @@ fn yielded_copy(recall: Recall, wts: Stamp, rts: Stamp) -> Copy
     }
 }
 
-// yield: the owner's copy becomes the writeback.
-pub fn yield_line(core: Core, copy: Copy, line: Line) -> Effect
-    ensures { λ r. ⌜ r ≡ yieldTable copy (record { core = core; copy = copy; line = line }) ⌝ }
+// Whether the line is owned and a recall stands.
+fn is_recalled(line: Line) -> bool
+    ensures { λ r. ⌜ r ≡ both (hasOwner (line .manager)) (stands (line .recall)) ⌝ }
 {
+    let manager = line.manager;
+    let recall = line.recall;
+    match manager {
+        Manager::Shared { .. } => false,
+        Manager::Owned { .. } => match recall {
+            Recall::None => false,
+            Recall::Downgrade => true,
+            Recall::Flush => true,
+        },
+    }
+}
+
+// yield: the owner's copy becomes the writeback; 23 without a recall, 24 without an owned copy.
+pub fn yield_line(core: Core, copy: Copy, line: Line) -> Effect
+    ensures { λ r. ⌜ ((l lease : ℕ) → r ≡ effectOf (Call.Yield l) (record { core = core; copy = copy; line = line }) lease) ⌝ }
+{
+    if !is_recalled(line) {
+        return refusals::refused(23, core, copy, line);
+    }
     let recall = line.recall;
     match copy {
         Copy::None => refusals::refused(24, core, copy, line),
-        Copy::Shared { wts: _, rts: _ } => refusals::refused(24, core, copy, line),
-        Copy::Owned { dirty: _, wts, rts } => {
+        Copy::Shared { .. } => refusals::refused(24, core, copy, line),
+        Copy::Owned { wts, rts, .. } => {
             let left = yielded_copy(recall, wts, rts);
             let back = written_back(line, wts, rts);
             Effect {
@@ -85,9 +109,9 @@ pub fn yield_line(core: Core, copy: Copy, line: Line) -> Effect
     }
 }
 
-// take: the writeback becomes the manager's version, and recall and writeback are settled.
+// take: the writeback becomes the manager's version, and recall and writeback are settled; 25 without one.
 pub fn take(core: Core, copy: Copy, line: Line) -> Effect
-    ensures { λ r. ⌜ r ≡ takeTable (line .writeback) (record { core = core; copy = copy; line = line }) ⌝ }
+    ensures { λ r. ⌜ ((l lease : ℕ) → r ≡ effectOf (Call.Take l) (record { core = core; copy = copy; line = line }) lease) ⌝ }
 {
     let flight = line.writeback;
     match flight {

@@ -1,15 +1,14 @@
--- The clocks after a fence.
+-- The clocks after a fence, which none of 20 to 27 refuses.
 use borrow.Author.Needs.{needs}
-use Rattle.protocol.specs.Tables.{fenceTable}
+use Rattle.protocol.specs.Pick.{first}
+use Rattle.protocol.specs.Refusals.{stateRules, stateRefusal}
+use Rattle.protocol.specs.Tables.{fenceTable, tableOf, effectOf}
 use Rattle.core_rows.proofs.fence.Statement.{statement}
 use Rattle.core_rows.proofs.fence.Tie as tie
 
-fence-requires : tie.Need-fence-requires
-fence-requires c κs = search needs
-
 returns : tie.Need-returns
-unfolding fenceTable
-returns c = rw (c .before .fence .ensures)
+unfolding effectOf tableOf fenceTable stateRefusal stateRules first
+returns c lease = rw (c .before .fence .ensures)
 
 pub fence-spec : {M : Type 1} → statement M
-fence-spec = tie.close (tie.spec fence-requires returns)
+fence-spec = tie.close (tie.spec (λ c κs. search needs) returns)

@@ -1,70 +1,52 @@
--- The load table's rows, by the copy, its lease and whether it is dirty.
+-- By the copy, its lease and whether it is dirty: the row, asked, or 20.
+use mathlib.Core.Path.{refl}
 use borrow.Author.Needs.{needs}
-use borrow.Author.Tests.{le-leb, lt-leb}
-use Rattle.protocol.specs.Tables.{loadTable, loadOwned}
+use borrow.Author.Tests.{le-leb, lt-leb, lt-ltb, le-ltb}
+use Rattle.protocol.specs.Pick.{fails, first}
+use Rattle.protocol.specs.Refusals.{isEmpty, stateRules, stateRefusal}
+use Rattle.protocol.specs.Tables.{loadTable, loadOwned, tableOf, effectOf}
+use Rattle.protocol.proofs.Refusals.{ruled}
 use Rattle.core_rows.proofs.load.Statement.{statement}
 use Rattle.core_rows.proofs.load.Tie as tie
 
-enum-told : tie.Need-enum-told
-enum-told c = search needs
-
-ask-requires : tie.Need-ask-requires
-ask-requires c κs = search needs
-
-enum-known-copy : tie.Need-enum-known-copy
-enum-known-copy c = search needs
-
-load-requires : tie.Need-load-requires
-load-requires c κs = search needs
-
-ask-requires-2 : tie.Need-ask-requires-2
-ask-requires-2 c κs = search needs
-
-enum-known-copy-2 : tie.Need-enum-known-copy-2
-enum-known-copy-2 c = search needs
-
-later-requires : tie.Need-later-requires
-later-requires c κs = search needs
-
-load-requires-2 : tie.Need-load-requires-2
-load-requires-2 c κs = search needs
-
-later-requires-2 : tie.Need-later-requires-2
-later-requires-2 c κs = search needs
-
 returns : tie.Need-returns
-unfolding loadTable loadOwned
-returns c = rw (c .ask .ensures, c .before .enum-told .given .1)
+unfolding effectOf tableOf loadTable stateRefusal stateRules first
+returns c lease = rw (c .ask .ensures, c .before .enum-told .given .1) (ruled (fails (isEmpty (c .before .before .before .before .args .core .slot))) 20 _ _ refl)
 
 returns-2 : tie.Need-returns-2
-unfolding loadTable loadOwned
-returns-2 c = rw (c .before .before .before .before .before .before .copy .given .1, le-leb _ _ (c .before .before .if1 .taken), c .before .load .ensures)
+unfolding effectOf tableOf loadTable stateRefusal stateRules first
+returns-2 c lease =
+    let h = c .before .before .if1 .taken in
+    rw (c .before .before .before .before .before .before .copy .given .1, le-leb _ _ h, le-ltb _ _ h, c .before .load .ensures)
 
 returns-3 : tie.Need-returns-3
-unfolding loadTable loadOwned
-returns-3 c = rw (c .before .before .before .before .before .copy .given .1, lt-leb _ _ (c .before .if1 .left)) (c .ask2 .ensures)
+unfolding effectOf tableOf loadTable stateRefusal stateRules first
+returns-3 c lease =
+    let h = c .before .if1 .left in
+    rw (c .ask2 .ensures, c .before .before .before .before .before .copy .given .1, lt-leb _ _ h, lt-ltb _ _ h)
+    (ruled (fails (isEmpty (c .before .before .before .before .before .before .before .before .args .core .slot))) 20 _ _ refl)
 
 returns-4 : tie.Need-returns-4
-unfolding loadTable loadOwned
-returns-4 c = rw (c .before .before .before .before .copy2 .given .1, c .before .if2 .taken, c .later .ensures)
+unfolding effectOf tableOf loadTable loadOwned stateRefusal stateRules first
+returns-4 c lease = rw (c .before .before .before .before .copy2 .given .1, c .before .if2 .taken, c .later .ensures)
 
 returns-5 : tie.Need-returns-5
-unfolding loadTable loadOwned
-returns-5 c = rw (c .before .before .before .before .before .before .copy2 .given .1, c .before .before .before .if2 .left, c .later2 .ensures, c .before .before .load2 .ensures)
+unfolding effectOf tableOf loadTable loadOwned stateRefusal stateRules first
+returns-5 c lease = rw (c .before .before .before .before .before .before .copy2 .given .1, c .before .before .before .if2 .left, c .later2 .ensures, c .before .before .load2 .ensures)
 
 pub load-spec : {M : Type 1} → statement M
 load-spec =
     tie.close
     (tie.spec
-    enum-told
-    ask-requires
-    enum-known-copy
-    load-requires
-    ask-requires-2
-    enum-known-copy-2
-    later-requires
-    load-requires-2
-    later-requires-2
+    (λ c. search needs)
+    (λ c κs. search needs)
+    (λ c. search needs)
+    (λ c κs. search needs)
+    (λ c κs. search needs)
+    (λ c. search needs)
+    (λ c κs. search needs)
+    (λ c κs. search needs)
+    (λ c κs. search needs)
     returns
     returns-2
     returns-3

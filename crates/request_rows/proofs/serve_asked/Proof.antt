@@ -1,67 +1,50 @@
--- The serve table's rows, by the manager and the request; the refusal 27 has settled that a lease's end fits.
+-- By the manager and the request: the row, or 27.
 use borrow.Author.Needs.{needs}
 use Rattle.protocol.specs.Tables.{serveAsked}
-use Rattle.request_rows.proofs.Laws.{lease-fits}
+use Rattle.protocol.proofs.Tests.{was-false, was-true}
+use Rattle.request_rows.proofs.Laws.{owned-passes}
 use Rattle.request_rows.proofs.serve_asked.Statement.{statement}
 use Rattle.request_rows.proofs.serve_asked.Tie as tie
 
-enum-told : tie.Need-enum-told
-enum-told c = search needs
-
-recall-after-requires : tie.Need-recall-after-requires
-recall-after-requires c κs = search needs
-
-enum-known-manager : tie.Need-enum-known-manager
-enum-known-manager c = search needs
-
-enum-told-2 : tie.Need-enum-told-2
-enum-told-2 c = search needs
-
-after-requires : tie.Need-after-requires
-after-requires c κs = search needs
-
-later-requires : tie.Need-later-requires
-later-requires c κs = search needs
-
-same-version-requires : tie.Need-same-version-requires
-same-version-requires c κs = search needs
-
-serve-load-requires : tie.Need-serve-load-requires
-serve-load-requires c κs = search needs
-
-enum-told-3 : tie.Need-enum-told-3
-enum-told-3 c = search needs
-
 returns : tie.Need-returns
-unfolding serveAsked
-returns c = rw (c .before .enum-told .given .1, c .recall-after .ensures)
+returns c =
+    rw (c .refused .ensures, c .before .before .before .before .before .before .manager .given .1, c .before .before .before .enum-told2 .given .1, was-false (c .before .before .fits2 .ensures) (c .before .if1 .taken))
 
 returns-2 : tie.Need-returns-2
 unfolding serveAsked
 returns-2 c =
-    let a = c .before .before .before .before .before .before .before .before .before .before .args in
-    let e = c .before .before .before .before .before .before .before .manager .given .1 in
-    let f = c .before .before .before .before .enum-told2 .given .1 in
-    let g = lease-fits (a .want) (a .l) (a .lts) (a .held) (a .line .manager) (a .lease) f e (c .before .before .before .before .before .before .before .before .before .before .pre) in
-    rw (c .serve-load .ensures, c .before .same-version .ensures, c .before .before .later .ensures, c .before .before .before .after .ensures, g, e, f)
+    let a = c .before .before .before .before .args in
+    rw (c .before .enum-told .given .1, owned-passes (a .want) (a .l) (a .lts) (a .held) _ (a .lease), c .recall-after .ensures)
+
+after-requires : tie.Need-after-requires
+after-requires c κs = was-true (c .before .fits2 .ensures) (c .if1 .left)
 
 returns-3 : tie.Need-returns-3
 unfolding serveAsked
-returns-3 c = rw (c .before .before .before .manager .given .1, c .enum-told3 .given .1)
+returns-3 c =
+    let fit = c .before .before .before .before in
+    rw (c .serve-load .ensures, c .before .same-version .ensures, c .before .before .later .ensures, c .before .before .before .after .ensures, fit .before .before .before .before .before .manager .given .1, fit .before .before .enum-told2 .given .1, was-true (fit .before .fits2 .ensures) (fit .if1 .left))
+
+returns-4 : tie.Need-returns-4
+unfolding serveAsked
+returns-4 c = rw (c .before .before .before .manager .given .1, c .enum-told3 .given .1)
 
 pub serve-asked-spec : {M : Type 1} → statement M
 serve-asked-spec =
     tie.close
     (tie.spec
-    enum-told
-    recall-after-requires
-    enum-known-manager
-    enum-told-2
-    after-requires
-    later-requires
-    same-version-requires
-    serve-load-requires
-    enum-told-3
+    (λ c. search needs)
+    (λ c κs. search needs)
+    (λ c. search needs)
+    (λ c. search needs)
+    (λ c κs. search needs)
+    (λ c κs. search needs)
     returns
+    after-requires
+    (λ c κs. search needs)
+    (λ c κs. search needs)
+    (λ c κs. search needs)
+    (λ c. search needs)
     returns-2
-    returns-3)
+    returns-3
+    returns-4)

@@ -1,25 +1,20 @@
--- The take table's row, for a writeback in flight.
+-- By the writeback: 25, or the row.
 use borrow.Author.Needs.{needs}
-use Rattle.protocol.specs.Tables.{takeTable}
+use Rattle.protocol.specs.Pick.{first}
+use Rattle.protocol.specs.Refusals.{stateRules, stateRefusal}
+use Rattle.protocol.specs.Tables.{takeTable, tableOf, effectOf}
 use Rattle.writeback_rows.proofs.take.Statement.{statement}
 use Rattle.writeback_rows.proofs.take.Tie as tie
 
-enum-told : tie.Need-enum-told
-enum-told c = search needs
-
-refused-requires : tie.Need-refused-requires
-refused-requires c κs = search needs
-
-enum-known-flight : tie.Need-enum-known-flight
-enum-known-flight c = search needs
-
 returns : tie.Need-returns
-unfolding takeTable
-returns c = rw (c .refused .ensures, c .before .enum-told .given .1)
+unfolding effectOf stateRefusal stateRules first
+returns c l lease = rw (c .refused .ensures, c .before .enum-told .given .1)
 
 returns-2 : tie.Need-returns-2
-unfolding takeTable
-returns-2 c = rw (c .before .flight .given .1)
+unfolding effectOf tableOf takeTable stateRefusal stateRules first
+returns-2 c l lease = rw (c .before .flight .given .1)
 
 pub take-spec : {M : Type 1} → statement M
-take-spec = tie.close (tie.spec enum-told refused-requires enum-known-flight returns returns-2)
+take-spec =
+    tie.close
+    (tie.spec (λ c. search needs) (λ c κs. search needs) (λ c. search needs) returns returns-2)

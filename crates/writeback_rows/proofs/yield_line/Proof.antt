@@ -1,53 +1,43 @@
--- The yield table's row, for an owned copy.
+-- By the recall and the owner's copy: 23, 24, or the row.
 use borrow.Author.Needs.{needs}
-use Rattle.protocol.specs.Tables.{yieldTable}
+use Rattle.protocol.specs.Pick.{first}
+use Rattle.protocol.specs.Refusals.{stateRules, stateRefusal}
+use Rattle.protocol.specs.Tables.{yieldTable, tableOf, effectOf}
+use Rattle.protocol.proofs.Tests.{was-false, was-true}
 use Rattle.writeback_rows.proofs.yield_line.Statement.{statement}
 use Rattle.writeback_rows.proofs.yield_line.Tie as tie
 
-enum-told : tie.Need-enum-told
-enum-told c = search needs
-
-refused-requires : tie.Need-refused-requires
-refused-requires c κs = search needs
-
-enum-told-2 : tie.Need-enum-told-2
-enum-told-2 c = search needs
-
-refused-requires-2 : tie.Need-refused-requires-2
-refused-requires-2 c κs = search needs
-
-enum-known-copy : tie.Need-enum-known-copy
-enum-known-copy c = search needs
-
-yielded-copy-requires : tie.Need-yielded-copy-requires
-yielded-copy-requires c κs = search needs
-
-written-back-requires : tie.Need-written-back-requires
-written-back-requires c κs = search needs
-
 returns : tie.Need-returns
-unfolding yieldTable
-returns c = rw (c .refused .ensures, c .before .enum-told .given .1)
+unfolding effectOf stateRefusal stateRules first
+returns c l lease = rw (c .refused .ensures, was-false (c .before .before .is-recalled .ensures) (c .before .if1 .taken))
 
 returns-2 : tie.Need-returns-2
-unfolding yieldTable
-returns-2 c = rw (c .refused2 .ensures, c .before .enum-told2 .given .1)
+unfolding effectOf stateRefusal stateRules first
+returns-2 c l lease = rw (c .refused2 .ensures, c .before .enum-told .given .1, was-true (c .before .before .before .before .is-recalled .ensures) (c .before .before .before .if1 .left))
 
 returns-3 : tie.Need-returns-3
-unfolding yieldTable
-returns-3 c = rw (c .before .before .before .copy .given .1, c .written-back .ensures, c .before .yielded-copy .ensures)
+unfolding effectOf stateRefusal stateRules first
+returns-3 c l lease = rw (c .refused3 .ensures, c .before .enum-told2 .given .1, was-true (c .before .before .before .before .is-recalled .ensures) (c .before .before .before .if1 .left))
+
+returns-4 : tie.Need-returns-4
+unfolding effectOf tableOf yieldTable stateRefusal stateRules first
+returns-4 c l lease =
+    rw (c .before .before .before .copy .given .1, c .written-back .ensures, c .before .yielded-copy .ensures, was-true (c .before .before .before .before .before .before .is-recalled .ensures) (c .before .before .before .before .before .if1 .left))
 
 pub yield-line-spec : {M : Type 1} → statement M
 yield-line-spec =
     tie.close
     (tie.spec
-    enum-told
-    refused-requires
-    enum-told-2
-    refused-requires-2
-    enum-known-copy
-    yielded-copy-requires
-    written-back-requires
+    (λ c κs. search needs)
+    (λ c κs. search needs)
     returns
+    (λ c. search needs)
+    (λ c κs. search needs)
+    (λ c. search needs)
+    (λ c κs. search needs)
+    (λ c. search needs)
+    (λ c κs. search needs)
+    (λ c κs. search needs)
     returns-2
-    returns-3)
+    returns-3
+    returns-4)
