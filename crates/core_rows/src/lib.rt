@@ -16,6 +16,7 @@ use protocol::Effect;
 use protocol::Held;
 use protocol::Line;
 use protocol::Move;
+use protocol::Opening;
 use protocol::Slot;
 use protocol::Want;
 
@@ -63,7 +64,7 @@ fn ask(want: Want, l: usize, core: Core, copy: Copy, line: Line) -> Effect
 
 // load: commits on an owned copy and within a shared one's lease; else asks, or 20.
 pub fn load(c: usize, l: usize, core: Core, copy: Copy, line: Line) -> Effect
-    ensures { λ r. ⌜ ((lease : ℕ) → r ≡ effectOf (Call.Load c l) (record { core = core; copy = copy; line = line }) lease) ⌝ }
+    ensures { λ r. ⌜ ((o : Opening) → r ≡ effectOf (Call.Load c l) (record { core = core; copy = copy; line = line }) o) ⌝ }
 {
     let slot = core.slot;
     let before = core.clocks;
@@ -134,7 +135,7 @@ pub fn load(c: usize, l: usize, core: Core, copy: Copy, line: Line) -> Effect
 // store: commits on an owned copy, past its lease, or 27 where that passes the greatest timestamp; else
 // asks, or 20.
 pub fn store(c: usize, l: usize, core: Core, copy: Copy, line: Line) -> Effect
-    ensures { λ r. ⌜ ((lease : ℕ) → r ≡ effectOf (Call.Store c l) (record { core = core; copy = copy; line = line }) lease) ⌝ }
+    ensures { λ r. ⌜ ((o : Opening) → r ≡ effectOf (Call.Store c l) (record { core = core; copy = copy; line = line }) o) ⌝ }
 {
     let slot = core.slot;
     let before = core.clocks;
@@ -168,7 +169,7 @@ pub fn store(c: usize, l: usize, core: Core, copy: Copy, line: Line) -> Effect
 
 // fence: commits at the later of the core's clocks.
 pub fn fence(c: usize, core: Core, copy: Copy, line: Line) -> Effect
-    ensures { λ r. ⌜ ((lease : ℕ) → r ≡ effectOf (Call.Fence c) (record { core = core; copy = copy; line = line }) lease) ⌝ }
+    ensures { λ r. ⌜ ((o : Opening) → r ≡ effectOf (Call.Fence c) (record { core = core; copy = copy; line = line }) o) ⌝ }
 {
     let slot = core.slot;
     let before = core.clocks;
@@ -185,7 +186,7 @@ pub fn fence(c: usize, core: Core, copy: Copy, line: Line) -> Effect
 
 // advance: lts grows, or 27 where it passes the greatest timestamp.
 pub fn advance(by: u32, core: Core, copy: Copy, line: Line) -> Effect
-    ensures { λ r. ⌜ ((c lease : ℕ) → r ≡ effectOf (Call.Advance c by) (record { core = core; copy = copy; line = line }) lease) ⌝ }
+    ensures { λ r. ⌜ ((c : ℕ) (o : Opening) → r ≡ effectOf (Call.Advance c by) (record { core = core; copy = copy; line = line }) o) ⌝ }
 {
     let slot = core.slot;
     let before = core.clocks;

@@ -182,7 +182,7 @@ module _ {j : Bytes} {from : Standing} {p₀ q₀ old : Bytes} {z : Sizes} {base
           pub line-low : l < 64
           line-low = let a = place-placed z c l place-low in omega (arith, a .line, a .lines)
 
-          module _ (f : Effect) (ef : f ≡ effectOf call (piecesAt s c l) (z .lease)) where
+          module _ (f : Effect) (ef : f ≡ effectOf call (piecesAt s c l) z) where
             reply : step (machine s p q) call (take count buf) .reply ≡ meaning (f .answer) (commitBytes call (take count buf) (copyBytes z p c l))
             reply = rw (sym (g .opening)) (made-reply s p q call (take count buf) base n (g .based) counts h c ec l el f (rw (sym (g .opening)) at ef))
 

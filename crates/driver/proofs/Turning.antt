@@ -134,11 +134,11 @@ looked-over s p q n e = rw (length-replicate, length-replicate) at e
 -- the machine with the effect of a call written back fits again
 fits-again :
     (s : State) (p q p' q' : Bytes) (call : Call) (n c l : ℕ) (d : Effect) → Fit (machine s p q) → Placed (s .opening) c l
-    → callRefusal call (s .opening) n ≡ 0 → d ≡ effectOf call (piecesAt s c l) (s .opening .lease) → length p' ≡ length p → length q' ≡ length q
+    → callRefusal call (s .opening) n ≡ 0 → d ≡ effectOf call (piecesAt s c l) (s .opening) → length p' ≡ length p → length q' ≡ length q
     → Fit (machine (written s c l d) p' q')
 unfolding ownersFit slotsFit
 fits-again s p q p' q' call n c l d f a e ed lp lq =
-    let k = effect-fits (s .opening) n (piecesAt s c l) (slot-inside f c (a .core)) (owner-inside f l (a .line)) call (s .opening .lease) e in
+    let k = effect-fits (s .opening) n (piecesAt s c l) (slot-inside f c (a .core)) (owner-inside f l (a .line)) call e in
     record {
       opening = f .opening;
       owners = every-set (λ (x : Line). ownerFits (s .opening .cores) (x .manager)) (s .line) (s .opening .lines) l (d .line) (f .owners) (rw ed (k .owner));
@@ -188,7 +188,7 @@ module _ (s : State) (p q : Bytes) (call : Call) (bs : Bytes) (base n : ℕ) (eb
         pub place-here : placeFits (s .opening) c l ≡ true
         place-here = placed-place (machine-fit (machine s p q) (none .0) .opening) placed-here
 
-        module _ (d : Effect) (ed : d ≡ effectOf call (piecesAt s c l) (s .opening .lease)) where
+        module _ (d : Effect) (ed : d ≡ effectOf call (piecesAt s c l) (s .opening)) where
           made : step (machine s p q) call bs ≡ accepted (machine s p q) call bs c l d
           made = rw (ed, core-is, line-is) (step-accepted (machine s p q) call bs (sym input ∙ h))
 
@@ -202,7 +202,7 @@ module _ (s : State) (p q : Bytes) (call : Call) (bs : Bytes) (base n : ℕ) (eb
             made-machine =
                 let f = machine-fit (machine s p q) (none .0) in
                 let g : Sound (s .opening) c l bs p q call d =
-                rw ed (effect-sound (s .opening) c l bs p q call (piecesAt s c l) (s .opening .lease) (none .1) (rw (f .nPrivate) (copy-ends placed-here))) in
+                rw ed (effect-sound (s .opening) c l bs p q call (piecesAt s c l) (none .1) (rw (f .nPrivate) (copy-ends placed-here))) in
                 let r = effect-moves (machine s p q) call bs c l d f placed-here g in
                 let ep : p' ≡ movedPrivate (d .moves) (s .opening) c l bs p q = rw r at (v .private) in
                 let eq : q' ≡ movedShared (d .moves) (s .opening) c l p q = rw r at (v .shared) in

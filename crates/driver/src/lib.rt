@@ -124,7 +124,6 @@ pub fn play(
     let opening = s.opening;
     let cores = s.core;
     let lines = s.line;
-    let lease = opening.lease;
     let base = refusals::machine_refusal(opening, cores, lines, private.len(), shared.len());
     loop {
         match journal::step_at(journal, at, form) {
@@ -192,7 +191,7 @@ pub fn play(
                 let cell = s.cell[i];
                 let line = s.line[l];
                 let copy = cell.copy;
-                let d = tables::effect(call, k, copy, line, lease);
+                let d = tables::effect(call, k, copy, line, opening);
                 let answer = d.answer;
                 match turn::put_answer(
                     out,

@@ -165,7 +165,7 @@ module _ {m : Machine} (f : Fit m) where
 pub record NotRefused (m : Machine) (call : Call) (n : ℕ) : Type 0 where
   pub machineOk : machineRefusal m ≡ 0
   pub callOk : callRefusal call (m .state .opening) n ≡ 0
-  pub stateOk : stateRefusal call (piecesAt (m .state) (coreOf call (m .state)) (lineOf call (m .state))) (m .state .opening .lease) ≡ 0
+  pub stateOk : stateRefusal call (piecesAt (m .state) (coreOf call (m .state)) (lineOf call (m .state))) (m .state .opening) ≡ 0
 
 pub not-refused : (m : Machine) (call : Call) (n : ℕ) → refusal m call n ≡ 0 → NotRefused m call n
 unfolding refusal

@@ -40,7 +40,7 @@ copyAt s c l = getD (s .cell) (c * 64 + l) freshCell .copy
 abbrev pub lineAt : State → ℕ → Line
 lineAt s l = getD (s .line) l freshLine
 
--- the pieces of the machine that a step looks at, beside the lease: one core, its copy of one line, the manager's line
+-- the pieces of the machine that a step looks at, beside the opening: one core, its copy of one line, the manager's line
 pub record Pieces : Type 0 where
   pub core : Core
   pub copy : Copy

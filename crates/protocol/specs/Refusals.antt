@@ -149,33 +149,33 @@ storePasses (CopyShared w r) = false
 storePasses (CopyOwned d w r) = fails (fits r 1)
 
 -- asked lts + lease passes the greatest timestamp (serve of a load on a shared line)
-abbrev pub servePasses : Slot → Manager → ℕ → Bool
-servePasses Empty m lease = false
-servePasses (Asked WantLoad l t h) (Shared w r) lease = fails (fits t lease)
-servePasses (Asked WantLoad l t h) (Owned c) lease = false
-servePasses (Asked WantStore l t h) m lease = false
-servePasses (Answered g l w r) m lease = false
+abbrev pub servePasses : Slot → Manager → Opening → Bool
+servePasses Empty m o = false
+servePasses (Asked WantLoad l t h) (Shared w r) o = fails (fits t (o .lease))
+servePasses (Asked WantLoad l t h) (Owned c) o = false
+servePasses (Asked WantStore l t h) m o = false
+servePasses (Answered g l w r) m o = false
 
 -- 20 to 27, for each call those that speak of it.
 -- 20: load or store must ask, slot not empty. 21: serve, slot not asked. 22: receive, slot not answered. 23: yield, line not owned or no
 -- recall. 24: yield, owner's copy not owned. 25: take, no writeback. 26: evict, no copy. 27: rts + 1 (store to an owned line), lts + by
 -- (advance) or asked lts + lease (serve of a load on a shared line) passes the greatest timestamp
-unfoldable pub stateRules : Call → Pieces → ℕ → List Rule
-stateRules (Load c l) p lease = (both (loadAsks (p .copy) (p .core .clocks .lts)) (fails (isEmpty (p .core .slot))) gives 20) ∷ []
-stateRules (Store c l) p lease =
+unfoldable pub stateRules : Call → Pieces → Opening → List Rule
+stateRules (Load c l) p o = (both (loadAsks (p .copy) (p .core .clocks .lts)) (fails (isEmpty (p .core .slot))) gives 20) ∷ []
+stateRules (Store c l) p o =
     (both (fails (isOwned (p .copy))) (fails (isEmpty (p .core .slot))) gives 20) ∷ (storePasses (p .copy) gives 27) ∷ []
-stateRules (Fence c) p lease = []
-stateRules (Evict c l) p lease = (fails (isHeld (p .copy)) gives 26) ∷ []
-stateRules (Advance c by) p lease = (fails (fits (p .core .clocks .lts) by) gives 27) ∷ []
-stateRules (Serve c) p lease =
-    (fails (isAsked (p .core .slot)) gives 21) ∷ (servePasses (p .core .slot) (p .line .manager) lease gives 27) ∷ []
-stateRules (Receive c) p lease = (fails (isAnswered (p .core .slot)) gives 22) ∷ []
-stateRules (Yield l) p lease =
+stateRules (Fence c) p o = []
+stateRules (Evict c l) p o = (fails (isHeld (p .copy)) gives 26) ∷ []
+stateRules (Advance c by) p o = (fails (fits (p .core .clocks .lts) by) gives 27) ∷ []
+stateRules (Serve c) p o =
+    (fails (isAsked (p .core .slot)) gives 21) ∷ (servePasses (p .core .slot) (p .line .manager) o gives 27) ∷ []
+stateRules (Receive c) p o = (fails (isAnswered (p .core .slot)) gives 22) ∷ []
+stateRules (Yield l) p o =
     (fails (both (hasOwner (p .line .manager)) (stands (p .line .recall))) gives 23) ∷ (fails (isOwned (p .copy)) gives 24) ∷ []
-stateRules (Take l) p lease = (fails (inFlight (p .line .writeback)) gives 25) ∷ []
+stateRules (Take l) p o = (fails (inFlight (p .line .writeback)) gives 25) ∷ []
 
-unfoldable pub stateRefusal : Call → Pieces → ℕ → ℕ
-stateRefusal call p lease = first (stateRules call p lease)
+unfoldable pub stateRefusal : Call → Pieces → Opening → ℕ
+stateRefusal call p o = first (stateRules call p o)
 
 -- ---- All of them
 
@@ -188,4 +188,4 @@ unfoldable pub refusal : Machine → Call → ℕ → ℕ
 refusal m call n =
     orElse (machineRefusal m)
     (orElse (callRefusal call (m .state .opening) n)
-    (stateRefusal call (piecesAt (m .state) (coreOf call (m .state)) (lineOf call (m .state))) (m .state .opening .lease)))
+    (stateRefusal call (piecesAt (m .state) (coreOf call (m .state)) (lineOf call (m .state))) (m .state .opening)))

@@ -99,7 +99,7 @@ unfoldable pub step : Machine → Call → Bytes → Outcome
 step m call given =
     pick (eqb (refusal m call (length given)) 0)
     (accepted m call given (coreOf call (m .state)) (lineOf call (m .state))
-    (tableOf call (piecesAt (m .state) (coreOf call (m .state)) (lineOf call (m .state))) (m .state .opening .lease)))
+    (tableOf call (piecesAt (m .state) (coreOf call (m .state)) (lineOf call (m .state))) (m .state .opening)))
     (record { reply = refused (refusal m call (length given)); machine = m })
 
 -- ---- show

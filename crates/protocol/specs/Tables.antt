@@ -28,6 +28,7 @@ use Rattle.protocol.specs.declared.Recall.the-variants.{None as NoRecall
 use Rattle.protocol.specs.declared.Writeback.{Writeback}
 use Rattle.protocol.specs.declared.Writeback.the-variants.{None as NoWriteback, Flight}
 use Rattle.protocol.specs.declared.Line.{Line}
+use Rattle.protocol.specs.declared.Opening.{Opening}
 use Rattle.protocol.specs.declared.Call.{Call}
 use Rattle.protocol.specs.declared.Call.the-variants.{Load, Store, Fence, Evict, Advance, Serve, Receive, Yield, Take}
 use Rattle.protocol.specs.declared.Answer.{Answer}
@@ -150,19 +151,19 @@ serveLoad false l w r p = row Share MoveAnswer (slotted (p .core) (Answered Gran
 -- "line owned: answer recall .. Slot stays."
 -- "shared, load: rts becomes max(rts, asked lts + lease). If the asked wts equals the manager's, the slot becomes renew .. otherwise share"
 -- "shared, store: manager line becomes owned by that core; slot becomes own, with bytes"
-unfoldable pub serveAsked : Manager → Want → ℕ → ℕ → Stamp → Held → Pieces → ℕ → Effect
-serveAsked (Owned o) a c l t h p lease =
+unfoldable pub serveAsked : Manager → Want → ℕ → ℕ → Stamp → Held → Pieces → Opening → Effect
+serveAsked (Owned k) a c l t h p o =
     row AnswerRecall Still (p .core) (p .copy)
     (record { manager = p .line .manager; recall = recalled a (p .line .recall); writeback = p .line .writeback })
-serveAsked (Shared w r) WantLoad c l t h p lease = serveLoad (sameVersion h w) l w (leasedTo r t lease) p
-serveAsked (Shared w r) WantStore c l t h p lease =
+serveAsked (Shared w r) WantLoad c l t h p o = serveLoad (sameVersion h w) l w (leasedTo r t (o .lease)) p
+serveAsked (Shared w r) WantStore c l t h p o =
     row Own MoveAnswer (slotted (p .core) (Answered GrantOwn l w r)) (p .copy) (managed (p .line) (Owned c))
 
 -- serve (core with an asked slot)
-unfoldable pub serveTable : Slot → ℕ → Pieces → ℕ → Effect
-serveTable (Asked a l t h) c p lease = serveAsked (p .line .manager) a c l t h p lease
-serveTable (Answered g l w r) c p lease = refusedRow 21 p
-serveTable Empty c p lease = refusedRow 21 p
+unfoldable pub serveTable : Slot → ℕ → Pieces → Opening → Effect
+serveTable (Asked a l t h) c p o = serveAsked (p .line .manager) a c l t h p o
+serveTable (Answered g l w r) c p o = refusedRow 21 p
+serveTable Empty c p o = refusedRow 21 p
 
 -- ---- receive
 
@@ -209,18 +210,18 @@ takeTable NoWriteback p = refusedRow 25 p
 -- ---- the nine
 
 -- the table of a call
-unfoldable pub tableOf : Call → Pieces → ℕ → Effect
-tableOf (Load c l) p lease = loadTable (p .copy) c l p
-tableOf (Store c l) p lease = storeTable (p .copy) c l p
-tableOf (Fence c) p lease = fenceTable c p
-tableOf (Evict c l) p lease = evictTable (p .copy) p
-tableOf (Advance c by) p lease = advanceTable by p
-tableOf (Serve c) p lease = serveTable (p .core .slot) c p lease
-tableOf (Receive c) p lease = receiveTable (p .core .slot) p
-tableOf (Yield l) p lease = yieldTable (p .copy) p
-tableOf (Take l) p lease = takeTable (p .line .writeback) p
+unfoldable pub tableOf : Call → Pieces → Opening → Effect
+tableOf (Load c l) p o = loadTable (p .copy) c l p
+tableOf (Store c l) p o = storeTable (p .copy) c l p
+tableOf (Fence c) p o = fenceTable c p
+tableOf (Evict c l) p o = evictTable (p .copy) p
+tableOf (Advance c by) p o = advanceTable by p
+tableOf (Serve c) p o = serveTable (p .core .slot) c p o
+tableOf (Receive c) p o = receiveTable (p .core .slot) p
+tableOf (Yield l) p o = yieldTable (p .copy) p
+tableOf (Take l) p o = takeTable (p .line .writeback) p
 
 -- what a call makes of the pieces: its table's row, or, with the pieces as they are, the number that it is refused with (20 to 27)
-unfoldable pub effectOf : Call → Pieces → ℕ → Effect
-effectOf call p lease =
-    pick (eqb (stateRefusal call p lease) 0) (tableOf call p lease) (refusedRow (stateRefusal call p lease) p)
+unfoldable pub effectOf : Call → Pieces → Opening → Effect
+effectOf call p o =
+    pick (eqb (stateRefusal call p o) 0) (tableOf call p o) (refusedRow (stateRefusal call p o) p)

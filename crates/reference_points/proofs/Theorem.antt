@@ -16,7 +16,7 @@ use Rattle.reference_points.specs.Points.{Point, machineOf, given, Holds
 
 -- the table's row of a point
 abbrev rowOf : Point → Effect
-rowOf p = tableOf (p .call) (p .before) (p .lease)
+rowOf p = tableOf (p .call) (p .before) (machineOf p .state .opening)
 
 -- a call that is accepted gives its table's row
 accepted-holds : (p : Point) → refusal (machineOf p) (p .call) (length given) ≡ 0 → coreOf (p .call) (machineOf p .state) ≡ 0

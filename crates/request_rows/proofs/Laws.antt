@@ -9,7 +9,8 @@ use Rattle.protocol.specs.declared.Want.the-variants.{Load as WantLoad, Store a
 use Rattle.protocol.specs.declared.Held.{Held}
 use Rattle.protocol.specs.declared.Slot.the-variants.{Asked}
 use Rattle.protocol.specs.declared.Manager.the-variants.{Owned}
+use Rattle.protocol.specs.declared.Opening.{Opening}
 
-pub owned-passes : (a : Want) (l : ℕ) (t : Stamp) (h : Held) (k lease : ℕ) → servePasses (Asked a l t h) (Owned k) lease ≡ false
-owned-passes WantLoad l t h k lease = refl
-owned-passes WantStore l t h k lease = refl
+pub owned-passes : (a : Want) (l : ℕ) (t : Stamp) (h : Held) (k : ℕ) (o : Opening) → servePasses (Asked a l t h) (Owned k) o ≡ false
+owned-passes WantLoad l t h k o = refl
+owned-passes WantStore l t h k o = refl

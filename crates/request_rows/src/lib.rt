@@ -18,6 +18,7 @@ use protocol::Held;
 use protocol::Line;
 use protocol::Manager;
 use protocol::Move;
+use protocol::Opening;
 use protocol::Recall;
 use protocol::Slot;
 use protocol::Stamp;
@@ -117,9 +118,9 @@ fn serve_asked(
     core: Core,
     copy: Copy,
     line: Line,
-    lease: u32,
+    opening: Opening,
 ) -> Effect
-    ensures { λ r. ⌜ r ≡ pick (servePasses (Slot.Asked want l lts held) (line .manager) lease) (refusedRow 27 (record { core = core; copy = copy; line = line })) (serveAsked (line .manager) want c l lts held (record { core = core; copy = copy; line = line }) lease) ⌝ }
+    ensures { λ r. ⌜ r ≡ pick (servePasses (Slot.Asked want l lts held) (line .manager) opening) (refusedRow 27 (record { core = core; copy = copy; line = line })) (serveAsked (line .manager) want c l lts held (record { core = core; copy = copy; line = line }) opening) ⌝ }
 {
     let clocks = core.clocks;
     let manager = line.manager;
@@ -139,10 +140,10 @@ fn serve_asked(
         },
         Manager::Shared { wts, rts } => match want {
             Want::Load => {
-                if !lts.fits(lease) {
+                if !lts.fits(opening.lease) {
                     return refusals::refused(27, core, copy, line);
                 }
-                let end = rts.later(lts.after(lease));
+                let end = rts.later(lts.after(opening.lease));
                 serve_load(same_version(held, wts), l, wts, end, core, copy, line)
             }
             Want::Store => Effect {
@@ -169,8 +170,8 @@ fn serve_asked(
 }
 
 // serve: the request in the core's slot, or 21 where it does not ask.
-pub fn serve(c: usize, core: Core, copy: Copy, line: Line, lease: u32) -> Effect
-    ensures { λ r. ⌜ r ≡ effectOf (Call.Serve c) (record { core = core; copy = copy; line = line }) lease ⌝ }
+pub fn serve(c: usize, core: Core, copy: Copy, line: Line, opening: Opening) -> Effect
+    ensures { λ r. ⌜ r ≡ effectOf (Call.Serve c) (record { core = core; copy = copy; line = line }) opening ⌝ }
 {
     let slot = core.slot;
     match slot {
@@ -180,7 +181,7 @@ pub fn serve(c: usize, core: Core, copy: Copy, line: Line, lease: u32) -> Effect
             line: l,
             lts,
             held,
-        } => serve_asked(want, c, l, lts, held, core, copy, line, lease),
+        } => serve_asked(want, c, l, lts, held, core, copy, line, opening),
         Slot::Answered { .. } => refusals::refused(21, core, copy, line),
     }
 }
@@ -255,7 +256,7 @@ fn receive_grant(grant: Grant, wts: Stamp, rts: Stamp, core: Core, copy: Copy, l
 
 // receive: the grant in the core's slot, or 22 where there is no answer.
 pub fn receive(core: Core, copy: Copy, line: Line) -> Effect
-    ensures { λ r. ⌜ ((c lease : ℕ) → r ≡ effectOf (Call.Receive c) (record { core = core; copy = copy; line = line }) lease) ⌝ }
+    ensures { λ r. ⌜ ((c : ℕ) (o : Opening) → r ≡ effectOf (Call.Receive c) (record { core = core; copy = copy; line = line }) o) ⌝ }
 {
     let slot = core.slot;
     match slot {

@@ -82,18 +82,18 @@ module _ (o : Opening) (n : ℕ) (p : Pieces) (slot : slotFits (o .lines) (p .co
   lend-fits false l w r i = record { slot = i; owner = refl; bytes = tt }
 
   asked-fits :
-      (m : Manager) (a : Want) (c l : ℕ) (t : Stamp) (h : Held) (lease : ℕ) → ltb c (o .cores) ≡ true → ltb l (o .lines) ≡ true
-      → Fits o n (serveAsked m a c l t h p lease)
+      (m : Manager) (a : Want) (c l : ℕ) (t : Stamp) (h : Held) → ltb c (o .cores) ≡ true → ltb l (o .lines) ≡ true
+      → Fits o n (serveAsked m a c l t h p o)
   unfolding serveAsked
-  asked-fits (Owned k) a c l t h lease j i = record { slot = slot; owner = owner; bytes = tt }
-  asked-fits (Shared w r) WantLoad c l t h lease j i = lend-fits (sameVersion h w) l w _ i
-  asked-fits (Shared w r) WantStore c l t h lease j i = record { slot = i; owner = j; bytes = tt }
+  asked-fits (Owned k) a c l t h j i = record { slot = slot; owner = owner; bytes = tt }
+  asked-fits (Shared w r) WantLoad c l t h j i = lend-fits (sameVersion h w) l w _ i
+  asked-fits (Shared w r) WantStore c l t h j i = record { slot = i; owner = j; bytes = tt }
 
-  serve-fits : (s : Slot) → slotFits (o .lines) s ≡ true → (c lease : ℕ) → ltb c (o .cores) ≡ true → Fits o n (serveTable s c p lease)
+  serve-fits : (s : Slot) → slotFits (o .lines) s ≡ true → (c : ℕ) → ltb c (o .cores) ≡ true → Fits o n (serveTable s c p o)
   unfolding serveTable
-  serve-fits Empty i c lease j = record { slot = slot; owner = owner; bytes = tt }
-  serve-fits (Asked a l t h) i c lease j = asked-fits (p .line .manager) a c l t h lease j i
-  serve-fits (Answered g l w r) i c lease j = record { slot = slot; owner = owner; bytes = tt }
+  serve-fits Empty i c j = record { slot = slot; owner = owner; bytes = tt }
+  serve-fits (Asked a l t h) i c j = asked-fits (p .line .manager) a c l t h j i
+  serve-fits (Answered g l w r) i c j = record { slot = slot; owner = owner; bytes = tt }
 
   renew-fits : (x : Copy) (r : Stamp) → Fits o n (receiveRenew x r p)
   unfolding receiveRenew
@@ -125,27 +125,27 @@ module _ (o : Opening) (n : ℕ) (p : Pieces) (slot : slotFits (o .lines) (p .co
   take-fits (Flight w r) = record { slot = slot; owner = refl; bytes = tt }
 
   -- the row of a call that none of 3 to 6 refuses; n is the count of the store bytes
-  pub table-fits : (call : Call) (lease : ℕ) → callRefusal call o n ≡ 0 → Fits o n (tableOf call p lease)
+  pub table-fits : (call : Call) → callRefusal call o n ≡ 0 → Fits o n (tableOf call p o)
   unfolding tableOf fenceTable advanceTable callRefusal callRules
-  table-fits (Load c l) lease e =
+  table-fits (Load c l) e =
       let i = passed (leb (o .cores) c) 3 _ (lit< tt) e .1 in
       load-fits (p .copy) c l (inside l (o .lines) (passed (leb (o .lines) l) 4 [] (lit< tt) i .0))
-  table-fits (Store c l) lease e =
+  table-fits (Store c l) e =
       let i = passed (leb (o .cores) c) 3 _ (lit< tt) e .1 in
       let j = passed (leb (o .lines) l) 4 _ (lit< tt) i in
       let k = passed (fails (eqb n (o .width))) 5 [] (lit< tt) (j .1) .0 in
       store-fits (p .copy) c l (inside l (o .lines) (j .0)) (eqb-true n (o .width) (not-true (eqb n (o .width)) k))
-  table-fits (Fence c) lease e = record { slot = slot; owner = owner; bytes = tt }
-  table-fits (Evict c l) lease e = evict-fits (p .copy)
-  table-fits (Advance c by) lease e = record { slot = slot; owner = owner; bytes = tt }
-  table-fits (Serve c) lease e =
-      serve-fits (p .core .slot) slot c lease (inside c (o .cores) (passed (leb (o .cores) c) 3 [] (lit< tt) e .0))
-  table-fits (Receive c) lease e = receive-fits (p .core .slot)
-  table-fits (Yield l) lease e = yield-fits (p .copy)
-  table-fits (Take l) lease e = take-fits (p .line .writeback)
+  table-fits (Fence c) e = record { slot = slot; owner = owner; bytes = tt }
+  table-fits (Evict c l) e = evict-fits (p .copy)
+  table-fits (Advance c by) e = record { slot = slot; owner = owner; bytes = tt }
+  table-fits (Serve c) e =
+      serve-fits (p .core .slot) slot c (inside c (o .cores) (passed (leb (o .cores) c) 3 [] (lit< tt) e .0))
+  table-fits (Receive c) e = receive-fits (p .core .slot)
+  table-fits (Yield l) e = yield-fits (p .copy)
+  table-fits (Take l) e = take-fits (p .line .writeback)
 
   -- the same of `effectOf`, which keeps the pieces of a refused call
-  pub effect-fits : (call : Call) (lease : ℕ) → callRefusal call o n ≡ 0 → Fits o n (effectOf call p lease)
+  pub effect-fits : (call : Call) → callRefusal call o n ≡ 0 → Fits o n (effectOf call p o)
   unfolding effectOf
-  effect-fits call lease e =
-      picked (Fits o n) (eqb (stateRefusal call p lease) 0) (table-fits call lease e) (record { slot = slot; owner = owner; bytes = tt })
+  effect-fits call e =
+      picked (Fits o n) (eqb (stateRefusal call p o) 0) (table-fits call e) (record { slot = slot; owner = owner; bytes = tt })

@@ -11,11 +11,12 @@ use protocol::Copy;
 use protocol::Core;
 use protocol::Effect;
 use protocol::Line;
+use protocol::Opening;
 
 // What a call makes of the pieces that it looks at: the row of its table, or the number that it is
 // refused with and the pieces as they are. Each row decides.
-pub fn effect(call: Call, core: Core, copy: Copy, line: Line, lease: u32) -> Effect
-    ensures { λ r. ⌜ r ≡ effectOf call (record { core = core; copy = copy; line = line }) lease ⌝ }
+pub fn effect(call: Call, core: Core, copy: Copy, line: Line, opening: Opening) -> Effect
+    ensures { λ r. ⌜ r ≡ effectOf call (record { core = core; copy = copy; line = line }) opening ⌝ }
 {
     match call {
         Call::Load { core: c, line: l } => core_rows::load(c, l, core, copy, line),
@@ -23,7 +24,7 @@ pub fn effect(call: Call, core: Core, copy: Copy, line: Line, lease: u32) -> Eff
         Call::Fence { core: c } => core_rows::fence(c, core, copy, line),
         Call::Evict { .. } => writeback_rows::evict(core, copy, line),
         Call::Advance { by, .. } => core_rows::advance(by, core, copy, line),
-        Call::Serve { core: c } => request_rows::serve(c, core, copy, line, lease),
+        Call::Serve { core: c } => request_rows::serve(c, core, copy, line, opening),
         Call::Receive { .. } => request_rows::receive(core, copy, line),
         Call::Yield { .. } => writeback_rows::yield_line(core, copy, line),
         Call::Take { .. } => writeback_rows::take(core, copy, line),

@@ -64,11 +64,11 @@ row-refused m call given c l n =
     rw (set-getD (m .state .core) c freshCore, set-getD (m .state .cell) (c * 64 + l) freshCell, set-getD (m .state .line) l freshLine)
 
 -- a call that none of 1 to 6 refuses: the effect of its table, a refusal of 20 to 27 among them
-pub step-accepted : (m : Machine) (call : Call) (given : Bytes) → inputRefusal m call (length given) ≡ 0 → step m call given ≡ accepted m call given (coreOf call (m .state)) (lineOf call (m .state)) (effectOf call (piecesAt (m .state) (coreOf call (m .state)) (lineOf call (m .state))) (m .state .opening .lease))
+pub step-accepted : (m : Machine) (call : Call) (given : Bytes) → inputRefusal m call (length given) ≡ 0 → step m call given ≡ accepted m call given (coreOf call (m .state)) (lineOf call (m .state)) (effectOf call (piecesAt (m .state) (coreOf call (m .state)) (lineOf call (m .state))) (m .state .opening))
 unfolding step refusal effectOf
 step-accepted m call given e =
     let z = or-none (machineRefusal m) _ e in
-    rw (z .0, z .1) (alike (eqb (stateRefusal call (piecesAt (m .state) (coreOf call (m .state)) (lineOf call (m .state))) (m .state .opening .lease)) 0) _ _)
+    rw (z .0, z .1) (alike (eqb (stateRefusal call (piecesAt (m .state) (coreOf call (m .state)) (lineOf call (m .state))) (m .state .opening)) 0) _ _)
   where
     alike : (t : Bool) (d : Effect) (n : ℕ) → pick t (accepted m call given (coreOf call (m .state)) (lineOf call (m .state)) d) (record { reply = refused n; machine = m }) ≡ accepted m call given (coreOf call (m .state)) (lineOf call (m .state)) (pick t d (row (Refused n) Still (coreAt (m .state) (coreOf call (m .state))) (copyAt (m .state) (coreOf call (m .state)) (lineOf call (m .state))) (lineAt (m .state) (lineOf call (m .state)))))
     alike true d n = refl
@@ -114,17 +114,17 @@ module _ (o : Opening) (c l : ℕ) (given p q : Bytes) where
   grant-sound true a b w r k = record { fits = refl; bytes = refl }
   grant-sound false a b w r k = record { fits = refl; bytes = refl }
 
-  asked-sound : (v : Manager) (x : Want) (a b : ℕ) (t : Stamp) (h : Held) (k : Pieces) (lease : ℕ) → Sound o c l given p q (Serve a) (serveAsked v x a b t h k lease)
+  asked-sound : (v : Manager) (x : Want) (a b : ℕ) (t : Stamp) (h : Held) (k : Pieces) → Sound o c l given p q (Serve a) (serveAsked v x a b t h k o)
   unfolding serveAsked meaning
-  asked-sound (Owned z) x a b t h k lease = record { fits = refl; bytes = refl }
-  asked-sound (Shared w r) WantLoad a b t h k lease = grant-sound (sameVersion h w) a b w (leasedTo r t lease) k
-  asked-sound (Shared w r) WantStore a b t h k lease = record { fits = refl; bytes = refl }
+  asked-sound (Owned z) x a b t h k = record { fits = refl; bytes = refl }
+  asked-sound (Shared w r) WantLoad a b t h k = grant-sound (sameVersion h w) a b w (leasedTo r t (o .lease)) k
+  asked-sound (Shared w r) WantStore a b t h k = record { fits = refl; bytes = refl }
 
-  serve-sound : (x : Slot) (a : ℕ) (k : Pieces) (lease : ℕ) → Sound o c l given p q (Serve a) (serveTable x a k lease)
+  serve-sound : (x : Slot) (a : ℕ) (k : Pieces) → Sound o c l given p q (Serve a) (serveTable x a k o)
   unfolding serveTable meaning
-  serve-sound Empty a k lease = record { fits = refl; bytes = refl }
-  serve-sound (Asked x b t h) a k lease = asked-sound (k .line .manager) x a b t h k lease
-  serve-sound (Answered g b w r) a k lease = record { fits = refl; bytes = refl }
+  serve-sound Empty a k = record { fits = refl; bytes = refl }
+  serve-sound (Asked x b t h) a k = asked-sound (k .line .manager) x a b t h k
+  serve-sound (Answered g b w r) a k = record { fits = refl; bytes = refl }
 
   renew-sound : (x : Copy) (a : ℕ) (r : Stamp) (k : Pieces) → Sound o c l given p q (Receive a) (receiveRenew x r k)
   unfolding receiveRenew meaning
@@ -155,22 +155,22 @@ module _ (o : Opening) (c l : ℕ) (given p q : Bytes) where
   take-sound NoWriteback b k = record { fits = refl; bytes = refl }
   take-sound (Flight w r) b k = record { fits = refl; bytes = refl }
 
-  table-sound : (call : Call) (k : Pieces) (lease : ℕ) → callRefusal call o (length given) ≡ 0 → copyStart o c l + o .width ≤ length p → Sound o c l given p q call (tableOf call k lease)
+  table-sound : (call : Call) (k : Pieces) → callRefusal call o (length given) ≡ 0 → copyStart o c l + o .width ≤ length p → Sound o c l given p q call (tableOf call k o)
   unfolding tableOf fenceTable advanceTable meaning
-  table-sound (Load a b) k lease e h = load-sound (k .copy) a b k
-  table-sound (Store a b) k lease e h = store-sound (k .copy) a b k (store-width a b o _ e) h
-  table-sound (Fence a) k lease e h = record { fits = refl; bytes = refl }
-  table-sound (Evict a b) k lease e h = evict-sound (k .copy) a b k
-  table-sound (Advance a n) k lease e h = record { fits = refl; bytes = refl }
-  table-sound (Serve a) k lease e h = serve-sound (k .core .slot) a k lease
-  table-sound (Receive a) k lease e h = receive-sound (k .core .slot) a k
-  table-sound (Yield b) k lease e h = yield-sound (k .copy) b k
-  table-sound (Take b) k lease e h = take-sound (k .line .writeback) b k
+  table-sound (Load a b) k e h = load-sound (k .copy) a b k
+  table-sound (Store a b) k e h = store-sound (k .copy) a b k (store-width a b o _ e) h
+  table-sound (Fence a) k e h = record { fits = refl; bytes = refl }
+  table-sound (Evict a b) k e h = evict-sound (k .copy) a b k
+  table-sound (Advance a n) k e h = record { fits = refl; bytes = refl }
+  table-sound (Serve a) k e h = serve-sound (k .core .slot) a k
+  table-sound (Receive a) k e h = receive-sound (k .core .slot) a k
+  table-sound (Yield b) k e h = yield-sound (k .copy) b k
+  table-sound (Take b) k e h = take-sound (k .line .writeback) b k
 
-  pub effect-sound : (call : Call) (k : Pieces) (lease : ℕ) → callRefusal call o (length given) ≡ 0 → copyStart o c l + o .width ≤ length p → Sound o c l given p q call (effectOf call k lease)
+  pub effect-sound : (call : Call) (k : Pieces) → callRefusal call o (length given) ≡ 0 → copyStart o c l + o .width ≤ length p → Sound o c l given p q call (effectOf call k o)
   unfolding effectOf meaning
-  effect-sound call k lease e h =
-      either (eqb (stateRefusal call k lease) 0) _ _ (table-sound call k lease e h) (record { fits = refl; bytes = refl })
+  effect-sound call k e h =
+      either (eqb (stateRefusal call k o) 0) _ _ (table-sound call k e h) (record { fits = refl; bytes = refl })
 
 -- ---- the move
 

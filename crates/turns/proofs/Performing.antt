@@ -62,9 +62,9 @@ module _ (s : State) (p q : Bytes) (call : Call) (given : Bytes) (n : ℕ) (e : 
         let f = machine-fit (machine s p q) (z .0) in
         let a : Placed (s .opening) c l = allowed-at (machine s p q) call _ (sym here ∙ h) c l ec el in
         let y : at ≡ record { core = c; line = l; cell = c * 64 + l; start = copyStart (s .opening) c l } = rw (allowed-place (machine s p q) call _ (sym here ∙ h) c l ec el) at (k .kept) in
-        let d : Effect = effectOf call (piecesAt s c l) (s .opening .lease) in
+        let d : Effect = effectOf call (piecesAt s c l) (s .opening) in
         let v : Turns call (s .opening) (coreAt s c) (getD (s .cell) (c * 64 + l) freshCell) (lineAt s l) c l (copyStart (s .opening) c l) given p q t p' q' = rw y at u in
-        let g : Sound (s .opening) c l given p q call d = effect-sound (s .opening) c l given p q call (piecesAt s c l) (s .opening .lease) (z .1) (rw (f .nPrivate) (copy-ends a)) in
+        let g : Sound (s .opening) c l given p q call d = effect-sound (s .opening) c l given p q call (piecesAt s c l) (z .1) (rw (f .nPrivate) (copy-ends a)) in
         let r = effect-moves (machine s p q) call given c l d f a g in
         let w : step (machine s p q) call given ≡ accepted (machine s p q) call given c l d = rw (ec, el) (step-accepted (machine s p q) call given (sym here ∙ h)) in
         let ep : p' ≡ movedPrivate (d .moves) (s .opening) c l given p q = rw r at (v .buffers .private) in

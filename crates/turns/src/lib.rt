@@ -116,7 +116,7 @@ pub fn turn_with(
     ensures { λ r. ⌜ Turns call opening k e m core line start (now (given .entry)) (now («private» .entry)) (now (shared .entry)) r (now («private» .exit)) (now (shared .exit)) ⌝ }
 {
     let copy = e.copy;
-    let d = tables::effect(call, k, copy, m, opening.lease);
+    let d = tables::effect(call, k, copy, m, opening);
     let answer = d.answer;
     let moves = d.moves;
     let next_core = d.core;

@@ -14,6 +14,7 @@ use protocol::Effect;
 use protocol::Line;
 use protocol::Manager;
 use protocol::Move;
+use protocol::Opening;
 use protocol::Recall;
 use protocol::Stamp;
 use protocol::Writeback;
@@ -33,7 +34,7 @@ fn written_back(line: Line, wts: Stamp, rts: Stamp) -> Line
 
 // evict: a shared copy goes; an owned one becomes the writeback; 26 where there is none.
 pub fn evict(core: Core, copy: Copy, line: Line) -> Effect
-    ensures { λ r. ⌜ ((c l lease : ℕ) → r ≡ effectOf (Call.Evict c l) (record { core = core; copy = copy; line = line }) lease) ⌝ }
+    ensures { λ r. ⌜ ((c l : ℕ) (o : Opening) → r ≡ effectOf (Call.Evict c l) (record { core = core; copy = copy; line = line }) o) ⌝ }
 {
     match copy {
         Copy::None => refusals::refused(26, core, copy, line),
@@ -86,7 +87,7 @@ fn is_recalled(line: Line) -> bool
 
 // yield: the owner's copy becomes the writeback; 23 without a recall, 24 without an owned copy.
 pub fn yield_line(core: Core, copy: Copy, line: Line) -> Effect
-    ensures { λ r. ⌜ ((l lease : ℕ) → r ≡ effectOf (Call.Yield l) (record { core = core; copy = copy; line = line }) lease) ⌝ }
+    ensures { λ r. ⌜ ((l : ℕ) (o : Opening) → r ≡ effectOf (Call.Yield l) (record { core = core; copy = copy; line = line }) o) ⌝ }
 {
     if !is_recalled(line) {
         return refusals::refused(23, core, copy, line);
@@ -111,7 +112,7 @@ pub fn yield_line(core: Core, copy: Copy, line: Line) -> Effect
 
 // take: the writeback becomes the manager's version, and recall and writeback are settled; 25 without one.
 pub fn take(core: Core, copy: Copy, line: Line) -> Effect
-    ensures { λ r. ⌜ ((l lease : ℕ) → r ≡ effectOf (Call.Take l) (record { core = core; copy = copy; line = line }) lease) ⌝ }
+    ensures { λ r. ⌜ ((l : ℕ) (o : Opening) → r ≡ effectOf (Call.Take l) (record { core = core; copy = copy; line = line }) o) ⌝ }
 {
     let flight = line.writeback;
     match flight {

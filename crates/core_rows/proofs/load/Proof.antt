@@ -11,28 +11,28 @@ use Rattle.core_rows.proofs.load.Tie as tie
 
 returns : tie.Need-returns
 unfolding effectOf tableOf loadTable stateRefusal stateRules first
-returns c lease = rw (c .ask .ensures, c .before .enum-told .given .1) (ruled (fails (isEmpty (c .before .before .before .before .args .core .slot))) 20 _ _ refl)
+returns c o = rw (c .ask .ensures, c .before .enum-told .given .1) (ruled (fails (isEmpty (c .before .before .before .before .args .core .slot))) 20 _ _ refl)
 
 returns-2 : tie.Need-returns-2
 unfolding effectOf tableOf loadTable stateRefusal stateRules first
-returns-2 c lease =
+returns-2 c o =
     let h = c .before .before .if1 .taken in
     rw (c .before .before .before .before .before .before .copy .given .1, le-leb _ _ h, le-ltb _ _ h, c .before .load .ensures)
 
 returns-3 : tie.Need-returns-3
 unfolding effectOf tableOf loadTable stateRefusal stateRules first
-returns-3 c lease =
+returns-3 c o =
     let h = c .before .if1 .left in
     rw (c .ask2 .ensures, c .before .before .before .before .before .copy .given .1, lt-leb _ _ h, lt-ltb _ _ h)
     (ruled (fails (isEmpty (c .before .before .before .before .before .before .before .before .args .core .slot))) 20 _ _ refl)
 
 returns-4 : tie.Need-returns-4
 unfolding effectOf tableOf loadTable loadOwned stateRefusal stateRules first
-returns-4 c lease = rw (c .before .before .before .before .copy2 .given .1, c .before .if2 .taken, c .later .ensures)
+returns-4 c o = rw (c .before .before .before .before .copy2 .given .1, c .before .if2 .taken, c .later .ensures)
 
 returns-5 : tie.Need-returns-5
 unfolding effectOf tableOf loadTable loadOwned stateRefusal stateRules first
-returns-5 c lease = rw (c .before .before .before .before .before .before .copy2 .given .1, c .before .before .before .if2 .left, c .later2 .ensures, c .before .before .load2 .ensures)
+returns-5 c o = rw (c .before .before .before .before .before .before .copy2 .given .1, c .before .before .before .if2 .left, c .later2 .ensures, c .before .before .load2 .ensures)
 
 pub load-spec : {M : Type 1} → statement M
 load-spec =

@@ -11,22 +11,22 @@ use Rattle.core_rows.proofs.store.Tie as tie
 
 returns : tie.Need-returns
 unfolding effectOf stateRefusal stateRules first
-returns c lease = rw (c .refused .ensures, c .before .before .before .before .copy .given .1, was-false (c .before .before .fits2 .ensures) (c .before .if1 .taken))
+returns c o = rw (c .refused .ensures, c .before .before .before .before .copy .given .1, was-false (c .before .before .fits2 .ensures) (c .before .if1 .taken))
 
 store-requires : tie.Need-store-requires
 store-requires c κs = was-true (c .before .fits2 .ensures) (c .if1 .left)
 
 returns-2 : tie.Need-returns-2
 unfolding effectOf tableOf storeTable stateRefusal stateRules first
-returns-2 c lease = rw (c .ask .ensures, c .before .enum-told .given .1) (ruled (fails (isEmpty (c .before .before .before .before .args .core .slot))) 20 _ _ refl)
+returns-2 c o = rw (c .ask .ensures, c .before .enum-told .given .1) (ruled (fails (isEmpty (c .before .before .before .before .args .core .slot))) 20 _ _ refl)
 
 returns-3 : tie.Need-returns-3
 unfolding effectOf tableOf storeTable stateRefusal stateRules first
-returns-3 c lease = rw (c .ask2 .ensures, c .before .enum-told2 .given .1) (ruled (fails (isEmpty (c .before .before .before .before .args .core .slot))) 20 _ _ refl)
+returns-3 c o = rw (c .ask2 .ensures, c .before .enum-told2 .given .1) (ruled (fails (isEmpty (c .before .before .before .before .args .core .slot))) 20 _ _ refl)
 
 returns-4 : tie.Need-returns-4
 unfolding effectOf tableOf storeTable stateRefusal stateRules first
-returns-4 c lease = rw (c .before .store .ensures, c .before .before .before .before .before .copy .given .1, was-true (c .before .before .before .fits2 .ensures) (c .before .before .if1 .left))
+returns-4 c o = rw (c .before .store .ensures, c .before .before .before .before .before .copy .given .1, was-true (c .before .before .before .fits2 .ensures) (c .before .before .if1 .left))
 
 pub store-spec : {M : Type 1} → statement M
 store-spec =

@@ -17,7 +17,7 @@ use Rattle.driver.proofs.play.Statement.{statement}
 use Rattle.driver.proofs.play.Tie as tie
 
 abbrev Inv-loop : tie.InvT-loop
-Inv-loop journal private₀ shared₀ out₀ s₀ form at₀ steps₀ commits₀ refusals₀ used₀ z lease base private shared out s at steps commits refusals used =
+Inv-loop journal private₀ shared₀ out₀ s₀ form at₀ steps₀ commits₀ refusals₀ used₀ z base private shared out s at steps commits refusals used =
     (length private ≡ length private₀)
     × (length shared ≡ length shared₀)
     × (length out ≡ length out₀)
@@ -25,7 +25,7 @@ Inv-loop journal private₀ shared₀ out₀ s₀ form at₀ steps₀ commits₀
     × Going journal (standingAt at₀ form steps₀ commits₀ refusals₀ s₀) private₀ shared₀ out₀ z base form private shared out s at steps commits refusals used
 
 abbrev μ-loop : tie.MeasureT-loop
-μ-loop journal private₀ shared₀ out₀ s₀ form at₀ steps₀ commits₀ refusals₀ used₀ z lease base private shared out s at steps commits refusals used =
+μ-loop journal private₀ shared₀ out₀ s₀ form at₀ steps₀ commits₀ refusals₀ used₀ z base private shared out s at steps commits refusals used =
     length journal - at
 
 returns : tie.Need-returns Inv-loop μ-loop

@@ -22,7 +22,7 @@ use Rattle.protocol.proofs.Order.Steps.{Good, GoodRow, load-good, store
 module _ (z : Bytes) (p : ℕ) {H : List (Commit Bytes)} (given : Bytes) {m : Machine} (I : Inv z H m) where
   accepted-good : (call : Call) → NotRefused m call (length given) → (q : Placed (m .state .opening) (coreOf call (m .state)) (lineOf call (m .state)))
       → GoodRow z p call given I (coreOf call (m .state)) (lineOf call (m .state)) (q .core) (q .line)
-      (tableOf call (piecesAt (m .state) (coreOf call (m .state)) (lineOf call (m .state))) (m .state .opening .lease))
+      (tableOf call (piecesAt (m .state) (coreOf call (m .state)) (lineOf call (m .state))) (m .state .opening))
   unfolding tableOf
   accepted-good (Load c l) n q =
       load-good z p (Load c l) given I c l (q .core) (q .line) (λ t b. refl) refl (copyAt (m .state) c l) refl
@@ -33,7 +33,7 @@ module _ (z : Bytes) (p : ℕ) {H : List (Commit Bytes)} (given : Bytes) {m : Ma
   accepted-good (Evict c l) n q = evict-good z p (Evict c l) given I c l (q .core) (q .line) (copyAt (m .state) c l) refl
   accepted-good (Advance c by) n q = advance-good z p (Advance c by) given I c 0 (q .core) (q .line) by
   accepted-good (Serve c) n q =
-      serve-good z p (Serve c) given I c (lineOf (Serve c) (m .state)) (q .core) (q .line) (coreAt (m .state) c .slot) (m .state .opening .lease) refl refl
+      serve-good z p (Serve c) given I c (lineOf (Serve c) (m .state)) (q .core) (q .line) (coreAt (m .state) c .slot) (m .state .opening) refl refl
   accepted-good (Receive c) n q =
       receive-good z p (Receive c) given I c (lineOf (Receive c) (m .state)) (q .core) (q .line) (coreAt (m .state) c .slot) refl refl
   accepted-good (Yield l) n q =
@@ -47,7 +47,7 @@ module _ (z : Bytes) (p : ℕ) {H : List (Commit Bytes)} (given : Bytes) {m : Ma
       taken : Outcome
       taken =
           accepted m call given (coreOf call (m .state)) (lineOf call (m .state))
-          (tableOf call (piecesAt (m .state) (coreOf call (m .state)) (lineOf call (m .state))) (m .state .opening .lease))
+          (tableOf call (piecesAt (m .state) (coreOf call (m .state)) (lineOf call (m .state))) (m .state .opening))
 
       left : Outcome
       left = record { reply = refused (refusal m call (length given)); machine = m }

@@ -37,6 +37,7 @@ use Rattle.protocol.specs.declared.Recall.{Recall}
 use Rattle.protocol.specs.declared.Recall.the-variants.{None as NoRecall, Downgrade, Flush}
 use Rattle.protocol.specs.declared.Writeback.{Writeback}
 use Rattle.protocol.specs.declared.Writeback.the-variants.{None as NoWriteback, Flight}
+use Rattle.protocol.specs.declared.Opening.{Opening}
 use Rattle.protocol.specs.declared.Call.{Call}
 use Rattle.protocol.specs.declared.Answer.{Answer}
 use Rattle.protocol.specs.declared.Answer.the-variants.{Evict as AnswerEvict, Yield as AnswerYield, Own, Drop}
@@ -519,29 +520,29 @@ module _ (z : Bytes) (p : ℕ) {H : List (Commit Bytes)} (call : Call) (given : 
         (move z (Stores l) (On l) (keep z (Stores l) (On l) J atManager nothing tt) atManager (atSlot c) (w .0) (r .0) (r .0) line (at-manager (Shared w r) i .0)
         (put-at NotNewest atManager nothing (look m l) tt) (omega arith)))
 
-    serve-recall : (o : ℕ) → lineAt (m .state) l .manager ≡ Owned o → (lease : ℕ) → GoodRow (serveAsked (Owned o) a c l t h ps lease)
+    serve-recall : (b : ℕ) → lineAt (m .state) l .manager ≡ Owned b → (o : Opening) → GoodRow (serveAsked (Owned b) a c l t h ps o)
     unfolding accepted meaning look serveAsked
-    serve-recall o i lease =
-        let d = serveAsked (Owned o) a c l t h ps lease in
+    serve-recall b i o =
+        let d = serveAsked (Owned b) a c l t h ps o in
         keeps d tt (inl (refl, tt)) (pair-at (copyAt (m .state) c l) refl) (omega arith) (omega arith)
         (none-changes I c l hc hl given d tt (inr (managerSpot d tt)) (inr (writebackSpot d tt)) (inr (copySpot d tt)) (inr (slotSpot d tt)) J)
 
-  serve-line : (v : Manager) (a : Want) (t : Stamp) (h : Held) (lease : ℕ) → lineAt (m .state) l .manager ≡ v → k .slot ≡ Asked a l t h
-      → GoodRow (serveAsked v a c l t h ps lease)
+  serve-line : (v : Manager) (a : Want) (t : Stamp) (h : Held) (o : Opening) → lineAt (m .state) l .manager ≡ v → k .slot ≡ Asked a l t h
+      → GoodRow (serveAsked v a c l t h ps o)
   unfolding serveAsked serveLoad
-  serve-line (Owned o) a t h lease i e = serve-recall a t h e o i lease
-  serve-line (Shared w r) WantStore t h lease i e = serve-own WantStore t h e w r i
-  serve-line (Shared w r) WantLoad t h lease i e = go (sameVersion h w) refl
+  serve-line (Owned b) a t h o i e = serve-recall a t h e b i o
+  serve-line (Shared w r) WantStore t h o i e = serve-own WantStore t h e w r i
+  serve-line (Shared w r) WantLoad t h o i e = go (sameVersion h w) refl
     where
-      go : (b : Bool) → sameVersion h w ≡ b → GoodRow (serveLoad b l w (leasedTo r t lease) ps)
-      go true q = serve-renew WantLoad t h e w r (leasedTo r t lease) i (manager-grows l w r t lease ps true) (same-version h w q)
-      go false q = serve-share WantLoad t h e w r (leasedTo r t lease) i (manager-grows l w r t lease ps false)
+      go : (b : Bool) → sameVersion h w ≡ b → GoodRow (serveLoad b l w (leasedTo r t (o .lease)) ps)
+      go true q = serve-renew WantLoad t h e w r (leasedTo r t (o .lease)) i (manager-grows l w r t (o .lease) ps true) (same-version h w q)
+      go false q = serve-share WantLoad t h e w r (leasedTo r t (o .lease)) i (manager-grows l w r t (o .lease) ps false)
 
-  pub serve-good : (v : Slot) (lease : ℕ) → k .slot ≡ v → slotLine v ≡ l → GoodRow (serveTable v c ps lease)
+  pub serve-good : (v : Slot) (o : Opening) → k .slot ≡ v → slotLine v ≡ l → GoodRow (serveTable v c ps o)
   unfolding serveTable
-  serve-good Empty lease e q = refused-row 21
-  serve-good (Answered y n w r) lease e q = refused-row 21
-  serve-good (Asked a n t h) lease e q = rw q (serve-line (lineAt (m .state) l .manager) a t h lease refl (rw q at e))
+  serve-good Empty o e q = refused-row 21
+  serve-good (Answered y n w r) o e q = refused-row 21
+  serve-good (Asked a n t h) o e q = rw q (serve-line (lineAt (m .state) l .manager) a t h o refl (rw q at e))
 
   -- ---- receive
 

@@ -19,7 +19,7 @@ returns-2 c =
     let a = c .before .before .before .before .args in
     let g = c .before .before .slot .given .0 in
     rw (c .serve-asked .ensures, c .before .before .slot .given .1)
-    (ruled (servePasses (Asked (g .0) (g .1 .0) (g .1 .1 .0) (g .1 .1 .1 .0)) (a .line .manager) (a .lease)) 27 _ _ refl)
+    (ruled (servePasses (Asked (g .0) (g .1 .0) (g .1 .1 .0) (g .1 .1 .1 .0)) (a .line .manager) (a .opening)) 27 _ _ refl)
 
 returns-3 : tie.Need-returns-3
 unfolding effectOf stateRefusal stateRules first

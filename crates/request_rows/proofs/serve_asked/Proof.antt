@@ -14,7 +14,7 @@ returns-2 : tie.Need-returns-2
 unfolding serveAsked
 returns-2 c =
     let a = c .before .before .before .before .args in
-    rw (c .before .enum-told .given .1, owned-passes (a .want) (a .l) (a .lts) (a .held) _ (a .lease), c .recall-after .ensures)
+    rw (c .before .enum-told .given .1, owned-passes (a .want) (a .l) (a .lts) (a .held) _ (a .opening), c .recall-after .ensures)
 
 after-requires : tie.Need-after-requires
 after-requires c κs = was-true (c .before .fits2 .ensures) (c .if1 .left)
