@@ -30,7 +30,7 @@ use Rattle.places.specs.Moves.{Moves}
 use Rattle.places.proofs.Places.{place-placed}
 use Rattle.protocol.proofs.Tests.{both-true}
 use Rattle.listing.specs.Record.{recordText}
-use Rattle.turns.specs.About.{namedLine, coreBy, lineBy}
+use Rattle.tables.specs.About.{namedLine, coreBy, lineBy}
 use Rattle.answers.specs.Answers.{commitsOf, refusalsOf}
 use Rattle.driver.specs.Listing.{Ending, EndsAt, lines, isCommit, isRefusal, lastLines}
 use Rattle.driver.specs.Play.{countsOf, runFrom, stands, Leads, Piece, aStep, theEnd, done, more, Plays}

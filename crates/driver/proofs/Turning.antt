@@ -16,7 +16,6 @@ use Rattle.protocol.specs.declared.Core.{Core}
 use Rattle.protocol.specs.declared.Line.{Line}
 use Rattle.protocol.specs.declared.State.{State}
 use Rattle.protocol.specs.declared.Call.{Call}
-use Rattle.protocol.specs.declared.Call.the-variants.{Load, Store, Fence, Evict, Advance, Serve, Receive, Yield, Take}
 use Rattle.protocol.specs.declared.Answer.{Answer}
 use Rattle.protocol.specs.declared.Answer.the-variants.{Refused, Open, Ask, Recall, Share, Renew, Own, Drop, Evict as AnswerEvict, Advance as AnswerAdvance, Yield as AnswerYield, Take as AnswerTake, CommitLoad, CommitStore, CommitFence}
 use Rattle.protocol.specs.declared.Effect.{Effect}
@@ -28,8 +27,9 @@ use Rattle.refusals.specs.Input.{machineWith, inputRefusal}
 use Rattle.places.specs.Kept.{placeFits}
 use Rattle.places.specs.Moves.{Moves}
 use Rattle.places.proofs.Places.{placed-place}
-use Rattle.turns.proofs.Effects.{step-refused, step-accepted, Sound, effect-sound, effect-moves}
-use Rattle.turns.specs.About.{namedLine, coreBy, lineBy}
+use Rattle.tables.proofs.Effects.{step-refused, step-accepted, Sound, effect-sound, effect-moves}
+use Rattle.tables.proofs.Named.{named-inside, core-is as core-found, line-is as line-found}
+use Rattle.tables.specs.About.{namedLine, coreBy, lineBy}
 use Rattle.answers.specs.Answers.{commitsOf, refusalsOf}
 use Rattle.driver.specs.Listing.{isCommit, isRefusal}
 
@@ -82,41 +82,6 @@ commits-few a n e = omega (arith, e ∙ commits-alike a [], few (meaning a []) .
 
 pub refusals-few : (a : Answer) (n : ℕ) → n ≡ refusalsOf a → n ≤ 1
 refusals-few a n e = omega (arith, e ∙ refusals-alike a [], few (meaning a []) .1)
-
--- ---- the core and the line that a call is about
-
-core-by : (call : Call) (s : State) → coreBy call (lineAt s (namedLine call) .manager) ≡ coreOf call s
-core-by (Load c l) s = refl
-core-by (Store c l) s = refl
-core-by (Fence c) s = refl
-core-by (Evict c l) s = refl
-core-by (Advance c n) s = refl
-core-by (Serve c) s = refl
-core-by (Receive c) s = refl
-core-by (Yield l) s = refl
-core-by (Take l) s = refl
-
-line-by : (call : Call) (s : State) → lineBy call (coreAt s (coreOf call s) .slot) ≡ lineOf call s
-line-by (Load c l) s = refl
-line-by (Store c l) s = refl
-line-by (Fence c) s = refl
-line-by (Evict c l) s = refl
-line-by (Advance c n) s = refl
-line-by (Serve c) s = refl
-line-by (Receive c) s = refl
-line-by (Yield l) s = refl
-line-by (Take l) s = refl
-
-named-inside : (call : Call) (s : State) → Placed (s .opening) (coreOf call s) (lineOf call s) → namedLine call < 64
-named-inside (Load c l) s a = omega (arith, a .line, a .lines)
-named-inside (Store c l) s a = omega (arith, a .line, a .lines)
-named-inside (Fence c) s a = omega arith
-named-inside (Evict c l) s a = omega (arith, a .line, a .lines)
-named-inside (Advance c n) s a = omega arith
-named-inside (Serve c) s a = omega arith
-named-inside (Receive c) s a = omega arith
-named-inside (Yield l) s a = omega (arith, a .line, a .lines)
-named-inside (Take l) s a = omega (arith, a .line, a .lines)
 
 -- ---- refusals 1 and 2
 
@@ -173,14 +138,14 @@ module _ (s : State) (p q : Bytes) (call : Call) (bs : Bytes) (base n : ℕ) (eb
 
     module _ (c : ℕ) (ec : c ≡ coreBy call (lineAt s (namedLine call) .manager)) where
       core-is : c ≡ coreOf call s
-      core-is = ec ∙ core-by call s
+      core-is = core-found call s c ec
 
       pub core-here : c < 16
       core-here = rw core-is (omega (arith, here .core, here .cores))
 
       module _ (l : ℕ) (el : l ≡ lineBy call (coreAt s c .slot)) where
         line-is : l ≡ lineOf call s
-        line-is = rw core-is at el ∙ line-by call s
+        line-is = line-found call s c ec l el
 
         placed-here : Placed (s .opening) c l
         placed-here = rw (core-is, line-is) here

@@ -180,13 +180,13 @@ pub fn play(
                 }
                 // The table's row, or 20 to 27, on the core, the copy and the manager's line that the
                 // call is about. Its line is put first: where there is no room, nothing has changed.
-                let named = turns::named_line(call);
+                let named = tables::named_line(call);
                 let owned = s.line[named];
                 let manager = owned.manager;
-                let c = turns::core_of(call, manager);
+                let c = tables::core_of(call, manager);
                 let k = s.core[c];
                 let slot = k.slot;
-                let l = turns::line_of(call, slot);
+                let l = tables::line_of(call, slot);
                 let i = c * 64 + l;
                 let cell = s.cell[i];
                 let line = s.line[l];

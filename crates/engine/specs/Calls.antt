@@ -1,14 +1,34 @@
--- What `open` and `show` promise, each an equation with the definitions of `protocol`; what the nine calls promise is in `turns`.
-use Prim.Native.Nat.{_-_}
+-- What `step`, `open` and `show` promise, each an equation with the definitions of `protocol`.
+use Prim.Native.Nat.{ℕ, _-_}
 use mathlib.Core.Path.{_≡_}
 use mathlib.Core.List.{[]}
-use Rattle.protocol.specs.Buffers.{Bytes, part}
-use Rattle.protocol.specs.Step.{meaning, openReply, opened}
+use Rattle.protocol.specs.Buffers.{Bytes, part, copyStart}
+use Rattle.protocol.specs.Machine.{Machine, machine, coreOf, lineOf}
+use Rattle.protocol.specs.Step.{meaning, openReply, opened, step}
 use Rattle.protocol.specs.declared.Opening.{Opening}
+use Rattle.protocol.specs.declared.State.{State}
+use Rattle.protocol.specs.declared.Call.{Call}
+use Rattle.protocol.specs.declared.Answer.the-variants.{Refused}
 use Rattle.protocol.specs.declared.Buffer.{Buffer}
 use Rattle.protocol.specs.declared.Buffer.the-variants.{Private as InPrivate, Shared as InShared}
 use Rattle.protocol.specs.declared.Shown.{Shown}
+use Rattle.tables.specs.declared.Span.{Span}
+use Rattle.tables.specs.Spans.{spanOf}
 use Rattle.engine.specs.declared.Opened.{Opened}
+use Rattle.engine.specs.declared.Done.{Done}
+
+-- what a call hands back that one of 1 to 6 refuses: "A refused call returns its number, the state it got"
+abbrev pub handedBack : ℕ → State → Done
+handedBack n s = record { answer = Refused n; start = 0; count = 0; state = s }
+
+-- a call on the machine m that returns r and leaves the buffers p and q: answer, commit's bytes, state and both buffers are those of `step`;
+-- `given` are the bytes given to a store
+pub record Performs (m : Machine) (call : Call) (given : Bytes) (r : Done) (p q : Bytes) : Type 0 where
+  pub reply : meaning (r .answer) (part p (r .start) (r .count)) ≡ step m call given .reply
+  pub machine : machine (r .state) p q ≡ step m call given .machine
+  pub span :
+      record { start = r .start; count = r .count }
+      ≡ spanOf (r .answer) (copyStart (m .state .opening) (coreOf call (m .state)) (lineOf call (m .state))) (m .state .opening .width)
 
 -- open: the answer in the scope document's terms, and the fresh state
 pub record Opens (o : Opening) (r : Opened) : Type 0 where

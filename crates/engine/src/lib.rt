@@ -1,32 +1,228 @@
-// The engine: opening it, the nine calls on it, and the bytes of a line or of a commit.
+// The engine: opening it, `step`, which makes any of the nine calls, a function for each of them, and the
+// bytes of a line or of a commit.
 //
 // Every function takes any values at all and has no `requires`. What each promises is an equation with
 // `opened`, `step`, `shown` or `part` of crate `protocol`. Callers write `d = load(d.state, ..)`, which saves a
-// copy of the state against one by way of a local.
-pub use core_calls::advance;
-pub use core_calls::evict;
-pub use core_calls::fence;
-pub use core_calls::load;
-pub use core_calls::store;
-pub use flight_calls::receive;
-pub use flight_calls::serve;
-pub use flight_calls::take;
-pub use flight_calls::yield_line;
-pub use turns::Done;
+// copy of the state against one by way of a local. `step` saves another copy against the nine.
 ghost use mathlib.Core.Path.{_≡_};
+ghost use mathlib.Core.List.{[]};
 ghost use Rattle.protocol.specs.Buffers.{part};
 ghost use Rattle.protocol.specs.Machine.{machine};
 ghost use Rattle.protocol.specs.Refusals.{isHeld};
 ghost use Rattle.protocol.specs.Step.{shown};
-ghost use Rattle.engine.specs.Calls.{Opens, shownBytes};
+ghost use Rattle.engine.specs.Turns.{Turns};
+ghost use Rattle.engine.specs.Calls.{handedBack, Performs, Opens, shownBytes};
 use protocol::Answer;
 use protocol::Buffer;
 use protocol::Call;
+use protocol::Cell;
 use protocol::Copy;
 use protocol::Core;
+use protocol::Line;
 use protocol::Opening;
 use protocol::Shown;
 use protocol::State;
+
+// What a call makes of the pieces that it looks at: one core, its copy of one line, the manager's
+// line. `start` and `count` are those of `Done`.
+struct Turn {
+    answer: Answer,
+    start: usize,
+    count: usize,
+    core: Core,
+    cell: Cell,
+    line: Line,
+}
+
+// What a call gives: its answer, the state, and where the bytes of a load's or a store's commit lie
+// in the private buffer as the call leaves it: `count` of them from `start`, 0 and 0 beside any
+// other answer.
+pub struct Done {
+    pub answer: Answer,
+    pub start: usize,
+    pub count: usize,
+    pub state: State,
+}
+
+// What a call hands back that one of 1 to 6 refuses: its number, and the state as it was.
+fn handed_back(n: u8, s: State) -> Done
+    ensures { λ r. ⌜ r ≡ handedBack n s ⌝ }
+{
+    Done {
+        answer: Answer::Refused(n),
+        start: 0,
+        count: 0,
+        state: s,
+    }
+}
+
+// What a call makes of its pieces, with its line of bytes moved. Core and line say where those bytes
+// lie, `start` where those of the copy do, and `given` are the bytes given to a store.
+fn turn_with(
+    call: Call,
+    opening: Opening,
+    k: Core,
+    e: Cell,
+    m: Line,
+    private: &mut [u8],
+    shared: &mut [u8],
+    core: usize,
+    line: usize,
+    start: usize,
+    given: &[u8],
+) -> Turn
+    ensures { λ r. ⌜ Turns call opening k e m core line start (now (given .entry)) (now («private» .entry)) (now (shared .entry)) r (now («private» .exit)) (now (shared .exit)) ⌝ }
+{
+    let copy = e.copy;
+    let d = tables::effect(call, k, copy, m, opening);
+    let answer = d.answer;
+    let moves = d.moves;
+    let next_core = d.core;
+    let next_copy = d.copy;
+    let next_line = d.line;
+    let b = tables::span_of(answer, start, opening.width);
+    places::move_bytes(moves, opening, private, shared, core, line, given);
+    Turn {
+        answer,
+        start: b.start,
+        count: b.count,
+        core: next_core,
+        cell: Cell { copy: next_copy },
+        line: next_line,
+    }
+}
+
+// Makes a call; `given` are the bytes given to a store, which any other call passes over.
+pub fn step(s: State, private: &mut [u8], shared: &mut [u8], call: Call, given: &[u8]) -> Done
+    ensures { λ r. ⌜ Performs (machine s (now («private» .entry)) (now (shared .entry))) call (now (given .entry)) r (now («private» .exit)) (now (shared .exit)) ⌝ }
+{
+    let opening = s.opening;
+    let cores = s.core;
+    let lines = s.line;
+    let n = refusals::input_refusal(
+        call,
+        opening,
+        cores,
+        lines,
+        private.len(),
+        shared.len(),
+        given.len(),
+    );
+    if n != 0 {
+        return handed_back(n, s);
+    }
+    let mut next = s;
+    let named = tables::named_line(call);
+    let owned = next.line[named];
+    let manager = owned.manager;
+    let core = tables::core_of(call, manager);
+    let asking = next.core[core];
+    let slot = asking.slot;
+    let line = tables::line_of(call, slot);
+    let at = places::kept_at(opening, core, line);
+    let c = at.core;
+    let l = at.line;
+    let i = at.cell;
+    let k = next.core[c];
+    let e = next.cell[i];
+    let m = next.line[l];
+    let t = turn_with(
+        call,
+        opening,
+        k,
+        e,
+        m,
+        private,
+        shared,
+        c,
+        l,
+        at.start,
+        given,
+    );
+    let answer = t.answer;
+    let next_core = t.core;
+    let next_cell = t.cell;
+    let next_line = t.line;
+    next.core[c] = next_core;
+    next.cell[i] = next_cell;
+    next.line[l] = next_line;
+    Done {
+        answer,
+        start: t.start,
+        count: t.count,
+        state: next,
+    }
+}
+
+// A core loads a line.
+pub fn load(s: State, private: &mut [u8], shared: &mut [u8], core: usize, line: usize) -> Done
+    ensures { λ r. ⌜ Performs (machine s (now («private» .entry)) (now (shared .entry))) (Call.Load core line) [] r (now («private» .exit)) (now (shared .exit)) ⌝ }
+{
+    step(s, private, shared, Call::Load { core, line }, b"")
+}
+
+// A core stores the bytes given to a line.
+pub fn store(
+    s: State,
+    private: &mut [u8],
+    shared: &mut [u8],
+    core: usize,
+    line: usize,
+    given: &[u8],
+) -> Done
+    ensures { λ r. ⌜ Performs (machine s (now («private» .entry)) (now (shared .entry))) (Call.Store core line) (now (given .entry)) r (now («private» .exit)) (now (shared .exit)) ⌝ }
+{
+    step(s, private, shared, Call::Store { core, line }, given)
+}
+
+// A core's later loads come after its earlier stores.
+pub fn fence(s: State, private: &mut [u8], shared: &mut [u8], core: usize) -> Done
+    ensures { λ r. ⌜ Performs (machine s (now («private» .entry)) (now (shared .entry))) (Call.Fence core) [] r (now («private» .exit)) (now (shared .exit)) ⌝ }
+{
+    step(s, private, shared, Call::Fence { core }, b"")
+}
+
+// A core gives its copy of a line up.
+pub fn evict(s: State, private: &mut [u8], shared: &mut [u8], core: usize, line: usize) -> Done
+    ensures { λ r. ⌜ Performs (machine s (now («private» .entry)) (now (shared .entry))) (Call.Evict core line) [] r (now («private» .exit)) (now (shared .exit)) ⌝ }
+{
+    step(s, private, shared, Call::Evict { core, line }, b"")
+}
+
+// A core's clock of loads grows.
+pub fn advance(s: State, private: &mut [u8], shared: &mut [u8], core: usize, by: u32) -> Done
+    ensures { λ r. ⌜ Performs (machine s (now («private» .entry)) (now (shared .entry))) (Call.Advance core by) [] r (now («private» .exit)) (now (shared .exit)) ⌝ }
+{
+    step(s, private, shared, Call::Advance { core, by }, b"")
+}
+
+// The manager serves the request of a core.
+pub fn serve(s: State, private: &mut [u8], shared: &mut [u8], core: usize) -> Done
+    ensures { λ r. ⌜ Performs (machine s (now («private» .entry)) (now (shared .entry))) (Call.Serve core) [] r (now («private» .exit)) (now (shared .exit)) ⌝ }
+{
+    step(s, private, shared, Call::Serve { core }, b"")
+}
+
+// A core receives the answer to its request.
+pub fn receive(s: State, private: &mut [u8], shared: &mut [u8], core: usize) -> Done
+    ensures { λ r. ⌜ Performs (machine s (now («private» .entry)) (now (shared .entry))) (Call.Receive core) [] r (now («private» .exit)) (now (shared .exit)) ⌝ }
+{
+    step(s, private, shared, Call::Receive { core }, b"")
+}
+
+// The owner of a recalled line yields it; `yield` alone is a reserved word.
+pub fn yield_line(s: State, private: &mut [u8], shared: &mut [u8], line: usize) -> Done
+    ensures { λ r. ⌜ Performs (machine s (now («private» .entry)) (now (shared .entry))) (Call.Yield line) [] r (now («private» .exit)) (now (shared .exit)) ⌝ }
+{
+    step(s, private, shared, Call::Yield { line }, b"")
+}
+
+// The manager takes a line's writeback.
+pub fn take(s: State, private: &mut [u8], shared: &mut [u8], line: usize) -> Done
+    ensures { λ r. ⌜ Performs (machine s (now («private» .entry)) (now (shared .entry))) (Call.Take line) [] r (now («private» .exit)) (now (shared .exit)) ⌝ }
+{
+    step(s, private, shared, Call::Take { line }, b"")
+}
 
 // What opening an engine gives.
 pub struct Opened {

@@ -1,2 +1,5 @@
--- `Keep`: laws of `effectOf` for callers.
+-- `Keep`: laws of `effectOf` for callers. `Effects`, `Allowed`, `Named`: what `step` is by the effect, and the core and the line that a call is about.
 pub mod Keep
+pub mod Effects
+pub mod Allowed
+pub mod Named

@@ -4,14 +4,31 @@
 // the three pieces, and which line of bytes moves. The definitions that it is equal to are those of
 // `protocol`; there are no arrays and no buffers here. A core's clocks are changed only by the
 // methods of `Clocks`.
+//
+// Beside it: the core and the line that a call is about, and where the bytes of a commit lie.
+mod about;
+
+pub use about::core_of;
+pub use about::line_of;
+pub use about::named_line;
+pub use about::owner_of;
+pub use about::slot_line;
 ghost use mathlib.Core.Path.{_≡_};
 ghost use Rattle.protocol.specs.Tables.{effectOf};
+ghost use Rattle.tables.specs.Spans.{spanOf};
+use protocol::Answer;
 use protocol::Call;
 use protocol::Copy;
 use protocol::Core;
 use protocol::Effect;
 use protocol::Line;
 use protocol::Opening;
+
+// A part of the private buffer: `count` bytes from `start`.
+pub struct Span {
+    pub start: usize,
+    pub count: usize,
+}
 
 // What a call makes of the pieces that it looks at: the row of its table, or the number that it is
 // refused with and the pieces as they are. Each row decides.
@@ -28,5 +45,42 @@ pub fn effect(call: Call, core: Core, copy: Copy, line: Line, opening: Opening) 
         Call::Receive { .. } => request_rows::receive(core, copy, line),
         Call::Yield { .. } => writeback_rows::yield_line(core, copy, line),
         Call::Take { .. } => writeback_rows::take(core, copy, line),
+    }
+}
+
+// Where the bytes of a commit lie, if they start at `start`.
+pub fn span_of(answer: Answer, start: usize, width: usize) -> Span
+    ensures { λ r. ⌜ r ≡ spanOf answer start width ⌝ }
+{
+    match answer {
+        Answer::CommitLoad {
+            core: _,
+            line: _,
+            ts: _,
+        } => Span {
+            start,
+            count: width,
+        },
+        Answer::CommitStore {
+            core: _,
+            line: _,
+            ts: _,
+        } => Span {
+            start,
+            count: width,
+        },
+        Answer::CommitFence { core: _, ts: _ } => Span { start: 0, count: 0 },
+        Answer::Refused(_) => Span { start: 0, count: 0 },
+        Answer::Open => Span { start: 0, count: 0 },
+        Answer::Ask => Span { start: 0, count: 0 },
+        Answer::Recall => Span { start: 0, count: 0 },
+        Answer::Share => Span { start: 0, count: 0 },
+        Answer::Renew => Span { start: 0, count: 0 },
+        Answer::Own => Span { start: 0, count: 0 },
+        Answer::Drop => Span { start: 0, count: 0 },
+        Answer::Evict => Span { start: 0, count: 0 },
+        Answer::Advance => Span { start: 0, count: 0 },
+        Answer::Yield => Span { start: 0, count: 0 },
+        Answer::Take => Span { start: 0, count: 0 },
     }
 }

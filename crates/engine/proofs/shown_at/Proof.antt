@@ -4,7 +4,7 @@ use native.Mathlib.Omega.{arith}
 use borrow.Author.Needs.{needs}
 use Rattle.protocol.proofs.Places.{indices, copy-most, manager-most}
 use Rattle.places.proofs.Places.{place-start}
-use Rattle.turns.proofs.Allowed.{allowed, allowed-place}
+use Rattle.tables.proofs.Allowed.{allowed, allowed-place}
 use Rattle.engine.proofs.Showing.{shown-nothing, shown-copy, shown-manager}
 use Rattle.engine.proofs.shown_at.Statement.{statement}
 use Rattle.engine.proofs.shown_at.Tie as tie

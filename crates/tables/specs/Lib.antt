@@ -1,0 +1,2 @@
+pub mod About
+pub mod Spans

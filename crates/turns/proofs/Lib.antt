@@ -1,4 +1,0 @@
--- Laws that more than one proof cites.
-pub mod Effects
-pub mod Allowed
-pub mod Performing

@@ -1,3 +1,0 @@
-pub mod About
-pub mod Turns
-pub mod Calls
