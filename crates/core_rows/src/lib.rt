@@ -65,7 +65,7 @@ pub fn load(c: usize, l: usize, core: Core, copy: Copy, line: Line) -> Effect
     match copy {
         Copy::None => ask(Want::Load, l, core, copy, line),
         Copy::Shared { wts, rts } => {
-            if before.lts.0 <= rts.0 {
+            if before.lts.at_most(rts) {
                 let clocks = before.load(wts);
                 let ts = clocks.lts;
                 Effect {

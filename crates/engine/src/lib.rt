@@ -83,7 +83,7 @@ pub fn shown_at(s: State, private: &[u8], shared: &[u8], core: usize, line: usiz
             end: 0,
         };
     }
-    let i = core * 64 + line;
+    let i = core * Opening::MOST_LINES + line;
     let e = s.cell[i];
     let copy = e.copy;
     if is_held(copy) {

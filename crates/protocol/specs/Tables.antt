@@ -2,9 +2,9 @@
 -- A row gives the answer, the new pieces, and which line of bytes moves. They are read only where no refusal applies.
 use Prim.Native.Nat.{ℕ, _+_}
 use mathlib.Core.Bool.{Bool, true, false}
-use lib.Dec.{leb, eqb}
+use lib.Dec.{eqb}
 use Rattle.protocol.specs.Pick.{pick}
-use Rattle.protocol.specs.Stamps.{stamp, later}
+use Rattle.protocol.specs.Stamps.{stamp, atMost, same, later}
 use Rattle.protocol.specs.Clock.{loaded, storeTime, stored, fenced, advanced}
 use Rattle.protocol.specs.Machine.{Pieces}
 use Rattle.protocol.specs.Refusals.{stateRefusal}
@@ -85,7 +85,7 @@ loadShared c l w p =
 -- "shared, lts > rts, or none: ask"
 unfoldable pub loadTable : Copy → ℕ → ℕ → Pieces → Effect
 loadTable (CopyOwned d w r) c l p = loadOwned d c l w r p
-loadTable (CopyShared w r) c l p = pick (leb (p .core .clocks .lts .0) (r .0)) (loadShared c l w p) (asking WantLoad l p)
+loadTable (CopyShared w r) c l p = pick (atMost (p .core .clocks .lts) r) (loadShared c l w p) (asking WantLoad l p)
 loadTable NoCopy c l p = asking WantLoad l p
 
 -- ---- store
@@ -132,7 +132,7 @@ recalled WantLoad Flush = Flush
 -- "the asked wts equals the manager's"
 abbrev pub sameVersion : Held → Stamp → Bool
 sameVersion NothingHeld w = false
-sameVersion (Version v) w = eqb (v .0) (w .0)
+sameVersion (Version v) w = same v w
 
 -- the line with another manager part
 abbrev pub managed : Line → Manager → Line

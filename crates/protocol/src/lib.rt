@@ -5,7 +5,7 @@
 // crate's code is what every other crate shares: comparing timestamps, stepping a core's clocks,
 // and the fixed values that a fresh engine starts from. No function here has a `requires`.
 ghost use mathlib.Core.Path.{_≡_};
-ghost use Rattle.protocol.specs.Stamps.{greatest, later, fits, after, precedes};
+ghost use Rattle.protocol.specs.Stamps.{greatest, atMost, earlier, same, madeEarlier, later, fits, after, precedes};
 ghost use Rattle.protocol.specs.Clock.{loaded, storedIfFits, fenced, advancedIfFits};
 ghost use Rattle.protocol.specs.Fresh.{freshCore, freshCell, freshLine, freshState, smallest};
 ghost use Rattle.protocol.specs.Limits.{within, openingFits};
@@ -29,11 +29,36 @@ impl Stamp {
         Stamp::GREATEST
     }
 
+    // Whether this timestamp is at most the other.
+    pub fn at_most(self, other: Stamp) -> bool
+        ensures { λ r. ⌜ r ≡ atMost self other ⌝ }
+    {
+        self.0 <= other.0
+    }
+
+    // Whether this timestamp is smaller than the other.
+    pub fn earlier(self, other: Stamp) -> bool
+        ensures { λ r. ⌜ r ≡ earlier self other ⌝ }
+    {
+        self.0 < other.0
+    }
+
+    // Whether two timestamps are equal.
+    pub fn same(self, other: Stamp) -> bool
+        ensures { λ r. ⌜ r ≡ same self other ⌝ }
+    {
+        self.0 == other.0
+    }
+
     // The later of two timestamps.
     pub fn later(self, other: Stamp) -> Stamp
         ensures { λ r. ⌜ r ≡ later self other ⌝ }
     {
-        if self.0 < other.0 { other } else { self }
+        if self.earlier(other) {
+            other
+        } else {
+            self
+        }
     }
 
     // Whether the timestamp n later is still one.
@@ -56,18 +81,27 @@ impl Stamp {
     }
 }
 
+impl Place {
+    // Whether the call at this place was made earlier than the one at the other.
+    pub fn made_earlier(self, other: Place) -> bool
+        ensures { λ r. ⌜ r ≡ madeEarlier self other ⌝ }
+    {
+        self.0 < other.0
+    }
+}
+
 impl Key {
     // Whether a commit with this key stands before one with the other in the sorted order.
     pub fn precedes(self, other: Key) -> bool
         ensures { λ r. ⌜ r ≡ precedes self other ⌝ }
     {
-        if self.0.0 < other.0.0 {
+        if self.0.earlier(other.0) {
             return true;
         }
-        if other.0.0 < self.0.0 {
-            return false;
+        if self.0.same(other.0) {
+            return self.1.made_earlier(other.1);
         }
-        self.1.0 < other.1.0
+        false
     }
 }
 
@@ -258,7 +292,10 @@ impl Opening {
 
     pub const MOST_WIDTH: usize = 64;
 
-    pub const MOST_LEASE: usize = 1000;
+    pub const MOST_LEASE: u32 = 1000;
+
+    // One copy for each core and line.
+    pub const MOST_COPIES: usize = Opening::MOST_CORES * Opening::MOST_LINES;
 
     // The opening of the state that a refused opening hands back.
     pub const SMALLEST: Opening = Opening {
@@ -279,6 +316,7 @@ impl Opening {
         ensures { λ r. ⌜ r ≡ openingFits self ⌝ }
     {
         let lease = self.lease as usize;
+        let longest = Opening::MOST_LEASE as usize;
         if !within(self.cores, Opening::MOST_CORES) {
             return false;
         }
@@ -288,7 +326,7 @@ impl Opening {
         if !within(self.width, Opening::MOST_WIDTH) {
             return false;
         }
-        within(lease, Opening::MOST_LEASE)
+        within(lease, longest)
     }
 }
 
@@ -302,13 +340,13 @@ fn within(n: usize, most: usize) -> bool
     n <= most
 }
 
-// The engine's state. The copy of core c, line l is cell c × 64 + l. Only cores and lines inside
-// the opening's sizes take part.
+// The engine's state. The copy of core c, line l is cell c × MOST_LINES + l. Only cores and lines
+// inside the opening's sizes take part.
 pub struct State {
     pub opening: Opening,
-    pub core: [Core; 16],
-    pub cell: [Cell; 1024],
-    pub line: [Line; 64],
+    pub core: [Core; Opening::MOST_CORES],
+    pub cell: [Cell; Opening::MOST_COPIES],
+    pub line: [Line; Opening::MOST_LINES],
 }
 
 impl State {
@@ -316,12 +354,12 @@ impl State {
     pub fn fresh(opening: Opening) -> State
         ensures { λ r. ⌜ r ≡ freshState opening ⌝ }
     {
-        let k = Core::FRESH;
-        let e = Cell::FRESH;
-        let l = Line::FRESH;
-        let core = [k; 16];
-        let cell = [e; 1024];
-        let line = [l; 64];
+        let k = Core::fresh();
+        let e = Cell::fresh();
+        let l = Line::fresh();
+        let core = [k; Opening::MOST_CORES];
+        let cell = [e; Opening::MOST_COPIES];
+        let line = [l; Opening::MOST_LINES];
         State {
             opening,
             core,

@@ -68,7 +68,13 @@ fn of_load(slot: Slot, copy: Copy, lts: Stamp) -> u8
 {
     match copy {
         Copy::None => of_request(slot),
-        Copy::Shared { wts: _, rts } => { if rts.0 < lts.0 { of_request(slot) } else { 0 } }
+        Copy::Shared { wts: _, rts } => {
+            if rts.earlier(lts) {
+                of_request(slot)
+            } else {
+                0
+            }
+        }
         Copy::Owned {
             dirty: _,
             wts: _,

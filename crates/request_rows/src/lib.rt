@@ -42,7 +42,7 @@ fn same_version(held: Held, wts: Stamp) -> bool
 {
     match held {
         Held::None => false,
-        Held::Version(v) => v.0 == wts.0,
+        Held::Version(v) => v.same(wts),
     }
 }
 

@@ -1,6 +1,6 @@
 -- The load table's rows, by the copy, its lease and whether it is dirty.
 use borrow.Author.Needs.{needs}
-use borrow.Author.Tests.{le-leb, lt-leb}
+use mathlib.Core.Path.{sym, _∙_}
 use Rattle.protocol.specs.Tables.{loadTable, loadOwned}
 use Rattle.core_rows.proofs.load.Statement.{statement}
 use Rattle.core_rows.proofs.load.Tie as tie
@@ -13,6 +13,9 @@ ask-requires c κs = search needs
 
 enum-known-copy : tie.Need-enum-known-copy
 enum-known-copy c = search needs
+
+at-most-requires : tie.Need-at-most-requires
+at-most-requires c κs = search needs
 
 load-requires : tie.Need-load-requires
 load-requires c κs = search needs
@@ -38,11 +41,15 @@ returns c = rw (c .ask .ensures, c .before .enum-told .given .1)
 
 returns-2 : tie.Need-returns-2
 unfolding loadTable loadOwned
-returns-2 c = rw (c .before .before .before .before .before .before .copy .given .1, le-leb _ _ (c .before .before .if1 .taken), c .before .load .ensures)
+returns-2 c =
+    let b = c .before .before .before in
+    rw (b .before .before .copy .given .1, sym (b .at-most .ensures) ∙ c .before .before .if1 .taken, c .before .load .ensures)
 
 returns-3 : tie.Need-returns-3
 unfolding loadTable loadOwned
-returns-3 c = rw (c .before .before .before .before .before .copy .given .1, lt-leb _ _ (c .before .if1 .left)) (c .ask2 .ensures)
+returns-3 c =
+    let b = c .before .before in
+    rw (b .before .before .copy .given .1, sym (b .at-most .ensures) ∙ c .before .if1 .left) (c .ask2 .ensures)
 
 returns-4 : tie.Need-returns-4
 unfolding loadTable loadOwned
@@ -59,6 +66,7 @@ load-spec =
     enum-told
     ask-requires
     enum-known-copy
+    at-most-requires
     load-requires
     ask-requires-2
     enum-known-copy-2
