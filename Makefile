@@ -19,7 +19,7 @@ override JOURNAL := $(value JOURNAL)
 export PREFIX DESTDIR JOURNAL
 
 # What a parent make was told is not for the programs that run here.
-unexport MAKEFLAGS MFLAGS MAKELEVEL
+unexport MAKEFLAGS MFLAGS
 
 # Of each installed file: its mode, where it is here, where it goes under PREFIX.
 define INSTALLED
