@@ -86,7 +86,7 @@ install: build
 
 uninstall:
 	@printf '%s\n' "$$INSTALLED" | while read -r mode from to; do \
-	    rm -f "$$DESTDIR$$PREFIX/$$to" && printf 'removed %s\n' "$$DESTDIR$$PREFIX/$$to" || exit 1; \
+	    [ ! -e "$$DESTDIR$$PREFIX/$$to" ] || { rm "$$DESTDIR$$PREFIX/$$to" && printf 'removed %s\n' "$$DESTDIR$$PREFIX/$$to"; } || exit 1; \
 	done
 
 clean:
