@@ -1,2 +1,3 @@
--- Laws that more than one proof cites.
+-- The part that `show` gives, and demand 3 of the engine's own calls.
 pub mod Showing
+pub mod History
