@@ -1,2 +1,2 @@
 -- The proof of the reference points.
-pub mod Theorem
+pub mod Rows

@@ -1,1 +1,5 @@
+pub mod Rows
 pub mod Points
+pub mod Steps
+pub mod Numbers
+pub mod Show
