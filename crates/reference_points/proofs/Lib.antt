@@ -1,2 +1,4 @@
 -- The proof of the reference points.
 pub mod Rows
+pub mod Lines
+pub mod Sample

@@ -19,19 +19,19 @@ use Rattle.reference_points.specs.Show.{isShown, isTold, looks, ShowTheo
 
 -- ---- the definitions that a call computes by
 
-refusing : Unit {0}
+unfoldable pub refusing : Unit {0}
 unfolding every first openingFits openRefusal ownersFit slotsFit stateFits buffersFit machineRefusal callRules callRefusal stateRules stateRefusal refusal
 refusing = tt
 
-coreTables : Unit {0}
+unfoldable pub coreTables : Unit {0}
 unfolding loadOwned loadTable storeTable fenceTable advanceTable evictTable
 coreTables = tt
 
-flightTables : Unit {0}
+unfoldable pub flightTables : Unit {0}
 unfolding serveLoad serveAsked serveTable receiveRenew receiveGrant receiveTable yieldTable takeTable
 flightTables = tt
 
-calling : Unit {0}
+unfoldable pub calling : Unit {0}
 unfolding refusing coreTables flightTables tableOf splice movedPrivate movedShared applied meaning accepted step shown
 calling = tt
 

@@ -3,3 +3,5 @@ pub mod Points
 pub mod Steps
 pub mod Numbers
 pub mod Show
+pub mod Lines
+pub mod Sample

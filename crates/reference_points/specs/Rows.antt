@@ -167,10 +167,14 @@ got r = step (machineOf (r .lease) (r .before) unmoved) (r .call) given
 abbrev pub told : Row → Outcome
 told r = record { reply = r .reply; machine = machineOf (r .lease) (r .after) (r .bytes) }
 
--- two functions give the same of each entry of a list
+-- P holds of each entry of a list
+abbrev pub Each : {A : Type 0} → (A → Type 0) → List A → Type 0
+Each P [] = Unit
+Each P (x ∷ xs) = P x × Each P xs
+
+-- two functions give the same of each entry
 abbrev pub Agree : {A B : Type 0} → (A → B) → (A → B) → List A → Type 0
-Agree f g [] = Unit
-Agree f g (x ∷ xs) = (f x ≡ g x) × Agree f g xs
+Agree {A} f g = Each (λ (x : A). f x ≡ g x)
 
 -- every row of a table holds
 abbrev pub AllHold : List Row → Type 0
