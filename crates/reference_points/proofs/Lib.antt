@@ -1,4 +1,6 @@
 -- The proof of the reference points.
+pub mod Each
 pub mod Rows
 pub mod Lines
 pub mod Sample
+pub mod Logs

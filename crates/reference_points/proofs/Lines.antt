@@ -17,8 +17,8 @@ use Rattle.grammar.specs.Table.{Row, rowAt, rowsOf, noRow}
 use Rattle.grammar.specs.Line.{said, Fits, Spelt, LineOf, tooLong, noForm, spelt}
 use Rattle.grammar.specs.declared.Line.{Line}
 use Rattle.grammar.specs.declared.Line.the-variants.{Refused}
-use Rattle.reference_points.specs.Rows.{Each}
 use Rattle.reference_points.specs.Lines.{Written, Says, formless, LinesTheorem}
+use Rattle.reference_points.proofs.Each.{each}
 
 -- ---- a line that is spelt
 
@@ -116,13 +116,11 @@ isFormless : Written → Bool
 unfolding every clashes
 isFormless w = both (leb (length (w .line)) 200) (every (λ r. clashes (w .line) (r .form)) (rowsOf (w .form)))
 
-all-formless : (ws : List Written) → every isFormless ws ≡ true → Each (λ (w : Written). Says w (Refused 11)) ws
-unfolding every isFormless
-all-formless [] e = tt
-all-formless (w ∷ ws) e =
-    let t = both-true (isFormless w) _ e in
-    let u = both-true (leb (length (w .line)) 200) _ (t .0) in
-    (noForm (leb-true (length (w .line)) 200 (u .0)) (λ k vs f. no-row (rowsOf (w .form)) (w .line) k vs (u .1) f), all-formless ws (t .1))
+formless-line : (w : Written) → isFormless w ≡ true → Says w (Refused 11)
+unfolding isFormless
+formless-line w e =
+    let t = both-true (leb (length (w .line)) 200) _ e in
+    noForm (leb-true (length (w .line)) 200 (t .0)) (λ k vs f. no-row (rowsOf (w .form)) (w .line) k vs (t .1) f)
 
 -- ---- the theorem
 
@@ -160,6 +158,6 @@ lines-theorem =
           ),
         ),
       );
-      formless = all-formless formless refl;
+      formless = each isFormless (λ (w : Written). Says w (Refused 11)) formless-line formless refl;
       overlong = tooLong (lit≤ tt);
     }

@@ -1,6 +1,5 @@
 -- The rows hold: antt computes what `step` gives on each machine, and both sides are the same.
-use mathlib.Core.Path.{_≡_, refl}
-use mathlib.Core.List.{List, [], _∷_, map}
+use mathlib.Core.Path.{refl}
 use Rattle.protocol.specs.Pick.{every, first}
 use Rattle.protocol.specs.Limits.{openingFits}
 use Rattle.protocol.specs.Buffers.{splice, movedPrivate, movedShared}
@@ -10,12 +9,13 @@ use Rattle.protocol.specs.Refusals.{stateRefusal, refusal}
 use Rattle.protocol.specs.Tables.{loadOwned, loadTable, storeTable, fenceTable, advanceTable, evictTable, serveLoad, serveAsked, serveTable}
 use Rattle.protocol.specs.Tables.{receiveRenew, receiveGrant, receiveTable, yieldTable, takeTable, tableOf}
 use Rattle.protocol.specs.Step.{meaning, accepted, step, shown}
-use Rattle.reference_points.specs.Rows.{got, told, Agree}
+use Rattle.reference_points.specs.Rows.{got, told}
 use Rattle.reference_points.specs.Points.{points, PointsTheorem}
 use Rattle.reference_points.specs.Steps.{askRows, loadRows, advanceRows, evictRows, serveRows, receiveRows, writebackRows, StepsTheorem}
 use Rattle.reference_points.specs.Numbers.{called, turnedAway, refusals, NumbersTheorem, opens, accepted as isAccepted, refusedWithSeven}
 use Rattle.reference_points.specs.Numbers.{inside, outside, OpeningsTheorem}
 use Rattle.reference_points.specs.Show.{isShown, isTold, looks, ShowTheorem}
+use Rattle.reference_points.proofs.Each.{agree}
 
 -- ---- the definitions that a call computes by
 
@@ -36,11 +36,6 @@ unfolding refusing coreTables flightTables tableOf splice movedPrivate movedShar
 calling = tt
 
 -- ---- the theorems
-
--- two functions that give the same list give the same of each entry
-agree : {A B : Type 0} (f g : A → B) (xs : List A) → map f xs ≡ map g xs → Agree f g xs
-agree f g [] e = tt
-agree f g (x ∷ xs) e = (cc, agree f g xs (cc))
 
 pub points-theorem : PointsTheorem
 unfolding calling

@@ -5,3 +5,4 @@ pub mod Numbers
 pub mod Show
 pub mod Lines
 pub mod Sample
+pub mod Logs

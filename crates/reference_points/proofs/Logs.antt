@@ -1,0 +1,256 @@
+-- Whether a log of numbers obeys TSO, as a test; and the logs.
+use Prim.Native.Nat.{ℕ, _<_}
+use mathlib.Core.Path.{_≡_, refl, sym, subst, ap}
+use mathlib.Core.Bool.{Bool, true, false}
+use mathlib.Core.Logic.{_⊎_, inl, inr}
+use mathlib.Core.List.{List, [], _∷_}
+use native.Mathlib.Omega.{arith}
+use lib.Dec.{ltb, eqb}
+use borrow.Author.Tests.{ltb-true, lt-ltb, eqb-true, eq-eqb}
+use Rattle.protocol.specs.Pick.{pick, both, every, fails}
+use Rattle.protocol.specs.Stamps.{precedes}
+use Rattle.protocol.specs.Step.{Op, load, store, fence}
+use Rattle.protocol.specs.Run.{Commit}
+use Rattle.protocol.specs.Order.{In, here, there, key, Before, Earlier, TsoKeeps, Stores, Loads, MaySee, LastWrite, Obeys, TSO}
+use Rattle.protocol.proofs.Order.Theorem.{key-theorem}
+use Rattle.reference_points.specs.Logs.{Log, at, obeying, disobeying, TsoTheorem, NotTsoTheorem}
+use Rattle.reference_points.proofs.Each.{each}
+
+-- ---- tests that decide
+
+record Decides (b : Bool) (P : Type 0) : Type 0 where
+  holds : b ≡ true → P
+  tests : P → b ≡ true
+
+never : false ≡ true → ⊥
+never e = let z : _≡_ {A = ℕ} 0 1 = cc in omega arith
+
+-- the same claim in other words
+reworded : {b : Bool} {P Q : Type 0} → (P → Q) → (Q → P) → Decides b P → Decides b Q
+reworded f g d = record { holds = λ e. f (d .holds e); tests = λ q. d .tests (g q) }
+
+and-decides : (a b : Bool) {P Q : Type 0} → Decides a P → Decides b Q → Decides (both a b) (P × Q)
+and-decides true b p q = record { holds = λ e. (p .holds refl, q .holds e); tests = λ h. q .tests (h .1) }
+and-decides false b p q = record { holds = λ e. absurd (never e); tests = λ h. p .tests (h .0) }
+
+or-decides : (a b : Bool) {P Q : Type 0} → Decides a P → Decides b Q → Decides (pick a true b) (P ⊎ Q)
+or-decides true b p q = record { holds = λ e. inl (p .holds refl); tests = λ h. refl }
+or-decides false b {P} {Q} p q = record { holds = λ e. inr (q .holds e); tests = by }
+  where
+    by : P ⊎ Q → b ≡ true
+    by (inl x) = absurd (never (p .tests x))
+    by (inr y) = q .tests y
+
+if-decides : (a b : Bool) {P Q : Type 0} → Decides a P → Decides b Q → Decides (pick a b true) (P → Q)
+if-decides true b p q = record { holds = λ e x. q .holds e; tests = λ f. q .tests (f (p .holds refl)) }
+if-decides false b p q = record { holds = λ e x. absurd (never (p .tests x)); tests = λ f. refl }
+
+not-decides : (a : Bool) {P : Type 0} → Decides a P → Decides (fails a) (P → ⊥)
+not-decides true p = record { holds = λ e x. never e; tests = λ f. absurd (f (p .holds refl)) }
+not-decides false p = record { holds = λ e x. never (p .tests x); tests = λ f. refl }
+
+eq-decides : (m n : ℕ) → Decides (eqb m n) (m ≡ n)
+eq-decides m n = record { holds = eqb-true m n; tests = eq-eqb m n }
+
+lt-decides : (m n : ℕ) → Decides (ltb m n) (m < n)
+lt-decides m n = record { holds = ltb-true m n; tests = lt-ltb m n }
+
+-- the test holds of some element
+some : {A : Type 0} → (A → Bool) → List A → Bool
+some f [] = false
+some f (x ∷ xs) = pick (f x) true (some f xs)
+
+not-in : {A : Type 0} {x : A} → In x [] → ⊥
+not-in i = elim i [ ]
+
+module _ {A : Type 0} (f : A → Bool) (P : A → Type 0) (d : (x : A) → Decides (f x) (P x)) where
+  every-decides : (xs : List A) → Decides (every f xs) ((x : A) → In x xs → P x)
+  unfolding every
+  every-decides [] = record { holds = λ e x i. absurd (not-in i); tests = λ h. refl }
+  every-decides (x ∷ xs) = reworded to (λ h. (h x (here refl), λ y i. h y (there i))) (and-decides (f x) (every f xs) (d x) (every-decides xs))
+    where
+      to : P x × ((y : A) → In y xs → P y) → (y : A) → In y (x ∷ xs) → P y
+      to h y (here e) = subst P (sym e) (h .0)
+      to h y (there i) = h .1 y i
+
+  some-decides : (xs : List A) → Decides (some f xs) ((x : A) × In x xs × P x)
+  unfolding some
+  some-decides [] = record { holds = λ e. absurd (never e); tests = λ h. absurd (not-in (h .1)) }
+  some-decides (x ∷ xs) = reworded to (λ h. from (h .0) (h .1) (h .2)) (or-decides (f x) (some f xs) (d x) (some-decides xs))
+    where
+      to : P x ⊎ ((y : A) × In y xs × P y) → (y : A) × In y (x ∷ xs) × P y
+      to (inl p) = (x, here refl, p)
+      to (inr h) = (h .0, there (h .1), h .2)
+
+      from : (y : A) → In y (x ∷ xs) → P y → P x ⊎ ((y : A) × In y xs × P y)
+      from y (here e) p = inl (subst P e p)
+      from y (there i) p = inr (y, i, p)
+
+-- ---- commits
+
+-- two commits are the same
+sameOp : Op ℕ → Op ℕ → Bool
+sameOp (load l x) (load m y) = both (eqb l m) (eqb x y)
+sameOp (load l x) (store m y) = false
+sameOp (load l x) fence = false
+sameOp (store l x) (load m y) = false
+sameOp (store l x) (store m y) = both (eqb l m) (eqb x y)
+sameOp (store l x) fence = false
+sameOp fence (load m y) = false
+sameOp fence (store m y) = false
+sameOp fence fence = true
+
+differ : {A : Type 0} {a b : A} → (a ≡ b → ⊥) → Decides false (a ≡ b)
+differ n = record { holds = λ e. absurd (never e); tests = λ e. absurd (n e) }
+
+op-decides : (a b : Op ℕ) → Decides (sameOp a b) (a ≡ b)
+unfolding sameOp
+op-decides (load l x) (load m y) = reworded (λ h. let l = h .0 in let x = h .1 in cc) (λ e. (cc, cc)) (and-decides (eqb l m) (eqb x y) (eq-decides l m) (eq-decides x y))
+op-decides (load l x) (store m y) = differ (λ e. let z : _≡_ {A = ℕ} 0 1 = cc in omega arith)
+op-decides (load l x) fence = differ (λ e. let z : _≡_ {A = ℕ} 0 1 = cc in omega arith)
+op-decides (store l x) (load m y) = differ (λ e. let z : _≡_ {A = ℕ} 0 1 = cc in omega arith)
+op-decides (store l x) (store m y) = reworded (λ h. let l = h .0 in let x = h .1 in cc) (λ e. (cc, cc)) (and-decides (eqb l m) (eqb x y) (eq-decides l m) (eq-decides x y))
+op-decides (store l x) fence = differ (λ e. let z : _≡_ {A = ℕ} 0 1 = cc in omega arith)
+op-decides fence (load m y) = differ (λ e. let z : _≡_ {A = ℕ} 0 1 = cc in omega arith)
+op-decides fence (store m y) = differ (λ e. let z : _≡_ {A = ℕ} 0 1 = cc in omega arith)
+op-decides fence fence = record { holds = λ e. refl; tests = λ e. refl }
+
+same : Commit ℕ → Commit ℕ → Bool
+same a b = both (eqb (a .place .0) (b .place .0)) (both (eqb (a .core) (b .core)) (both (eqb (a .ts .0) (b .ts .0)) (sameOp (a .op) (b .op))))
+
+same-at : {p q c d t u : ℕ} {x y : Op ℕ} → (p ≡ q) × ((c ≡ d) × ((t ≡ u) × (x ≡ y))) → at p c t x ≡ at q d u y
+same-at h = let a = h .0 in let b = h .1 .0 in let c = h .1 .1 .0 in let d = h .1 .1 .1 in cc
+
+same-decides : (a b : Commit ℕ) → Decides (same a b) (a ≡ b)
+unfolding same
+same-decides a b =
+    reworded same-at (λ e. (ap (λ (k : Commit ℕ). k .place .0) e, (ap (λ (k : Commit ℕ). k .core) e, (ap (λ (k : Commit ℕ). k .ts .0) e, ap (λ (k : Commit ℕ). k .op) e))))
+    (and-decides _ _ (eq-decides (a .place .0) (b .place .0))
+    (and-decides _ _ (eq-decides (a .core) (b .core)) (and-decides _ _ (eq-decides (a .ts .0) (b .ts .0)) (op-decides (a .op) (b .op)))))
+
+before-decides : (a b : Commit ℕ) → Decides (precedes (key a) (key b)) (Before a b)
+before-decides a b = record { holds = key-theorem (key a) (key b) .0; tests = key-theorem (key a) (key b) .1 }
+
+-- ---- order
+
+keeps : Op ℕ → Op ℕ → Bool
+keeps (load l x) b = true
+keeps fence b = true
+keeps (store l x) (load m y) = false
+keeps (store l x) (store m y) = true
+keeps (store l x) fence = true
+
+sure : {P : Type 0} → P → Decides true P
+sure p = record { holds = λ e. p; tests = λ h. refl }
+
+keeps-decides : (a b : Op ℕ) → Decides (keeps a b) (TsoKeeps a b)
+unfolding keeps
+keeps-decides (load l x) b = sure tt
+keeps-decides fence b = sure tt
+keeps-decides (store l x) (load m y) = record { holds = λ e. absurd (never e); tests = λ h. absurd h }
+keeps-decides (store l x) (store m y) = sure tt
+keeps-decides (store l x) fence = sure tt
+
+ordered : Commit ℕ → Commit ℕ → Bool
+ordered a b = pick (eqb (a .core) (b .core)) (pick (ltb (a .place .0) (b .place .0)) (pick (keeps (a .op) (b .op)) (precedes (key a) (key b)) true) true) true
+
+Ordered : Commit ℕ → Commit ℕ → Type 0
+Ordered a b = a .core ≡ b .core → Earlier a b → TsoKeeps (a .op) (b .op) → Before a b
+
+ordered-decides : (a b : Commit ℕ) → Decides (ordered a b) (Ordered a b)
+unfolding ordered Ordered
+ordered-decides a b =
+    if-decides _ _ (eq-decides (a .core) (b .core))
+    (if-decides _ _ (lt-decides (a .place .0) (b .place .0)) (if-decides _ _ (keeps-decides (a .op) (b .op)) (before-decides a b)))
+
+-- ---- reads
+
+sees : Commit ℕ → Commit ℕ → Bool
+sees e s = pick (precedes (key s) (key e)) true (both (eqb (s .core) (e .core)) (ltb (s .place .0) (e .place .0)))
+
+sees-decides : (e s : Commit ℕ) → Decides (sees e s) (MaySee e s)
+unfolding sees
+sees-decides e s = or-decides _ _ (before-decides s e) (and-decides _ _ (eq-decides (s .core) (e .core)) (lt-decides (s .place .0) (e .place .0)))
+
+-- the claim b of a commit that stores to line l
+ofStore : ℕ → Op ℕ → Bool → Bool
+ofStore l (load m y) b = true
+ofStore l (store m y) b = pick (eqb m l) b true
+ofStore l fence b = true
+
+of-store-decides : (l : ℕ) (o : Op ℕ) (b : Bool) (Q : Type 0) → Decides b Q → Decides (ofStore l o b) ((y : ℕ) → o ≡ store l y → Q)
+unfolding ofStore
+of-store-decides l (load m z) b Q d = sure (λ y e. absurd (let z : _≡_ {A = ℕ} 0 1 = cc in omega arith))
+of-store-decides l (store m z) b Q d =
+    reworded (λ f y e. f (cc)) (λ g e. g z (ap (λ (k : ℕ). store k z) e)) (if-decides _ _ (eq-decides m l) d)
+of-store-decides l fence b Q d = sure (λ y e. absurd (let z : _≡_ {A = ℕ} 0 1 = cc in omega arith))
+
+module _ (h : Log) (e : Commit ℕ) (l x : ℕ) where
+  -- the store s is the last that the load e may see
+  last : Commit ℕ → Bool
+  last s = every (λ s′. ofStore l (s′ .op) (pick (sees e s′) (pick (same s′ s) true (precedes (key s′) (key s))) true)) h
+
+  Last : Commit ℕ → Type 0
+  Last s = (s′ : Commit ℕ) → In s′ h → (y : ℕ) → Stores l s′ y → MaySee e s′ → (s′ ≡ s) ⊎ Before s′ s
+
+  last-decides : (s : Commit ℕ) → Decides (last s) (Last s)
+  unfolding last Last
+  last-decides s =
+      every-decides _ (λ s′. (y : ℕ) → Stores l s′ y → MaySee e s′ → (s′ ≡ s) ⊎ Before s′ s)
+      (λ s′. of-store-decides l (s′ .op) _ _ (if-decides _ _ (sees-decides e s′) (or-decides _ _ (same-decides s′ s) (before-decides s′ s)))) h
+
+  Seen : Commit ℕ → Type 0
+  Seen s = Stores l s x × (MaySee e s × Last s)
+
+  seen : Commit ℕ → Bool
+  seen s = both (sameOp (s .op) (store l x)) (both (sees e s) (last s))
+
+  seen-decides : (s : Commit ℕ) → Decides (seen s) (Seen s)
+  unfolding seen Seen
+  seen-decides s = and-decides _ _ (op-decides (s .op) (store l x)) (and-decides _ _ (sees-decides e s) (last-decides s))
+
+  read : Bool
+  read = pick (some seen h) true (both (every (λ s. ofStore l (s .op) (fails (sees e s))) h) (eqb x 0))
+
+  read-decides : Decides read (LastWrite h (Stores l) (MaySee e) 0 x)
+  unfolding read Seen Last
+  read-decides =
+      or-decides _ _
+      (reworded (λ t. (t .0, t .1, t .2 .0, t .2 .1 .0, t .2 .1 .1)) (λ t. (t .0, t .1, (t .2, (t .3, t .4)))) (some-decides seen Seen seen-decides h))
+      (and-decides _ _
+      (every-decides _ (λ s. (y : ℕ) → Stores l s y → MaySee e s → ⊥) (λ s. of-store-decides l (s .op) _ _ (not-decides _ (sees-decides e s))) h)
+      (eq-decides x 0))
+
+reading : Log → Commit ℕ → Op ℕ → Bool
+reading h e (load l x) = read h e l x
+reading h e (store l x) = true
+reading h e fence = true
+
+reading-decides : (h : Log) (e : Commit ℕ) (o : Op ℕ) → Decides (reading h e o) ((l x : ℕ) → o ≡ load l x → LastWrite h (Stores l) (MaySee e) 0 x)
+unfolding reading
+reading-decides h e (load m z) =
+    reworded (λ w l x q. subst (λ (a : ℕ). LastWrite h (Stores l) (MaySee e) 0 a) (cc) (subst (λ (a : ℕ). LastWrite h (Stores a) (MaySee e) 0 z) (cc) w))
+    (λ g. g m z refl) (read-decides h e m z)
+reading-decides h e (store m z) = sure (λ l x q. absurd (let z : _≡_ {A = ℕ} 0 1 = cc in omega arith))
+reading-decides h e fence = sure (λ l x q. absurd (let z : _≡_ {A = ℕ} 0 1 = cc in omega arith))
+
+-- ---- the logs
+
+tso : Log → Bool
+tso h = both (every (λ a. every (ordered a) h) h) (every (λ e. reading h e (e .op)) h)
+
+tso-decides : (h : Log) → Decides (tso h) (TSO 0 h)
+unfolding tso Ordered
+tso-decides h =
+    reworded (λ t. record { order = λ a b i j. t .0 a i b j; reads = t .1 }) (λ o. (λ a i b j. o .order a b i j, o .reads))
+    (and-decides _ _
+    (every-decides _ (λ a. (b : Commit ℕ) → In b h → Ordered a b) (λ a. every-decides (ordered a) (Ordered a) (ordered-decides a) h) h)
+    (every-decides _ (λ e. (l x : ℕ) → Loads l e x → LastWrite h (Stores l) (MaySee e) 0 x) (λ e. reading-decides h e (e .op)) h))
+
+pub tso-theorem : TsoTheorem
+unfolding every some sameOp same keeps ordered sees ofStore last seen read reading tso
+tso-theorem = each tso (λ (h : Log). TSO 0 h) (λ h. tso-decides h .holds) obeying refl
+
+pub not-tso-theorem : NotTsoTheorem
+unfolding every some sameOp same keeps ordered sees ofStore last seen read reading tso
+not-tso-theorem = each (λ h. fails (tso h)) (λ (h : Log). TSO 0 h → ⊥) (λ h. not-decides (tso h) (tso-decides h) .holds) disobeying refl
