@@ -1,4 +1,4 @@
--- The proof of the reference points.
+-- The theorems: each table of specs/ is computed, and its rows are as the definitions give them.
 pub mod Each
 pub mod Rows
 pub mod Lines

@@ -1,3 +1,4 @@
+-- The worked examples: the machine that they are played on, then a table for each part of 01.
 pub mod Rows
 pub mod Points
 pub mod Steps

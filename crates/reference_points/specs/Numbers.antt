@@ -24,6 +24,10 @@ use Rattle.protocol.specs.declared.Call.the-variants.{Load, Store, Fence, Evict
 use Rattle.reference_points.specs.Rows.{core, asked, answered, sharedCopy, dirtyCopy, sharedLine, ownedLine, pieces, unmoved, given, private}
 use Rattle.reference_points.specs.Rows.{shared, greatest, cell, stateOf, Agree}
 
+-- the state of the rows, with a lease of 10
+abbrev pub usual : Pieces → State
+usual p = stateOf 10 p
+
 -- a call on a machine, and its number
 pub record Refusal : Type 0 where
   pub number : ℕ
@@ -138,11 +142,11 @@ causes =
 
 -- the cause on a machine with nothing else amiss
 abbrev pub alone : Cause → Refusal
-alone k = record { number = k .number; machine = machine (stateOf (k .before)) (private unmoved) (shared unmoved); call = k .call; bytes = k .bytes }
+alone k = record { number = k .number; machine = machine (usual (k .before)) (private unmoved) (shared unmoved); call = k .call; bytes = k .bytes }
 
 -- with 2 as well: the private buffer is a byte short
 abbrev pub withTwo : Cause → Refusal
-withTwo k = record { number = 2; machine = machine (stateOf (k .before)) (drop 1 (private unmoved)) (shared unmoved); call = k .call; bytes = k .bytes }
+withTwo k = record { number = 2; machine = machine (usual (k .before)) (drop 1 (private unmoved)) (shared unmoved); call = k .call; bytes = k .bytes }
 
 -- a state with other cores, or with other lines
 abbrev pub withCores : State → List Core → State
@@ -153,7 +157,7 @@ withLines s ls = record { opening = s .opening; core = s .core; cell = s .cell; 
 
 -- with 1 as well: line 0 has an owner ≥ cores
 abbrev pub misowned : Pieces → State
-misowned p = withLines (stateOf p) (set (stateOf p .line) 0 (ownedLine 2 NoRecall))
+misowned p = withLines (usual p) (set (usual p .line) 0 (ownedLine 2 NoRecall))
 
 abbrev pub withOne : Cause → Refusal
 withOne k = record { number = 1; machine = machine (misowned (k .before)) (private unmoved) (shared unmoved); call = k .call; bytes = k .bytes }
@@ -187,13 +191,13 @@ mislaid n s p q = fencing n (machine s p q)
 abbrev pub machineRows : List Refusal
 machineRows =
     unfit (misowned idle)
-    ∷ unfit (withCores (stateOf idle) (set (stateOf idle .core) 1 (core 7 9 (Asked WantLoad 2 (stamp 7) NothingHeld))))
-    ∷ unfit (withCores (stateOf idle) (set (stateOf idle .core) 0 (core 7 9 (Answered GrantShare 2 (stamp 4) (stamp 9)))))
-    ∷ mislaid 2 (stateOf idle) (drop 1 (private unmoved)) (shared unmoved)
-    ∷ mislaid 2 (stateOf idle) (9 ∷ private unmoved) (shared unmoved)
-    ∷ mislaid 2 (stateOf idle) (private unmoved) (drop 1 (shared unmoved))
-    ∷ mislaid 2 (stateOf idle) (private unmoved) (9 ∷ shared unmoved)
-    ∷ mislaid 2 (stateOf idle) (shared unmoved) (private unmoved)
+    ∷ unfit (withCores (usual idle) (set (usual idle .core) 1 (core 7 9 (Asked WantLoad 2 (stamp 7) NothingHeld))))
+    ∷ unfit (withCores (usual idle) (set (usual idle .core) 0 (core 7 9 (Answered GrantShare 2 (stamp 4) (stamp 9)))))
+    ∷ mislaid 2 (usual idle) (drop 1 (private unmoved)) (shared unmoved)
+    ∷ mislaid 2 (usual idle) (9 ∷ private unmoved) (shared unmoved)
+    ∷ mislaid 2 (usual idle) (private unmoved) (drop 1 (shared unmoved))
+    ∷ mislaid 2 (usual idle) (private unmoved) (9 ∷ shared unmoved)
+    ∷ mislaid 2 (usual idle) (shared unmoved) (private unmoved)
     -- 1 and 2
     ∷ mislaid 1 (misowned idle) (drop 1 (private unmoved)) (shared unmoved)
     ∷ mislaid 1 (misowned idle) (private unmoved) (9 ∷ shared unmoved)

@@ -62,7 +62,10 @@ sharedLine wts rts = record { manager = Shared (stamp wts) (stamp rts); recall =
 abbrev pub ownedLine : ℕ → Recall → Line
 ownedLine c k = record { manager = Owned c; recall = k; writeback = NoWriteback }
 
--- the same with a writeback in flight, with wts and rts
+-- the same with a recall; with a writeback in flight, with wts and rts
+abbrev pub withRecall : Recall → Line → Line
+withRecall k m = record { manager = m .manager; recall = k; writeback = m .writeback }
+
 abbrev pub withWriteback : ℕ → ℕ → Line → Line
 withWriteback wts rts m = record { manager = m .manager; recall = m .recall; writeback = Flight (stamp wts) (stamp rts) }
 
@@ -119,13 +122,13 @@ greatest = 4294967295
 abbrev pub cell : Copy → Cell
 cell x = record { copy = x }
 
--- the state with these pieces. Cores 2 and 3 and lines 2 and 3 lie outside the sizes: core 2 has lts at the greatest timestamp, an answered slot
+-- the state with this lease and these pieces. Cores 2 and 3 and lines 2 and 3 lie outside the sizes: core 2 has lts at the greatest timestamp, an answered slot
 -- and an owned copy of line 1 at the greatest rts; core 3 asked at the greatest timestamp; core 1 has such a copy of line 2 too; line 2 has an
 -- owner, and line 3 an owner who holds no copy and a recall
-abbrev pub stateOf : Pieces → State
-stateOf p =
+abbrev pub stateOf : ℕ → Pieces → State
+stateOf lease p =
     record {
-      opening = record { cores = 2; lines = 2; width = 2; lease = 10 };
+      opening = record { cores = 2; lines = 2; width = 2; lease = lease };
       core =
           core 3 5 (Asked WantStore 0 (stamp 2) NothingHeld) ∷ p .core ∷ core greatest 1 (Answered GrantShare 2 (stamp 1) (stamp 1))
           ∷ core 1 1 (asked WantLoad greatest NothingHeld) ∷ replicate 12 freshCore;
@@ -136,18 +139,8 @@ stateOf p =
       line = withWriteback 5 7 (ownedLine 0 Downgrade) ∷ p .line ∷ ownedLine 2 NoRecall ∷ ownedLine 1 Flush ∷ replicate 60 freshLine;
     }
 
--- the same with another lease
-abbrev pub leased : ℕ → State → State
-leased n s =
-    record {
-      opening = record { cores = s .opening .cores; lines = s .opening .lines; width = s .opening .width; lease = n };
-      core = s .core;
-      cell = s .cell;
-      line = s .line;
-    }
-
 abbrev pub machineOf : ℕ → Pieces → Places → Machine
-machineOf lease p b = machine (leased lease (stateOf p)) (private b) (shared b)
+machineOf lease p b = machine (stateOf lease p) (private b) (shared b)
 
 -- ---- rows
 

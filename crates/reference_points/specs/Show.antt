@@ -11,8 +11,8 @@ use Rattle.protocol.specs.declared.Shown.{Shown}
 use Rattle.protocol.specs.declared.Copy.{Copy}
 use Rattle.protocol.specs.declared.Copy.the-variants.{None as NoCopy}
 use Rattle.protocol.specs.declared.Slot.the-variants.{Empty}
-use Rattle.reference_points.specs.Rows.{core, sharedCopy, cleanCopy, dirtyCopy, sharedLine, pieces, unmoved, private, shared, stateOf, Agree}
-use Rattle.reference_points.specs.Numbers.{idle, misowned}
+use Rattle.reference_points.specs.Rows.{core, sharedCopy, cleanCopy, dirtyCopy, sharedLine, pieces, unmoved, private, shared, Agree}
+use Rattle.reference_points.specs.Numbers.{usual, idle, misowned}
 
 -- a machine, a core and a line, and the part that is shown: its buffer, start and end
 pub record Look : Type 0 where
@@ -26,7 +26,7 @@ look m c l b start end = record { machine = m; core = c; line = l; part = record
 
 -- the machine of the rows, where core 1 has this copy of line 1
 abbrev pub holding : Copy → Machine
-holding x = machine (stateOf (pieces (core 7 9 Empty) x (sharedLine 4 9))) (private unmoved) (shared unmoved)
+holding x = machine (usual (pieces (core 7 9 Empty) x (sharedLine 4 9))) (private unmoved) (shared unmoved)
 
 abbrev pub looks : List Look
 looks =
@@ -41,8 +41,8 @@ looks =
     -- 3, 4, 2 and 1
     ∷ look (holding NoCopy) 2 1 InShared 0 0
     ∷ look (holding NoCopy) 1 2 InShared 0 0
-    ∷ look (machine (stateOf idle) (drop 1 (private unmoved)) (shared unmoved)) 1 1 InShared 0 0
-    ∷ look (machine (stateOf idle) (private unmoved) (drop 1 (shared unmoved))) 0 1 InShared 0 0
+    ∷ look (machine (usual idle) (drop 1 (private unmoved)) (shared unmoved)) 1 1 InShared 0 0
+    ∷ look (machine (usual idle) (private unmoved) (drop 1 (shared unmoved))) 0 1 InShared 0 0
     ∷ look (machine (misowned idle) (private unmoved) (shared unmoved)) 0 1 InShared 0 0
     ∷ []
 

@@ -18,7 +18,7 @@ use Rattle.protocol.specs.declared.Recall.the-variants.{None as NoRecall, Downg
 use Rattle.protocol.specs.declared.Line.{Line}
 use Rattle.protocol.specs.declared.Call.{Call}
 use Rattle.protocol.specs.declared.Call.the-variants.{Load, Store, Evict, Advance, Serve, Receive, Yield, Take}
-use Rattle.reference_points.specs.Rows.{core, asked, answered, sharedCopy, cleanCopy, dirtyCopy, sharedLine, ownedLine, withWriteback, pieces}
+use Rattle.reference_points.specs.Rows.{core, asked, answered, sharedCopy, cleanCopy, dirtyCopy, sharedLine, ownedLine, withRecall, withWriteback, pieces}
 use Rattle.reference_points.specs.Rows.{Places, places, copyBytes, managerBytes, writebackBytes, answerBytes, unmoved, greatest, Row, AllHold}
 
 -- a call that is done: what it answers, the pieces and the bytes after it
@@ -92,10 +92,14 @@ recalling a k k′ =
     doing (pieces (core 7 9 (asked a greatest NothingHeld)) NoCopy (ownedLine 0 k)) (Serve 1) recall
     (pieces (core 7 9 (asked a greatest NothingHeld)) NoCopy (ownedLine 0 k′)) unmoved
 
--- a request at lts 5 for the shared line: what is asked for, the version held; the manager's line; its answer, the slot, the line and the bytes
--- after it
-abbrev pub serving : Want → Held → Line → Done → Slot → Line → Places → Row
-serving a h m d s m′ b = doing (pieces (core 7 9 (asked a 5 h)) NoCopy m) (Serve 1) d (pieces (core 7 9 s) NoCopy m′) b
+-- a request for the shared line: the asked lts, what is asked for, the version held; the manager's line; its answer, the slot, the line and the
+-- bytes after it
+abbrev pub serving : ℕ → Want → Held → Line → Done → Slot → Line → Places → Row
+serving lts a h m d s m′ b = doing (pieces (core 7 9 (asked a lts h)) NoCopy m) (Serve 1) d (pieces (core 7 9 s) NoCopy m′) b
+
+-- a line with a recall and a writeback
+abbrev pub busy : Line → Line
+busy m = withRecall Downgrade (withWriteback 5 6 m)
 
 -- the manager's bytes as the answer
 abbrev pub withBytes : Places
@@ -111,19 +115,23 @@ serveRows =
     ∷ recalling WantStore Downgrade Flush
     ∷ recalling WantStore Flush Flush
     -- "shared, load: rts becomes max(rts, asked lts + lease). If the asked wts equals the manager's, the slot becomes renew, no bytes move"
-    ∷ serving WantLoad (Version (stamp 4)) (sharedLine 4 9) renew (answered GrantRenew 4 15) (sharedLine 4 15) unmoved
-    ∷ serving WantLoad (Version (stamp 0)) (sharedLine 0 0) renew (answered GrantRenew 0 15) (sharedLine 0 15) unmoved
-    ∷ serving WantLoad (Version (stamp 4)) (sharedLine 4 40) renew (answered GrantRenew 4 40) (sharedLine 4 40) unmoved
+    ∷ serving 5 WantLoad (Version (stamp 4)) (sharedLine 4 9) renew (answered GrantRenew 4 15) (sharedLine 4 15) unmoved
+    ∷ serving 5 WantLoad (Version (stamp 0)) (sharedLine 0 0) renew (answered GrantRenew 0 15) (sharedLine 0 15) unmoved
+    ∷ serving 5 WantLoad (Version (stamp 4)) (sharedLine 4 40) renew (answered GrantRenew 4 40) (sharedLine 4 40) unmoved
     -- "otherwise share, with bytes": nothing held, another version held
-    ∷ serving WantLoad NothingHeld (sharedLine 4 9) share (answered GrantShare 4 15) (sharedLine 4 15) withBytes
-    ∷ serving WantLoad NothingHeld (sharedLine 0 0) share (answered GrantShare 0 15) (sharedLine 0 15) withBytes
-    ∷ serving WantLoad (Version (stamp 3)) (sharedLine 4 9) share (answered GrantShare 4 15) (sharedLine 4 15) withBytes
-    ∷ serving WantLoad (Version (stamp 3)) (sharedLine 0 0) share (answered GrantShare 0 15) (sharedLine 0 15) withBytes
-    ∷ serving WantLoad (Version (stamp 0)) (sharedLine 4 40) share (answered GrantShare 4 40) (sharedLine 4 40) withBytes
+    ∷ serving 5 WantLoad NothingHeld (sharedLine 4 9) share (answered GrantShare 4 15) (sharedLine 4 15) withBytes
+    ∷ serving 5 WantLoad NothingHeld (sharedLine 0 0) share (answered GrantShare 0 15) (sharedLine 0 15) withBytes
+    ∷ serving 5 WantLoad (Version (stamp 3)) (sharedLine 4 9) share (answered GrantShare 4 15) (sharedLine 4 15) withBytes
+    ∷ serving 5 WantLoad (Version (stamp 3)) (sharedLine 0 0) share (answered GrantShare 0 15) (sharedLine 0 15) withBytes
+    ∷ serving 5 WantLoad (Version (stamp 0)) (sharedLine 4 40) share (answered GrantShare 4 40) (sharedLine 4 40) withBytes
     -- "shared, store: manager line becomes owned by that core; slot becomes own, with bytes"
-    ∷ serving WantStore NothingHeld (sharedLine 4 9) own (answered GrantOwn 4 9) (ownedLine 1 NoRecall) withBytes
-    ∷ serving WantStore (Version (stamp 4)) (sharedLine 4 9) own (answered GrantOwn 4 9) (ownedLine 1 NoRecall) withBytes
-    ∷ serving WantStore NothingHeld (sharedLine 0 greatest) own (answered GrantOwn 0 greatest) (ownedLine 1 NoRecall) withBytes
+    ∷ serving 5 WantStore NothingHeld (sharedLine 4 9) own (answered GrantOwn 4 9) (ownedLine 1 NoRecall) withBytes
+    ∷ serving 5 WantStore (Version (stamp 4)) (sharedLine 4 9) own (answered GrantOwn 4 9) (ownedLine 1 NoRecall) withBytes
+    ∷ serving greatest WantStore NothingHeld (sharedLine 0 greatest) own (answered GrantOwn 0 greatest) (ownedLine 1 NoRecall) withBytes
+    -- the recall and the writeback stay: take alone ends them
+    ∷ serving 5 WantLoad (Version (stamp 4)) (busy (sharedLine 4 9)) renew (answered GrantRenew 4 15) (busy (sharedLine 4 15)) unmoved
+    ∷ serving 5 WantLoad NothingHeld (busy (sharedLine 4 9)) share (answered GrantShare 4 15) (busy (sharedLine 4 15)) withBytes
+    ∷ serving 5 WantStore NothingHeld (busy (sharedLine 4 9)) own (answered GrantOwn 4 9) (busy (ownedLine 1 NoRecall)) withBytes
     ∷ []
 
 -- ---- receive
