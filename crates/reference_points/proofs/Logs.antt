@@ -1,6 +1,6 @@
 -- Whether a log of numbers obeys TSO, as a test; and the logs.
 use Prim.Native.Nat.{ℕ, _<_}
-use mathlib.Core.Path.{_≡_, refl, sym, subst, ap}
+use mathlib.Core.Path.{_≡_, refl, sym, subst, ap, ap₂}
 use mathlib.Core.Bool.{Bool, true, false}
 use mathlib.Core.Logic.{_⊎_, inl, inr}
 use mathlib.Core.List.{List, [], _∷_}
@@ -100,31 +100,43 @@ sameOp fence (load m y) = false
 sameOp fence (store m y) = false
 sameOp fence fence = true
 
-differ : {A : Type 0} {a b : A} → (a ≡ b → ⊥) → Decides false (a ≡ b)
-differ n = record { holds = λ e. absurd (never e); tests = λ e. absurd (n e) }
+abbrev kind : Op ℕ → ℕ
+kind (load l x) = 0
+kind (store l x) = 1
+kind fence = 2
+
+-- ops of two kinds
+apart : {a b : Op ℕ} → (kind a ≡ kind b → ⊥) → Decides false (a ≡ b)
+apart n = record { holds = λ e. absurd (never e); tests = λ e. absurd (n (ap kind e)) }
+
+numbers-decide : (l m x y : ℕ) → Decides (both (eqb l m) (eqb x y)) ((l ≡ m) × (x ≡ y))
+numbers-decide l m x y = and-decides (eqb l m) (eqb x y) (eq-decides l m) (eq-decides x y)
 
 op-decides : (a b : Op ℕ) → Decides (sameOp a b) (a ≡ b)
 unfolding sameOp
-op-decides (load l x) (load m y) = reworded (λ h. let l = h .0 in let x = h .1 in cc) (λ e. (cc, cc)) (and-decides (eqb l m) (eqb x y) (eq-decides l m) (eq-decides x y))
-op-decides (load l x) (store m y) = differ (λ e. let z : _≡_ {A = ℕ} 0 1 = cc in omega arith)
-op-decides (load l x) fence = differ (λ e. let z : _≡_ {A = ℕ} 0 1 = cc in omega arith)
-op-decides (store l x) (load m y) = differ (λ e. let z : _≡_ {A = ℕ} 0 1 = cc in omega arith)
-op-decides (store l x) (store m y) = reworded (λ h. let l = h .0 in let x = h .1 in cc) (λ e. (cc, cc)) (and-decides (eqb l m) (eqb x y) (eq-decides l m) (eq-decides x y))
-op-decides (store l x) fence = differ (λ e. let z : _≡_ {A = ℕ} 0 1 = cc in omega arith)
-op-decides fence (load m y) = differ (λ e. let z : _≡_ {A = ℕ} 0 1 = cc in omega arith)
-op-decides fence (store m y) = differ (λ e. let z : _≡_ {A = ℕ} 0 1 = cc in omega arith)
+op-decides (load l x) (load m y) = reworded (λ h. ap₂ load (h .0) (h .1)) (λ e. (cc, cc)) (numbers-decide l m x y)
+op-decides (load l x) (store m y) = apart (λ e. omega arith)
+op-decides (load l x) fence = apart (λ e. omega arith)
+op-decides (store l x) (load m y) = apart (λ e. omega arith)
+op-decides (store l x) (store m y) = reworded (λ h. ap₂ store (h .0) (h .1)) (λ e. (cc, cc)) (numbers-decide l m x y)
+op-decides (store l x) fence = apart (λ e. omega arith)
+op-decides fence (load m y) = apart (λ e. omega arith)
+op-decides fence (store m y) = apart (λ e. omega arith)
 op-decides fence fence = record { holds = λ e. refl; tests = λ e. refl }
 
 same : Commit ℕ → Commit ℕ → Bool
 same a b = both (eqb (a .place .0) (b .place .0)) (both (eqb (a .core) (b .core)) (both (eqb (a .ts .0) (b .ts .0)) (sameOp (a .op) (b .op))))
 
-same-at : {p q c d t u : ℕ} {x y : Op ℕ} → (p ≡ q) × ((c ≡ d) × ((t ≡ u) × (x ≡ y))) → at p c t x ≡ at q d u y
-same-at h = let a = h .0 in let b = h .1 .0 in let c = h .1 .1 .0 in let d = h .1 .1 .1 in cc
+abbrev SameParts : Commit ℕ → Commit ℕ → Type 0
+SameParts a b = (a .place .0 ≡ b .place .0) × ((a .core ≡ b .core) × ((a .ts .0 ≡ b .ts .0) × (a .op ≡ b .op)))
+
+same-parts : {p q c d t u : ℕ} {x y : Op ℕ} → SameParts (at p c t x) (at q d u y) → at p c t x ≡ at q d u y
+same-parts h = let p = h .0 in let c = h .1 .0 in let t = h .1 .1 .0 in let o = h .1 .1 .1 in cc
 
 same-decides : (a b : Commit ℕ) → Decides (same a b) (a ≡ b)
 unfolding same
 same-decides a b =
-    reworded same-at (λ e. (ap (λ (k : Commit ℕ). k .place .0) e, (ap (λ (k : Commit ℕ). k .core) e, (ap (λ (k : Commit ℕ). k .ts .0) e, ap (λ (k : Commit ℕ). k .op) e))))
+    reworded same-parts (λ e. subst (SameParts a) e (refl, (refl, (refl, refl))))
     (and-decides _ _ (eq-decides (a .place .0) (b .place .0))
     (and-decides _ _ (eq-decides (a .core) (b .core)) (and-decides _ _ (eq-decides (a .ts .0) (b .ts .0)) (op-decides (a .op) (b .op)))))
 
