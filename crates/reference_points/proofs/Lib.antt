@@ -3,4 +3,5 @@ pub mod Each
 pub mod Rows
 pub mod Lines
 pub mod Sample
+pub mod Decides
 pub mod Logs
