@@ -6,15 +6,15 @@ use mathlib.Core.List.{List, [], _∷_}
 use native.Mathlib.Omega.{arith}
 use lib.Dec.{leb, ltb, eqb, lit≤}
 use lib.ListN.{length, getD}
-use borrow.Author.Tests.{leb-true, ltb-true, eqb-true, eqb-false}
+use borrow.Author.Tests.{leb-true, ltb-true, eqb-false}
 use Rattle.protocol.specs.Pick.{pick, both, every}
 use Rattle.protocol.proofs.Tests.{both-true}
 use Rattle.spelling.specs.Bytes.{All, Byte}
 use Rattle.spelling.specs.Decimal.{decimal, decimalUpTo, greatest}
 use Rattle.spelling.specs.Hex.{hex}
 use Rattle.grammar.specs.Form.{Part, fixed, value, number, pairs, lay, Each as EachValue, Has, Given, spellings, spell}
-use Rattle.grammar.specs.Table.{Row, rowAt, rowsOf, noRow}
-use Rattle.grammar.specs.Line.{said, Fits, Spelt, LineOf, tooLong, noForm, spelt}
+use Rattle.grammar.specs.Table.{Row, rowAt, rowsOf}
+use Rattle.grammar.specs.Line.{said, Fits, LineOf, tooLong, noForm, spelt}
 use Rattle.grammar.specs.declared.Line.{Line}
 use Rattle.grammar.specs.declared.Line.the-variants.{Refused}
 use Rattle.reference_points.specs.Lines.{Written, Says, formless, LinesTheorem}

@@ -4,9 +4,9 @@ use mathlib.Core.Path.{_≡_, refl}
 use mathlib.Core.Bool.{Bool, true}
 use mathlib.Core.List.{List, [], _∷_}
 use native.Mathlib.Omega.{arith}
-use lib.Dec.{leb, ltb, eqb, lit≤}
-use lib.ListN.{length, getD, take, drop}
-use borrow.Author.Tests.{leb-true, ltb-true, eqb-true}
+use lib.Dec.{ltb, eqb, lit≤}
+use lib.ListN.{length, take, drop}
+use borrow.Author.Tests.{ltb-true, eqb-true}
 use Rattle.protocol.specs.Pick.{both}
 use Rattle.protocol.specs.Run.{run}
 use Rattle.protocol.proofs.Tests.{both-true}
@@ -18,7 +18,7 @@ use Rattle.grammar.specs.Table.{rowAt, rowsOf}
 use Rattle.journal.specs.Journal.{placed, NextOf, ended}
 use Rattle.journal.proofs.Lines.{line-answer}
 use Rattle.listing.specs.Record.{recordText, endText}
-use Rattle.driver.specs.Listing.{Data, noData, someData, Between, noLine, aLine, atEnd, lines, count, opens}
+use Rattle.driver.specs.Listing.{Data, noData, someData, noLine, aLine, atEnd, lines, count, opens}
 use Rattle.reference_points.specs.Sample.{sampleJournal, SampleTheorem}
 use Rattle.reference_points.proofs.Rows.{calling}
 use Rattle.reference_points.proofs.Lines.{takes, saying, spelt-line}
@@ -43,6 +43,7 @@ line form at e k ns bs h same =
     line-answer sampleJournal at e form (saying (rowsOf form) k ns bs (from at e)) (lit≤ tt) (eqb-true e (at + length (upTo 10 (drop at sampleJournal))) (t .0))
     (ltb-true e (length sampleJournal) (u .0)) (spelt-line (rowsOf form) k ns bs (from at e) (u .1) same)
 
+-- the data of the two stores
 seven : {digits : List ℕ} → digits ≡ hex (7 ∷ []) → Data digits (7 ∷ [])
 seven e = someData {bs = 7 ∷ []} (record { some = lit≤ tt; bytes = (lit≤ tt, tt); same = e })
 

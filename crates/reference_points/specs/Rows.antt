@@ -4,7 +4,7 @@
 -- of their own, and so do cores and lines outside the sizes, so that a step which looks or writes elsewhere shows. No two bytes are equal.
 use Prim.Native.Nat.{ℕ}
 use mathlib.Core.Path.{_≡_}
-use mathlib.Core.Bool.{Bool, true, false}
+use mathlib.Core.Bool.{true, false}
 use mathlib.Core.List.{List, [], _∷_, _++_}
 use lib.ListN.{replicate}
 use Rattle.protocol.specs.Stamps.{stamp}
