@@ -1,12 +1,13 @@
 //! Runs generated journals through a program and through the reference and
 //! compares the whole listings byte for byte.
 //!
-//! Usage: compare [--count N] [--first SEED] [--limit SECONDS] [PROGRAM]
+//! Usage: compare [--count N] [--first SEED] [--limit SECONDS] PROGRAM
+//!        compare [--count N] [--first SEED] [--fault NAME]
 //!        compare --print SEED
 //!
-//! Without a program it checks the reference itself: demand 3 on the commits of
-//! every journal. It then also says how many journals show each fault by a
-//! listing or by demand 3.
+//! Without a program it checks the reference itself, or one with a fault: demand
+//! 3 on the commits of every journal. It then also says how many journals show
+//! each fault by a listing or by demand 3.
 //!
 //! Either way it fails where the journals never meet a row of `coverage::rows`:
 //! few journals prove little.
@@ -22,7 +23,7 @@ use reference::faults::Fault;
 use reference::generate;
 use reference::listing::{listing, listing_with_fault};
 use reference::order::{self, Ties};
-use reference::program;
+use reference::program::{self, Failure};
 use reference::run::Run;
 use reference::shrink::shrink;
 
@@ -34,13 +35,22 @@ struct Options {
     count: u64,
     first: u64,
     patience: Duration,
+    fault: Fault,
     program: Option<String>,
 }
 
 fn main() -> ExitCode {
-    let mut options = Options { count: 5000, first: 1, patience: program::PATIENCE, program: None };
+    let mut options =
+        Options { count: 5000, first: 1, patience: program::PATIENCE, fault: Fault::None, program: None };
     let mut arguments = std::env::args().skip(1);
     while let Some(argument) = arguments.next() {
+        if argument == "--fault" {
+            match arguments.next().as_deref().and_then(Fault::named) {
+                Some(fault) => options.fault = fault,
+                None => return usage(),
+            }
+            continue;
+        }
         let mut number = || arguments.next().and_then(|text| text.parse::<u64>().ok());
         match argument.as_str() {
             "--count" => options.count = number().unwrap_or(0),
@@ -51,13 +61,19 @@ fn main() -> ExitCode {
         }
     }
     if options.count == 0 {
-        eprintln!("usage: compare [--count N] [--first SEED] [--limit SECONDS] [PROGRAM] | --print SEED");
-        return ExitCode::from(2);
+        return usage();
     }
     match &options.program {
         Some(program) => compare(&options, program),
         None => self_test(&options),
     }
+}
+
+fn usage() -> ExitCode {
+    eprintln!(
+        "usage: compare [--count N] [--first SEED] [--limit SECONDS | --fault NAME] [PROGRAM] | --print SEED"
+    );
+    ExitCode::from(2)
 }
 
 fn print(seed: u64) -> ExitCode {
@@ -138,13 +154,16 @@ fn compare(options: &Options, program: &str) -> ExitCode {
 }
 
 /// Shrinks the seed's journal and prints it with both listings.
-fn show_difference(seed: u64, run: impl Fn(&[u8]) -> Result<Vec<u8>, program::Failure>) {
+fn show_difference(seed: u64, run: impl Fn(&[u8]) -> Result<Vec<u8>, Failure>) {
     let journal = generate::journal(seed);
     let start = Instant::now();
     let differs = |candidate: &[u8]| {
         start.elapsed() < TIME_TO_SHRINK && !run(candidate).is_ok_and(|text| text == listing(candidate))
     };
-    let small = shrink(&journal, TRIES, differs);
+    let small = match run(&journal) {
+        Err(Failure::Hangs) => journal,
+        _ => shrink(&journal, TRIES, differs),
+    };
     println!("seed {seed}: the listings differ. The smallest journal found ({} bytes):", small.len());
     print_text(&small);
     println!("the reference's listing:");
@@ -178,9 +197,13 @@ fn self_test(options: &Options) -> ExitCode {
     for_each_seed(options, |seed| {
         let journal = generate::journal(seed);
         let mut own = Coverage::default();
-        let made = order::commits(&own.run(&journal));
+        let records = own.run(&journal);
         coverage.lock().unwrap().add(&own);
-        if let Err(trouble) = order::check(&made, Ties::ByPlace) {
+        let records = match options.fault {
+            Fault::None => records,
+            fault => Run::with_fault(&journal, fault).collect(),
+        };
+        if let Err(trouble) = order::check(&order::commits(&records), Ties::ByPlace) {
             failed.lock().unwrap().push((seed, trouble));
         }
         // Every tenth short journal is enough to see what faults do.
