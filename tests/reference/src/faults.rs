@@ -265,7 +265,9 @@ impl Faulty {
             Fault::SharedEvictDropsWriteback => self.shared_evict(step, before, answer, false),
             Fault::SharedEvictWritesBack => self.shared_evict(step, before, answer, true),
             Fault::OwnLineGranted => self.own_line_granted(step, before, answer),
-            Fault::AnswersAtCore0 => self.answers_at(step, before, answer, |machine, _| machine.answer_place(0)),
+            Fault::AnswersAtCore0 => {
+                self.answers_at(step, before, answer, |machine, _| machine.answer_place(0))
+            }
             Fault::AnswersOverWritebacks => self.answers_at(step, before, answer, Machine::writeback_place),
             Fault::WritebacksAtLine0 => self.writebacks_at_line_0(step, before, answer),
             Fault::RefusalChangesClock => self.refusal_changes_clock(step, answer),
