@@ -9,6 +9,8 @@ use Rattle.grammar.specs.Line.{LineOf}
 use Rattle.grammar.specs.declared.Line.{Line}
 use Rattle.grammar.specs.declared.Line.the-variants.{Opening as OpeningLine, Step as StepLine, Refused as RefusedLine}
 use Rattle.journal.specs.declared.Next.{Next}
+use Rattle.journal.specs.declared.Read.{Read}
+use Rattle.journal.specs.declared.Reader.{Reader}
 use Rattle.journal.specs.declared.Next.the-variants.{Opening, Step, End, Refused}
 
 -- the lines of a journal joined, each with its newline (10)
@@ -54,3 +56,13 @@ formAfter form (Opening named sizes next) = named
 formAfter form (Step call start end next) = form
 formAfter form End = form
 formAfter form (Refused n) = form
+
+-- one reading at a place: the answer, and the place and the form after it
+pub record ReadOf (journal : List ℕ) (at form : ℕ) (r : Read) : Type 0 where
+  pub found : NextOf journal at form (r .next)
+  pub place : r .at ≡ placeAfter at (r .next)
+  pub formed : r .form ≡ formAfter form (r .next)
+
+-- the reader after an answer: the same bytes at the same place in memory, and the place and the form after it
+abbrev pub readerAfter : Reader → Next → Reader
+readerAfter r n = record { journal = r .journal; at = placeAfter (r .at) n; form = formAfter (r .form) n }
