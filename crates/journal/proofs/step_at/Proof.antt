@@ -12,7 +12,7 @@ use Rattle.journal.proofs.step_at.Statement.{statement}
 use Rattle.journal.proofs.step_at.Tie as tie
 
 returns : tie.Need-returns
-returns c = tooMuch (c .if1 .taken)
+returns c = tooMuch (omega (arith, c .if1 .taken))
 
 returns-2 : tie.Need-returns-2
 returns-2 c = empty (omega arith) (omega arith) (c .if3 .taken)
