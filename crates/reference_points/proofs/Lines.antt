@@ -148,7 +148,7 @@ lines-theorem =
                   (
                     step-line 5 (3 ∷ []) [] _ refl refl,
                     (
-                      step-line 6 (3 ∷ 4 ∷ []) [] _ refl refl,
+                      step-line 6 (3 ∷ 4294967295 ∷ []) [] _ refl refl,
                       (step-line 7 (3 ∷ []) [] _ refl refl, (step-line 8 (3 ∷ []) [] _ refl refl, tt)),
                     ),
                   ),

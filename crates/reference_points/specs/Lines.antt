@@ -42,7 +42,7 @@ readLines =
     ∷ spoken 1 (text "op=fence core=3") (Step (Fence 3) 15 15)
     ∷ spoken 1 (text "op=serve core=3") (Step (Serve 3) 15 15)
     ∷ spoken 1 (text "op=receive core=3") (Step (Receive 3) 17 17)
-    ∷ spoken 1 (text "op=advance core=3 by=4") (Step (Advance 3 4) 22 22)
+    ∷ spoken 1 (text "op=advance core=3 by=4294967295") (Step (Advance 3 4294967295) 31 31)
     ∷ spoken 1 (text "op=yield line=3") (Step (Yield 3) 15 15)
     ∷ spoken 1 (text "op=take line=3") (Step (Take 3) 14 14)
     ∷ []
