@@ -6,12 +6,9 @@ use lib.ListN.{length}
 use denote.Ref.{RefT, ptr, now}
 use Rattle.protocol.specs.Buffers.{Bytes, part}
 use Rattle.protocol.specs.Machine.{machine}
-use Rattle.protocol.specs.Step.{meaning, openReply, opened, shown}
+use Rattle.protocol.specs.Step.{meaning, openReply, opened, Buffer, inPrivate, inShared, Shown, shown}
 use Rattle.protocol.specs.declared.Opening.{Opening}
 use Rattle.protocol.specs.declared.State.{State}
-use Rattle.protocol.specs.declared.Buffer.{Buffer}
-use Rattle.protocol.specs.declared.Buffer.the-variants.{Private as InPrivate, Shared as InShared}
-use Rattle.protocol.specs.declared.Shown.{Shown}
 use Rattle.engine.specs.declared.Opened.{Opened}
 
 -- open: the answer in the scope document's terms, and the fresh state
@@ -27,8 +24,8 @@ pub record PartOf (s : RefT Bytes) (start count : ℕ) (r : RefT Bytes) : Type 0
 
 -- which of the two lent slices a buffer is, the private one p or the shared one q
 abbrev pub lentAs : Buffer → RefT Bytes → RefT Bytes → RefT Bytes
-lentAs InPrivate p q = p
-lentAs InShared p q = q
+lentAs inPrivate p q = p
+lentAs inShared p q = q
 
 -- r is the part that x names of the lent slices p and q
 abbrev pub IsPart : Shown → RefT Bytes → RefT Bytes → RefT Bytes → Type 0

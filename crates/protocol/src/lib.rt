@@ -54,11 +54,7 @@ impl Stamp {
     pub fn later(self, other: Stamp) -> Stamp
         ensures { λ r. ⌜ r ≡ later self other ⌝ }
     {
-        if self.earlier(other) {
-            other
-        } else {
-            self
-        }
+        if self.earlier(other) { other } else { self }
     }
 
     // Whether the timestamp n later is still one.
@@ -425,17 +421,4 @@ pub struct Effect {
     pub core: Core,
     pub copy: Copy,
     pub line: Line,
-}
-
-// One of the two lent buffers.
-pub enum Buffer {
-    Private,
-    Shared,
-}
-
-// The part of a buffer that `show` hands out.
-pub struct Shown {
-    pub buffer: Buffer,
-    pub start: usize,
-    pub end: usize,
 }

@@ -4,10 +4,7 @@ use Prim.Native.Nat.{ℕ}
 use mathlib.Core.List.{List, [], _∷_}
 use lib.ListN.{drop}
 use Rattle.protocol.specs.Machine.{Machine, machine}
-use Rattle.protocol.specs.Step.{shown}
-use Rattle.protocol.specs.declared.Buffer.{Buffer}
-use Rattle.protocol.specs.declared.Buffer.the-variants.{Private as InPrivate, Shared as InShared}
-use Rattle.protocol.specs.declared.Shown.{Shown}
+use Rattle.protocol.specs.Step.{Buffer, inPrivate, inShared, Shown, shown}
 use Rattle.protocol.specs.declared.Copy.{Copy}
 use Rattle.protocol.specs.declared.Copy.the-variants.{None as NoCopy}
 use Rattle.protocol.specs.declared.Slot.the-variants.{Empty}
@@ -31,19 +28,19 @@ holding x = machine (usual (pieces (core 7 9 Empty) x (sharedLine 4 9))) (privat
 abbrev pub looks : List Look
 looks =
     -- a copy is held: "the copy of core c, line l starts at (c × lines + l) × width"
-    look (holding (sharedCopy 4 9)) 1 1 InPrivate 6 8
-    ∷ look (holding (cleanCopy 4 9)) 1 1 InPrivate 6 8
-    ∷ look (holding (dirtyCopy 4 9)) 1 1 InPrivate 6 8
-    ∷ look (holding NoCopy) 1 0 InPrivate 4 6
-    ∷ look (holding NoCopy) 0 1 InPrivate 2 4
+    look (holding (sharedCopy 4 9)) 1 1 inPrivate 6 8
+    ∷ look (holding (cleanCopy 4 9)) 1 1 inPrivate 6 8
+    ∷ look (holding (dirtyCopy 4 9)) 1 1 inPrivate 6 8
+    ∷ look (holding NoCopy) 1 0 inPrivate 4 6
+    ∷ look (holding NoCopy) 0 1 inPrivate 2 4
     -- none is held: "manager line l at l × width"
-    ∷ look (holding NoCopy) 1 1 InShared 2 4
+    ∷ look (holding NoCopy) 1 1 inShared 2 4
     -- 3, 4, 2 and 1
-    ∷ look (holding NoCopy) 2 1 InShared 0 0
-    ∷ look (holding NoCopy) 1 2 InShared 0 0
-    ∷ look (machine (usual idle) (drop 1 (private unmoved)) (shared unmoved)) 1 1 InShared 0 0
-    ∷ look (machine (usual idle) (private unmoved) (drop 1 (shared unmoved))) 0 1 InShared 0 0
-    ∷ look (machine (misowned idle) (private unmoved) (shared unmoved)) 0 1 InShared 0 0
+    ∷ look (holding NoCopy) 2 1 inShared 0 0
+    ∷ look (holding NoCopy) 1 2 inShared 0 0
+    ∷ look (machine (usual idle) (drop 1 (private unmoved)) (shared unmoved)) 1 1 inShared 0 0
+    ∷ look (machine (usual idle) (private unmoved) (drop 1 (shared unmoved))) 0 1 inShared 0 0
+    ∷ look (machine (misowned idle) (private unmoved) (shared unmoved)) 0 1 inShared 0 0
     ∷ []
 
 abbrev pub isShown : Look → Shown

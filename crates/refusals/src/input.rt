@@ -83,7 +83,11 @@ fn slots_fit(opening: Opening, core: [Core; Opening::MOST_CORES]) -> bool
 }
 
 // Whether refusal 1 does not apply.
-pub fn state_fits(opening: Opening, core: [Core; Opening::MOST_CORES], line: [Line; Opening::MOST_LINES]) -> bool
+pub fn state_fits(
+    opening: Opening,
+    core: [Core; Opening::MOST_CORES],
+    line: [Line; Opening::MOST_LINES],
+) -> bool
     ensures { λ r. ⌜ r ≡ stateFits (machineWith opening core line 0 0 .state) ⌝ }
 {
     if !opening.fits() {
