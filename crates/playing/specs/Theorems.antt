@@ -1,0 +1,65 @@
+-- The theorems about the driver: what its calls write is the listing, and everything has exactly one answer.
+use Prim.Native.Nat.{ℕ}
+use mathlib.Core.Path.{_≡_}
+use mathlib.Core.List.{List}
+use Rattle.protocol.specs.Buffers.{Bytes}
+use Rattle.protocol.specs.Run.{Given}
+use Rattle.driver.specs.Listing.{Ending}
+use Rattle.driver.specs.Play.{Plays, Starts}
+use Rattle.driver.specs.declared.Standing.{Standing}
+use Rattle.driver.specs.declared.Played.{Played}
+use Rattle.playing.specs.Listing.{Reads, Listing}
+use Rattle.playing.specs.Calls.{joined, Playing}
+
+-- ---- the listing
+
+-- the steps that a journal spells from a place on and how it ends, and no others
+pub record OneReading (journal : Bytes) (form at : ℕ) : Type 0 where
+  pub steps : List Given
+  pub ending : Ending
+  pub holds : Reads journal form at steps ending
+  pub only : (gs : List Given) (e : Ending) → Reads journal form at gs e → (gs ≡ steps) × (e ≡ ending)
+
+-- a journal whose first line was read reads in exactly one way from each place
+abbrev pub OneReadingTheorem : Type 0
+OneReadingTheorem = (journal : Bytes) (form at : ℕ) → (form ≡ 0 → ⊥) → OneReading journal form at
+
+-- a journal's listing, and no other
+pub record OneListing (journal : Bytes) : Type 0 where
+  pub text : Bytes
+  pub holds : Listing journal text
+  pub only : (t : Bytes) → Listing journal t → t ≡ text
+
+-- every journal has exactly one listing
+abbrev pub OneListingTheorem : Type 0
+OneListingTheorem = (journal : Bytes) → OneListing journal
+
+-- what `start` and `play` write for a journal, put together, is its listing
+abbrev pub WholeTheorem : Type 0
+WholeTheorem = (journal : Bytes) (texts : List Bytes) → Playing journal texts → Listing journal (joined texts)
+
+-- ---- one answer
+
+-- what a call of `start` leaves: the value that it returns, and the output
+pub record Started : Type 0 where
+  pub played : Played
+  pub out : Bytes
+
+-- what a call of `play` leaves: the value that it returns, both buffers and the output
+pub record Left : Type 0 where
+  pub played : Played
+  pub private : Bytes
+  pub shared : Bytes
+  pub out : Bytes
+
+-- for a journal and an output, no two answers of `start` meet its contract
+abbrev pub StartOneTheorem : Type 0
+StartOneTheorem =
+    (journal old : Bytes) (a b : Started) → Starts journal old (a .out) (a .played) → Starts journal old (b .out) (b .played) → a ≡ b
+
+-- for a journal, a standing, the buffers p and q and an output, no two answers of `play` meet its contract
+abbrev pub PlayOneTheorem : Type 0
+PlayOneTheorem =
+    (journal : Bytes) (from : Standing) (p q old : Bytes) (a b : Left)
+    → Plays journal from p q old (a .private) (a .shared) (a .out) (a .played)
+    → Plays journal from p q old (b .private) (b .shared) (b .out) (b .played) → a ≡ b
