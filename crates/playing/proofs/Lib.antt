@@ -2,7 +2,7 @@
 pub mod OneReading
 pub mod OneListing
 pub mod Whole
-pub mod Onward
 pub mod Writing
 pub mod StartOne
 pub mod PlayOne
+pub mod Progressing

@@ -1,12 +1,16 @@
--- The theorems about the driver: what its calls write is the listing, and everything has exactly one answer.
-use Prim.Native.Nat.{ℕ}
+-- The theorems about the driver: what its calls write is the listing, everything has exactly one answer, and with room the calls come on.
+use Prim.Native.Nat.{ℕ, _≤_, _<_}
 use mathlib.Core.Path.{_≡_}
+use mathlib.Core.Bool.{true}
 use mathlib.Core.List.{List}
+use lib.ListN.{length}
 use Rattle.protocol.specs.Buffers.{Bytes}
 use Rattle.protocol.specs.Run.{Given}
 use Rattle.driver.specs.Listing.{Ending}
-use Rattle.driver.specs.Play.{Plays, Starts}
+use Rattle.driver.specs.Play.{stands, Plays, Starts}
 use Rattle.driver.specs.declared.Standing.{Standing}
+use Rattle.driver.specs.declared.Progress.{Progress}
+use Rattle.driver.specs.declared.Progress.the-variants.{Done, More}
 use Rattle.driver.specs.declared.Played.{Played}
 use Rattle.playing.specs.Listing.{Reads, Listing}
 use Rattle.playing.specs.Calls.{joined, Playing}
@@ -63,3 +67,30 @@ PlayOneTheorem =
     (journal : Bytes) (from : Standing) (p q old : Bytes) (a b : Left)
     → Plays journal from p q old (a .private) (a .shared) (a .out) (a .played)
     → Plays journal from p q old (b .private) (b .shared) (b .out) (b .played) → a ≡ b
+
+-- ---- with room the calls come on
+
+-- what is written in one piece has at most so many bytes: a line's numbers have twenty digits at most, and its data are 64 bytes at most
+abbrev pub pieceBytes : ℕ
+pieceBytes = 246
+
+-- the whole listing is written, or a run stands where `play` goes on from
+pub data Begun (journal : Bytes) (there : Standing) : Progress → Type 0 where
+  listed : Begun journal there Done
+  running : stands (length journal) there ≡ true → Begun journal there More
+
+-- a call of `start` with room for a piece comes to one of them
+abbrev pub StartComesOnTheorem : Type 0
+StartComesOnTheorem =
+    (journal old new : Bytes) (r : Played) → Starts journal old new r → pieceBytes ≤ length old → Begun journal (r .standing) (r .progress)
+
+-- the listing's last line is written, or the run stands further on in the journal, where `play` goes on from
+pub data Onward (journal : Bytes) (from there : Standing) : Progress → Type 0 where
+  finished : Onward journal from there Done
+  further : from .at < there .at → stands (length journal) there ≡ true → Onward journal from there More
+
+-- a call of `play` from where a run may stand, with room for a piece, comes to one of them: so the calls come to the listing's end
+abbrev pub PlayComesOnTheorem : Type 0
+PlayComesOnTheorem =
+    (journal : Bytes) (from : Standing) (p q old p' q' new : Bytes) (r : Played) → Plays journal from p q old p' q' new r
+    → stands (length journal) from ≡ true → pieceBytes ≤ length old → Onward journal from (r .standing) (r .progress)
