@@ -18,7 +18,8 @@ use Rattle.grammar.specs.Table.{rowAt, rowsOf}
 use Rattle.journal.specs.Journal.{placed, NextOf, ended}
 use Rattle.journal.proofs.Lines.{line-answer}
 use Rattle.listing.specs.Record.{recordText, endText}
-use Rattle.driver.specs.Listing.{Data, noData, someData, noLine, aLine, atEnd, lines, count, opens}
+use Rattle.driver.specs.Listing.{Data, noData, someData, noLine, aLine, atEnd, lines, count}
+use Rattle.playing.specs.Listing.{opens}
 use Rattle.reference_points.specs.Sample.{sampleJournal, SampleTheorem}
 use Rattle.reference_points.proofs.Rows.{calling}
 use Rattle.reference_points.proofs.Lines.{takes, saying, spelt-line}

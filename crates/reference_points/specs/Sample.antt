@@ -2,7 +2,7 @@
 use mathlib.Core.List.{_++_}
 use Rattle.protocol.specs.Buffers.{Bytes}
 use Rattle.spelling.specs.Text.{text}
-use Rattle.driver.specs.Listing.{Listing}
+use Rattle.playing.specs.Listing.{Listing}
 
 -- "Given"
 abbrev pub sampleJournal : Bytes

@@ -14,7 +14,7 @@ use Rattle.protocol.specs.Buffers.{Bytes, copyStart, copyBytes}
 use Rattle.protocol.specs.Machine.{Machine, machine}
 use Rattle.protocol.specs.Refusals.{openRefusal, callRefusal, refusal}
 use Rattle.protocol.specs.Step.{«open», Reply, refused, done as reply, commit, meaning, commitBytes, openReply, accepted, step}
-use Rattle.protocol.specs.Run.{Given, Record, place}
+use Rattle.protocol.specs.Run.{Given, Record, place, run}
 use Rattle.protocol.specs.declared.Place.{Place}
 use Rattle.protocol.specs.declared.Opening.{Opening as Sizes}
 use Rattle.protocol.specs.declared.Call.{Call}
@@ -30,18 +30,18 @@ use Rattle.journal.specs.Journal.{placed, LineAt, NextOf, tooMuch, empty, ended
 use Rattle.journal.specs.declared.Next.{Next}
 use Rattle.listing.specs.Record.{recordText}
 use Rattle.listing.proofs.Lengths.{record-length, end-length}
-use Rattle.driver.specs.Listing.{Ending, ended, stopped, isCommit, isRefusal, count, Counts, lastLines, notOpened}
+use Rattle.driver.specs.Listing.{Ending, ended, stopped, Between, noLine, aLine, lines, isCommit, isRefusal, count, Counts, lastLines, notOpened}
 use Rattle.driver.specs.Play.{countsOf, runFrom, stands, Leads, Piece, aStep, theEnd, Tells, done, more, unfit, Plays}
 use Rattle.driver.specs.Play.{opened, Begins, opens, fails as turned, noRoom, noRoomToEnd, Starts}
 use Rattle.driver.specs.declared.Standing.{Standing}
 use Rattle.driver.specs.declared.Progress.{Progress}
-use Rattle.driver.specs.declared.Progress.the-variants.{Done, More, Short}
+use Rattle.driver.specs.declared.Progress.the-variants.{More, Short}
 use Rattle.driver.specs.declared.Played.{Played}
-use Rattle.driver.proofs.Reading.{known, steps-long, steps-inside}
+use Rattle.driver.proofs.Reading.{known}
 use Rattle.driver.proofs.Running.{run-length}
 use Rattle.driver.proofs.Putting.{refused-length}
 use Rattle.driver.proofs.Going.{met}
-use Rattle.driver.proofs.Whole.{play-onward}
+use Rattle.playing.specs.Theorems.{pieceBytes, Begun, listed, running, Onward, finished, further, StartComesOnTheorem, PlayComesOnTheorem}
 
 -- ---- how long a piece is
 
@@ -64,13 +64,13 @@ commit-few (Yield b) o p bs c l e = copy-few o p c l
 commit-few (Take b) o p bs c l e = copy-few o p c l
 
 -- a step's line: 118 bytes beside its data, where each number has twenty digits, and two digits for each of 64 bytes
-pub step-length : (at : Place) (m : Machine) (call : Call) (bs : Bytes) → length (recordText at (step m call bs .reply)) ≤ 246
+step-length : (at : Place) (m : Machine) (call : Call) (bs : Bytes) → length (recordText at (step m call bs .reply)) ≤ pieceBytes
 unfolding step accepted
 step-length at m call bs = go (eqb (refusal m call (length bs)) 0) refl _ _ _
   where
     go :
         (b : Bool) → eqb (refusal m call (length bs)) 0 ≡ b → (c l : ℕ) (d : Effect)
-        → length (recordText at (pick b (accepted m call bs c l d) (record { reply = refused (refusal m call (length bs)); machine = m }) .reply)) ≤ 246
+        → length (recordText at (pick b (accepted m call bs c l d) (record { reply = refused (refusal m call (length bs)); machine = m }) .reply)) ≤ pieceBytes
     go true e c l d =
         let k = not-refused m call (length bs) (eqb-true _ 0 e) in
         let i = inside (m .state .opening) (machine-fit m (k .machineOk) .opening) in
@@ -79,13 +79,13 @@ step-length at m call bs = go (eqb (refusal m call (length bs)) 0) refl _ _ _
     go false e c l d = omega (arith, refused-length at (refusal m call (length bs)))
 
 -- the last lines of a run
-pub last-length : (k : Counts) (e : Ending) → length (lastLines k e) ≤ 246
+last-length : (k : Counts) (e : Ending) → length (lastLines k e) ≤ pieceBytes
 last-length k ended = omega (arith, end-length (k .steps) (k .commits) (k .refusals))
 last-length k (stopped n) =
     simp length-append (omega (arith, refused-length (place (k .steps + 1)) n, end-length (k .steps + 1) (k .commits) (k .refusals + 1)))
 
 -- what is written next, whatever it is
-pub piece-length : {j : Bytes} {s : Standing} {p q t : Bytes} → Piece j s p q t → length t ≤ 246
+piece-length : {j : Bytes} {s : Standing} {p q t : Bytes} → Piece j s p q t → length t ≤ pieceBytes
 piece-length {s = s} {p} {q} (aStep {call = call} {bs = bs} x d) = step-length (place (s .steps + 1)) (machine (s .state) p q) call bs
 piece-length {s = s} (theEnd {e = e} x) = last-length (countsOf s) e
 
@@ -93,52 +93,68 @@ piece-length {s = s} (theEnd {e = e} x) = last-length (countsOf s) e
 
 told-room :
     {j : Bytes} {from : Standing} {p q : Bytes} {there : Standing} {p' q' text : Bytes} {room : ℕ} {g : Progress} → Tells j from p q there p' q' text room g
-    → g ≡ More → room < 246
+    → g ≡ More → room < pieceBytes
 told-room (done s l r t) e = absurd (let z : _≡_ {A = ℕ} 0 1 = cc in omega arith)
 told-room (more s l t x h) e = omega (arith, piece-length x)
 told-room (unfit s a b d t) e = absurd (let z : _≡_ {A = ℕ} 0 1 = cc in omega arith)
 
 -- A CALL OF `play` THAT GOES ON leaves fewer than 246 bytes of the output unwritten
-pub play-fills :
+play-fills :
     {j : Bytes} {from : Standing} {p q old p' q' new : Bytes} {r : Played} → Plays j from p q old p' q' new r → r .progress ≡ More
-    → length new < r .written + 246
+    → length new < r .written + pieceBytes
 play-fills x e = let h = told-room (x .tells) e in omega (arith, x .within)
 
 -- so to an output of 246 bytes or more it wrote something
-pub play-writes :
+play-writes :
     {j : Bytes} {from : Standing} {p q old p' q' new : Bytes} {r : Played} → Plays j from p q old p' q' new r → r .progress ≡ More
-    → 246 ≤ length new → 0 < r .written
+    → pieceBytes ≤ length new → 0 < r .written
 play-writes x e h = let f = play-fills x e in omega arith
 
 -- ---- start
 
 -- the line of an opening, and the listing of a journal that opens no engine
-pub opening-length : (o : Sizes) → length (recordText (place 0) (openReply o)) ≤ 246
+opening-length : (o : Sizes) → length (recordText (place 0) (openReply o)) ≤ pieceBytes
 unfolding meaning
 opening-length o = go (eqb (openRefusal o) 0)
   where
-    go : (b : Bool) → length (recordText (place 0) (pick b (reply «open») (refused (openRefusal o)))) ≤ 246
+    go : (b : Bool) → length (recordText (place 0) (pick b (reply «open») (refused (openRefusal o)))) ≤ pieceBytes
     go true = omega (arith, record-length (place 0) Open [])
     go false = omega (arith, refused-length (place 0) (openRefusal o))
 
-pub turned-length : (n : ℕ) → length (notOpened n) ≤ 246
+turned-length : (n : ℕ) → length (notOpened n) ≤ pieceBytes
 turned-length n = simp length-append (omega (arith, refused-length (place 0) n, end-length 0 0 1))
 
 begun-room :
     {j : Bytes} {there : Standing} {text : Bytes} {room : ℕ} {g : Progress} → Begins j there text room g → g ≡ Short
-    → (room < 246) × (text ≡ [])
+    → (room < pieceBytes) × (text ≡ [])
 begun-room (opens x h t u) e = absurd (let z : _≡_ {A = ℕ} 0 1 = cc in omega arith)
 begun-room (turned n t u) e = absurd (let z : _≡_ {A = ℕ} 0 1 = cc in omega arith)
 begun-room (noRoom {o = o} x h t u r) e = (omega (arith, opening-length o), u)
 begun-room (noRoomToEnd {n = n} x t u r) e = (omega (arith, turned-length n), u)
 
 -- A CALL OF `start` with an output of 246 bytes or more is never short of room
-pub start-writes : {j old new : Bytes} {r : Played} → Starts j old new r → 246 ≤ length new → r .progress ≡ Short → ⊥
+start-writes : {j old new : Bytes} {r : Played} → Starts j old new r → pieceBytes ≤ length new → r .progress ≡ Short → ⊥
 start-writes {new = new} {r = r} x h e =
     let b = begun-room (x .begins) e in
     omega (arith, b .0, ap length (b .1), length-take-le (r .written) new (x .within))
 
 -- ---- the run comes to its end
+
+-- a step takes a byte of the journal or more
+steps-long : {j : Bytes} {form at to : ℕ} {gs : List Given} → Between j form at gs to → at + length gs ≤ to
+steps-long noLine = omega arith
+steps-long (aLine x d r) = omega (arith, known x .1 .forward, steps-long r)
+
+-- and stays inside it
+steps-inside : {j : Bytes} {form at to : ℕ} {gs : List Given} → Between j form at gs to → at ≤ length j → to ≤ length j
+steps-inside noLine h = h
+steps-inside (aLine x d r) h = steps-inside r (known x .1 .inside)
+
+-- where a line is written, a step was made
+lines-some : (gs : List Given) (n : ℕ) (m : Machine) → 0 < length (lines (run gs n m .records)) → 0 < length gs
+unfolding run lines
+lines-some [] n m h = absurd (omega arith)
+lines-some (g ∷ gs) n m h = omega arith
 
 -- the place after an answer lies in the journal
 line-inside : (j : Bytes) (at : ℕ) (l : Bytes) (next : ℕ) → LineAt j at l next → next ≤ length j
@@ -204,28 +220,18 @@ leads-stand {j} {from} {p} {q} {gs} {there} s l =
     (omega (arith, m .few-steps)) (omega (arith, m .few-commits, count-few isCommit commit-one rs))
     (omega (arith, m .few-refusals, count-few isRefusal refusal-one rs))
 
--- what a call of `play` with room comes to: the listing's last line is written, or the run stands further on, where `play` goes on from
-pub data Onward (j : Bytes) (from there : Standing) : Progress → Type 0 where
-  finished : Onward j from there Done
-  further : from .at < there .at → stands (length j) there ≡ true → Onward j from there More
-
 told-onward :
     {j : Bytes} {from : Standing} {p q : Bytes} {there : Standing} {p' q' text : Bytes} {room : ℕ} {g : Progress} → Tells j from p q there p' q' text room g
-    → stands (length j) from ≡ true → (g ≡ More → from .at < there .at) → Onward j from there g
+    → stands (length j) from ≡ true → (g ≡ More → 0 < length text) → Onward j from there g
 told-onward (done s l r t) e h = finished
-told-onward (more s l t x r) e h = further (h refl) (leads-stand s l)
+told-onward {from = from} {p} {q} (more {gs = gs} s l t x r) e h =
+    let n = lines-some gs (from .steps + 1) (machine (from .state) p q) (rw t at (h refl)) in
+    further (omega (arith, steps-long (l .steps))) (leads-stand s l)
 told-onward (unfit s a b d t) e h = absurd (let z : _≡_ {A = ℕ} 0 1 = cc in omega arith)
 
--- A CALL OF `play` from where a run may stand, with an output of 246 bytes or more, writes the last line or comes further on in the journal
-pub play-comes-on :
-    {j : Bytes} {from : Standing} {p q old p' q' new : Bytes} {r : Played} → Plays j from p q old p' q' new r → stands (length j) from ≡ true
-    → 246 ≤ length new → Onward j from (r .standing) (r .progress)
-play-comes-on x s h = told-onward (x .tells) s (λ e. play-onward x e (play-writes x e h) .0)
-
--- what a call of `start` with room comes to: the whole listing is written, or a run stands where `play` goes on from
-pub data Begun (j : Bytes) (there : Standing) : Progress → Type 0 where
-  listed : Begun j there Done
-  running : stands (length j) there ≡ true → Begun j there More
+pub play-comes-on-theorem : PlayComesOnTheorem
+play-comes-on-theorem j from p q old p' q' new r x s h =
+    told-onward (x .tells) s (λ e. omega (arith, length-take-le (r .written) new (x .within), play-writes x e (omega (arith, x .size))))
 
 told-begun :
     {j : Bytes} {there : Standing} {text : Bytes} {room : ℕ} {g : Progress} → Begins j there text room g → (g ≡ Short → ⊥) → Begun j there g
@@ -236,19 +242,5 @@ told-begun (turned n t u) k = listed
 told-begun (noRoom x h t u r) k = absurd (k refl)
 told-begun (noRoomToEnd x t u r) k = absurd (k refl)
 
--- A CALL OF `start` with an output of 246 bytes or more writes the whole listing, or its first line and a run stands
-pub start-comes-on : {j old new : Bytes} {r : Played} → Starts j old new r → 246 ≤ length new → Begun j (r .standing) (r .progress)
-start-comes-on x h = told-begun (x .begins) (start-writes x h)
-
--- n calls of `play` from a standing with the buffers p and q, each from the standing and with the buffers that the one before left, with an
--- output of 246 bytes or more, that all go on
-pub data Calls (j : Bytes) : Standing → Bytes → Bytes → ℕ → Type 0 where
-  noCall : {from : Standing} {p q : Bytes} → Calls j from p q 0
-  aCall :
-      {from : Standing} {p q old p' q' new : Bytes} {r : Played} {n : ℕ} → Plays j from p q old p' q' new r → 246 ≤ length new
-      → r .progress ≡ More → Calls j (r .standing) p' q' n → Calls j from p q (suc n)
-
--- THE CALLS COME TO AN END: no more of them go on than there are bytes of the journal past the standing
-pub calls-end : {j : Bytes} {from : Standing} {p q : Bytes} {n : ℕ} → Calls j from p q n → from .at ≤ length j → from .at + n ≤ length j
-calls-end noCall h = omega arith
-calls-end (aCall x w e c) h = let o = play-onward x e (play-writes x e w) in omega (arith, o .0, calls-end c (o .1))
+pub start-comes-on-theorem : StartComesOnTheorem
+start-comes-on-theorem j old new r x h = told-begun (x .begins) (start-writes x (omega (arith, x .size)))

@@ -1,34 +1,50 @@
 -- The texts of the calls that play a journal, put together, are its listing.
-use Prim.Native.Nat.{ℕ, _+_, _≤_, _<_}
+use Prim.Native.Nat.{ℕ, _+_}
 use mathlib.Core.Path.{_≡_, sym, _∙_, ap, ap₂, subst}
-use mathlib.Core.List.{List, [], _∷_, _++_, append-nil}
+use mathlib.Core.List.{List, [], _++_, append-nil, append-assoc}
 use native.Mathlib.Nat.{add-zero}
 use native.Mathlib.Omega.{arith}
-use lib.ListN.{length, take, replicate}
-use lib.Seq.{length-take-le}
+use lib.ListN.{length, replicate}
 use Rattle.protocol.specs.Buffers.{Bytes, privateLength, sharedLength}
 use Rattle.protocol.specs.Machine.{Machine, machine}
-use Rattle.protocol.specs.Run.{Given, run}
-use Rattle.driver.specs.Listing.{Ending, noLine, EndsAt, Reads, lines, count, Counts, lastLines, listingFrom, Listing, opens as opensListing, fails as failsListing}
-use Rattle.driver.specs.Play.{countsOf, runFrom, Leads, Tells, done, more, unfit, Plays, opened, Begins, opens, fails, noRoom, noRoomToEnd}
-use Rattle.driver.specs.Calls.{joined, Plays-on, last, next, Playing, over, begun}
+use Rattle.protocol.specs.Run.{Given, Record, run}
+use Rattle.driver.specs.Listing.{Ending, noLine, EndsAt, lines, count, Counts, counted, lastLines}
+use Rattle.driver.specs.Play.{countsOf, runFrom, Leads, Tells, done, more, unfit, opened, Begins, opens, fails, noRoom, noRoomToEnd}
 use Rattle.driver.specs.declared.Standing.{Standing}
 use Rattle.driver.specs.declared.Progress.{Progress}
 use Rattle.driver.specs.declared.Progress.the-variants.{Done, More}
-use Rattle.driver.specs.declared.Played.{Played}
-use Rattle.driver.proofs.Reading.{steps-append, steps-long, steps-inside}
-use Rattle.driver.proofs.Running.{listing-append}
-use Rattle.driver.proofs.Going.{met}
+use Rattle.driver.proofs.Running.{steps-append, lines-append, run-records, run-length, counted-append}
+use Rattle.playing.specs.Listing.{Reads, listingFrom, Listing, opens as opensListing, fails as failsListing}
+use Rattle.playing.specs.Calls.{joined, Plays-on, last, next, over, begun}
+use Rattle.playing.specs.Theorems.{WholeTheorem}
+
+-- ---- the listing from a standing on
+
+-- THE LISTING GOES ON: the steps gs and then hs list as the lines of gs, and then as the listing from the machine and the counts after gs
+listing-append :
+    (m : Machine) (k : Counts) (gs hs : List Given) (e : Ending)
+    → listingFrom m k (gs ++ hs) e
+    ≡ lines (run gs (k .steps + 1) m .records)
+    ++ listingFrom (run gs (k .steps + 1) m .last) (counted k (run gs (k .steps + 1) m .records)) hs e
+listing-append m k gs hs e =
+    let rs : List Record = run gs (k .steps + 1) m .records in
+    let n : k .steps + 1 + length gs ≡ k .steps + length rs + 1 = omega (arith, run-length gs (k .steps + 1) m) in
+    let ts : List Record = run hs (k .steps + length rs + 1) (run gs (k .steps + 1) m .last) .records in
+    let r : run (gs ++ hs) (k .steps + 1) m .records ≡ rs ++ ts =
+    run-records gs hs (k .steps + 1) m ∙ ap (λ (i : ℕ). rs ++ run hs i (run gs (k .steps + 1) m .last) .records) n in
+    ap (λ (l : List Record). lines l ++ lastLines (counted k l) e) r
+    ∙ ap₂ (λ (l : Bytes) (c : Counts). l ++ lastLines c e) (lines-append rs ts) (sym (counted-append k rs ts))
+    ∙ append-assoc (lines rs) (lines ts) (lastLines (counted (counted k rs) ts) e)
 
 -- the text t is the listing of a journal from a standing on, with the buffers p and q
-pub record ListingAt (j : Bytes) (from : Standing) (p q t : Bytes) : Type 0 where
+record ListingAt (j : Bytes) (from : Standing) (p q t : Bytes) : Type 0 where
   pub steps : List Given
   pub ending : Ending
   pub reads : Reads j (from .form) (from .at) steps ending
   pub text : t ≡ listingFrom (machine (from .state) p q) (countsOf from) steps ending
 
 -- THE LISTING FROM HERE is the lines of the steps that lead there, and the listing from there
-pub onward :
+onward :
     {j : Bytes} {a b : Standing} {p q p' q' : Bytes} {gs : List Given} → Leads j a p q gs b p' q' → {t : Bytes} → ListingAt j b p' q' t
     → ListingAt j a p q (lines (runFrom a p q gs .records) ++ t)
 onward {a = a} {p = p} {q = q} {gs = gs} l {t} x =
@@ -50,13 +66,23 @@ onward {a = a} {p = p} {q = q} {gs = gs} l {t} x =
 -- where no step is left, the last lines are the listing
 ended : {j : Bytes} {s : Standing} {p q : Bytes} {e : Ending} → EndsAt j (s .form) (s .at) e → ListingAt j s p q (lastLines (countsOf s) e)
 unfolding run lines count
-ended {s = s} {e = e} r = record { steps = []; ending = e; reads = record { to = s .at; steps = noLine; ends = r }; text = rw (add-zero (s .steps), add-zero (s .commits), add-zero (s .refusals)) }
+ended {s = s} {e = e} r =
+    record {
+      steps = [];
+      ending = e;
+      reads = record { to = s .at; steps = noLine; ends = r };
+      text = rw (add-zero (s .steps), add-zero (s .commits), add-zero (s .refusals));
+    }
 
-told-done : {j : Bytes} {from : Standing} {p q : Bytes} {there : Standing} {p' q' text : Bytes} {room : ℕ} {g : Progress} → Tells j from p q there p' q' text room g → g ≡ Done → ListingAt j from p q text
+-- what a call of `play` that is done wrote is the listing from its standing
+told-done :
+    {j : Bytes} {from : Standing} {p q : Bytes} {there : Standing} {p' q' text : Bytes} {room : ℕ} {g : Progress} → Tells j from p q there p' q' text room g
+    → g ≡ Done → ListingAt j from p q text
 told-done {j} {from} {p} {q} (done s l r t) e = subst (ListingAt j from p q) (sym t) (onward l (ended r))
 told-done (more s l t x h) e = absurd (let z : _≡_ {A = ℕ} 0 1 = cc in omega arith)
 told-done (unfit s a b d t) e = absurd (let z : _≡_ {A = ℕ} 0 1 = cc in omega arith)
 
+-- and what one that goes on wrote stands before the listing from where it got to
 told-more :
     {j : Bytes} {from : Standing} {p q : Bytes} {there : Standing} {p' q' text : Bytes} {room : ℕ} {g : Progress} → Tells j from p q there p' q' text room g
     → g ≡ More → {u : Bytes} → ListingAt j there p' q' u → ListingAt j from p q (text ++ u)
@@ -64,41 +90,12 @@ told-more (done s l r t) e x = absurd (let z : _≡_ {A = ℕ} 0 1 = cc in omega
 told-more {j} {from} {p} {q} (more s l t y h) e {u} x = subst (λ (v : Bytes). ListingAt j from p q (v ++ u)) (sym t) (onward l x)
 told-more (unfit s a b d t) e x = absurd (let z : _≡_ {A = ℕ} 0 1 = cc in omega arith)
 
--- A CALL OF `play` that is done wrote the listing from its standing
-pub play-done : {j : Bytes} {from : Standing} {p q old p' q' new : Bytes} {r : Played} → Plays j from p q old p' q' new r → r .progress ≡ Done → ListingAt j from p q (take (r .written) new)
-play-done x e = told-done (x .tells) e
-
--- and one that goes on wrote what stands before the listing from where it got to
-pub play-more :
-    {j : Bytes} {from : Standing} {p q old p' q' new : Bytes} {r : Played} → Plays j from p q old p' q' new r → r .progress ≡ More → {u : Bytes}
-    → ListingAt j (r .standing) p' q' u → ListingAt j from p q (take (r .written) new ++ u)
-play-more x e y = told-more (x .tells) e y
-
--- where a line is written, a step was made
-lines-some : (gs : List Given) (n : ℕ) (m : Machine) → 0 < length (lines (run gs n m .records)) → 0 < length gs
-unfolding run lines
-lines-some [] n m h = absurd (omega arith)
-lines-some (g ∷ gs) n m h = omega arith
-
-told-onward :
-    {j : Bytes} {from : Standing} {p q : Bytes} {there : Standing} {p' q' text : Bytes} {room : ℕ} {g : Progress} → Tells j from p q there p' q' text room g
-    → g ≡ More → 0 < length text → (from .at < there .at) × (there .at ≤ length j)
-told-onward (done s l r t) e h = absurd (let z : _≡_ {A = ℕ} 0 1 = cc in omega arith)
-told-onward {j} {from} {p} {q} (more {gs = gs} s l t y r) e h =
-    let n = lines-some gs (from .steps + 1) (machine (from .state) p q) (rw t at h) in
-    (omega (arith, steps-long (l .steps)), steps-inside (l .steps) (met j from s .inside))
-told-onward (unfit s a b d t) e h = absurd (let z : _≡_ {A = ℕ} 0 1 = cc in omega arith)
-
--- a call of `play` that goes on and wrote something stands further on in the journal
-pub play-onward :
-    {j : Bytes} {from : Standing} {p q old p' q' new : Bytes} {r : Played} → Plays j from p q old p' q' new r → r .progress ≡ More → 0 < r .written
-    → (from .at < r .standing .at) × (r .standing .at ≤ length j)
-play-onward {new = new} {r = r} x e h = told-onward (x .tells) e (rw (length-take-le (r .written) new (x .within)) h)
+-- ---- the calls
 
 plays-on : {j : Bytes} {from : Standing} {p q : Bytes} {ts : List Bytes} → Plays-on j from p q ts → ListingAt j from p q (joined ts)
 unfolding joined
-plays-on {j} {from} {p} {q} (last x e) = subst (ListingAt j from p q) (sym (append-nil _)) (play-done x e)
-plays-on (next x e c) = play-more x e (plays-on c)
+plays-on {j} {from} {p} {q} (last x e) = subst (ListingAt j from p q) (sym (append-nil _)) (told-done (x .tells) e)
+plays-on (next x e c) = told-more (x .tells) e (plays-on c)
 
 begins-done : {j : Bytes} {there : Standing} {text : Bytes} {room : ℕ} {g : Progress} → Begins j there text room g → g ≡ Done → Listing j text
 begins-done (opens x h t u) e = absurd (let z : _≡_ {A = ℕ} 0 1 = cc in omega arith)
@@ -117,8 +114,7 @@ begins-more (fails n t v) e y = absurd (let z : _≡_ {A = ℕ} 0 1 = cc in omeg
 begins-more (noRoom x h t v r) e y = absurd (let z : _≡_ {A = ℕ} 0 1 = cc in omega arith)
 begins-more (noRoomToEnd n t v r) e y = absurd (let z : _≡_ {A = ℕ} 0 1 = cc in omega arith)
 
--- THE TEXTS of the calls that play a journal, put together, are its listing
-pub whole : {j : Bytes} {ts : List Bytes} → Playing j ts → Listing j (joined ts)
+pub whole-theorem : WholeTheorem
 unfolding joined
-whole {j} (over x e) = subst (Listing j) (sym (append-nil _)) (begins-done (x .begins) e)
-whole (begun x e c) = begins-more (x .begins) e (plays-on c)
+whole-theorem j ts (over x e) = subst (Listing j) (sym (append-nil _)) (begins-done (x .begins) e)
+whole-theorem j ts (begun x e c) = begins-more (x .begins) e (plays-on c)
