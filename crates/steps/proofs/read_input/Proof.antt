@@ -16,46 +16,61 @@ Inv-loop buf₀ done₀ retries₀ buf done retries = (length buf ≡ length buf
 abbrev μ-loop : tie.MeasureT-loop
 μ-loop buf₀ done₀ retries₀ buf done retries = (length buf - done) + retries
 
+-- the turn of the loop that a count belongs to
+abbrev turn : tie.After-count Inv-loop μ-loop → tie.At-loop Inv-loop μ-loop
+turn c = c .before .before .before .before .before .before .before .before
+
 -- the buffer after a read, which put its bytes into the part that was left
 abbrev filled : tie.After-count Inv-loop μ-loop → Bytes
-filled c = putMid (c .before .before .before .before .before .before .before .before .loop .done) (length (c .before .before .before .before .before .before .before .before .loop .buf) - c .before .before .before .before .before .before .before .before .loop .done) (c .before .before .before .before .before .before .before .before .loop .buf) (c .before .before .before .before .before .read .last .1 .0)
+filled c =
+    putMid (turn c .loop .done) (length (turn c .loop .buf) - turn c .loop .done) (turn c .loop .buf)
+    (c .before .before .before .before .before .read .last .1 .0)
 
--- it is as long as before, and the count lies in that part
-kept : (c : tie.After-count Inv-loop μ-loop) → length (filled c) ≡ length (c .before .before .before .before .before .before .before .before .loop .buf)
-kept c = c .before .before .before .before .buf .given .1
+-- it is as long as before
+same : (c : tie.After-count Inv-loop μ-loop) → length (filled c) ≡ length (turn c .loop .buf)
+same c = c .before .before .before .before .buf .given .1
 
-within : (c : tie.After-count Inv-loop μ-loop) → c .before .before .before .before .before .before .before .before .loop .done + c .count .result ≤ length (filled c)
-within c = let m = mid-len (c .before .before .before .before .before .before .before .before .loop .done) (length (filled c)) (filled c) (omega arith) in let k = kept c in omega (arith, c .before .before .before .before .before .before .before .before .loop .inv .1, c .count .ensures .0 .0, m, k)
+long : (c : tie.After-count Inv-loop μ-loop) → length (filled c) ≡ length (turn c .before .before .args .buf .now)
+long c = same c ∙ turn c .loop .inv .0
+
+-- what was read before lies in it, and with the count too
+before : (c : tie.After-count Inv-loop μ-loop) → turn c .loop .done ≤ length (filled c)
+before c = omega (arith, same c, turn c .loop .inv .1)
+
+within : (c : tie.After-count Inv-loop μ-loop) → turn c .loop .done + c .count .result ≤ length (filled c)
+within c =
+    let m = mid-len (turn c .loop .done) (length (filled c)) (filled c) (omega arith) in
+    omega (arith, before c, c .count .ensures .0 .0, m)
 
 loop-holds : tie.Need-loop-holds Inv-loop μ-loop
 loop-holds c = (refl, omega arith)
 
 add-done : tie.Need-add-done Inv-loop μ-loop
-add-done c = omega (arith, within (c .before), kept (c .before), c .before .before .before .before .before .before .before .before .before .loop .inv .0)
+add-done c = omega (arith, within (c .before), long (c .before))
 
 loop-less : tie.Need-loop-less Inv-loop μ-loop
-loop-less c = omega (arith, within (c .before), kept (c .before), c .if1 .taken)
+loop-less c = omega (arith, within (c .before), same (c .before), c .if1 .taken)
 
 loop-again : tie.Need-loop-again Inv-loop μ-loop
-loop-again c = (kept (c .before) ∙ c .before .before .before .before .before .before .before .before .before .loop .inv .0, within (c .before))
+loop-again c = (long (c .before), within (c .before))
 
 same-length : tie.Need-same-length Inv-loop μ-loop
-same-length c = kept (c .before .before) ∙ c .before .before .before .before .before .before .before .before .before .before .loop .inv .0
+same-length c = long (c .before .before)
 
 returns : tie.Need-returns Inv-loop μ-loop
-returns c = counts _ _ (omega (arith, c .before .before .before .before .before .before .before .before .before .before .loop .inv .1, kept (c .before .before)))
+returns c = counts _ _ (before (c .before .before))
 
 same-length-2 : tie.Need-same-length-2 Inv-loop μ-loop
-same-length-2 c = kept (c .before .before .before .before) ∙ c .before .before .before .before .before .before .before .before .before .before .before .before .loop .inv .0
+same-length-2 c = long (c .before .before .before .before)
 
 same-length-3 : tie.Need-same-length-3 Inv-loop μ-loop
-same-length-3 c = kept (c .before .before .before .before .before) ∙ c .before .before .before .before .before .before .before .before .before .before .before .before .before .loop .inv .0
+same-length-3 c = long (c .before .before .before .before .before)
 
 loop-less-2 : tie.Need-loop-less-2 Inv-loop μ-loop
-loop-less-2 c = omega (arith, kept (c .before .before .before .before .before), c .if4 .left)
+loop-less-2 c = omega (arith, same (c .before .before .before .before .before), c .if4 .left)
 
 loop-again-2 : tie.Need-loop-again-2 Inv-loop μ-loop
-loop-again-2 c = (kept (c .before .before .before .before .before) ∙ c .before .before .before .before .before .before .before .before .before .before .before .before .before .loop .inv .0, omega (arith, kept (c .before .before .before .before .before), c .before .before .before .before .before .before .before .before .before .before .before .before .before .loop .inv .1))
+loop-again-2 c = (long (c .before .before .before .before .before), before (c .before .before .before .before .before))
 
 same-length-4 : tie.Need-same-length-4 Inv-loop μ-loop
 same-length-4 c = c .before .loop .inv .0
