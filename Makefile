@@ -1,6 +1,7 @@
 # make run [JOURNAL=path]      play a journal (default: examples/sample.journal); standard output is just the listing
 # make build                   prove and build the program target/bin/steps and the library target/staticlib/libhost.a
 # make test                    prove every crate, try the must-fail edits, run the programs and the project's other tests
+# make selftest                the tests of the tests alone (part of make test)
 # make bench                   speed of the engine, the line check and steps (not part of make test)
 # make wrong-programs          try further wrong programs, which the prover must refuse (not part of make test)
 # make memcheck                the C test of the line check under valgrind
@@ -48,13 +49,14 @@ define prove
 }
 endef
 
-NEEDED = need-rt need-gcc need-cargo need-valgrind
+NEEDED = need-rt need-gcc need-python3 need-cargo need-valgrind
 need-rt: what = the Rattle toolchain
 need-gcc: what = a C compiler
+need-python3: what = Python
 need-cargo: what = the Rust toolchain
 need-valgrind: what = valgrind
 
-.PHONY: help run build test bench wrong-programs memcheck install uninstall clean journal $(NEEDED)
+.PHONY: help run build test selftest bench wrong-programs memcheck install uninstall clean journal $(NEEDED)
 
 help:
 	@sed -n 's/^# \(make .*\)/\1/p' Makefile
@@ -67,8 +69,11 @@ build: need-rt
 	$(call prove,check steps host)
 	$(call prove,staticlib host)
 
-test: need-rt need-gcc need-cargo
+test: need-rt need-gcc need-python3 need-cargo
 	@tests/run
+
+selftest: need-gcc need-cargo
+	@tests/selftest
 
 bench: need-rt need-gcc need-cargo need-valgrind build
 	@tests/bench
