@@ -21,8 +21,8 @@ use Rattle.protocol.specs.declared.Opening.{Opening}
 use Rattle.protocol.specs.declared.State.{State}
 use Rattle.protocol.specs.declared.Call.{Call}
 use Rattle.protocol.specs.declared.Call.the-variants.{Load, Store, Fence, Evict, Advance, Serve, Receive, Yield, Take}
-use Rattle.reference_points.specs.Rows.{core, asked, answered, sharedCopy, dirtyCopy, sharedLine, ownedLine, pieces, unmoved, given, private}
-use Rattle.reference_points.specs.Rows.{shared, greatest, cell, stateOf, Agree}
+use Rattle.reference_points.specs.Rows.{core, asked, answered, sharedCopy, dirtyCopy, sharedLine, ownedLine, pieces, unmoved, counting, given}
+use Rattle.reference_points.specs.Rows.{private, shared, greatest, cell, stateOf, Agree}
 
 -- the state of the rows, with a lease of 10
 abbrev pub usual : Pieces → State
@@ -84,27 +84,27 @@ causes =
     ∷ cause 3 idle (Receive 3)
     -- 3 and 27 of a store; 3 and 4; 3 and 5; 3 and 6
     ∷ cause 3 idle (Store 2 1)
-    ∷ cause 3 idle (Load 2 2)
-    ∷ cause 3 idle (Store 2 2)
-    ∷ cause 3 idle (Evict 2 2)
-    ∷ storing 3 idle 2 1 (40 ∷ [])
+    ∷ cause 3 idle (Load 2 3)
+    ∷ cause 3 idle (Store 2 3)
+    ∷ cause 3 idle (Evict 2 3)
+    ∷ storing 3 idle 2 1 (counting 3 80)
     ∷ cause 3 idle (Advance 2 0)
-    -- 4 line ≥ lines. Lines 2 and 3 would be refused for what they hold too: with 20, 20, 26, 23, 24, 25
-    ∷ cause 4 waiting (Load 1 3)
-    ∷ cause 4 waiting (Store 1 3)
-    ∷ cause 4 idle (Evict 1 3)
-    ∷ cause 4 idle (Yield 2)
+    -- 4 line ≥ lines. Lines 3 and 4 would be refused for what they hold too: with 20, 20, 26, 23, 24, 25
+    ∷ cause 4 waiting (Load 1 4)
+    ∷ cause 4 waiting (Store 1 4)
+    ∷ cause 4 idle (Evict 1 4)
     ∷ cause 4 idle (Yield 3)
-    ∷ cause 4 idle (Take 2)
+    ∷ cause 4 idle (Yield 4)
+    ∷ cause 4 idle (Take 3)
     -- 4 and 27 of a store; 4 and 5
-    ∷ cause 4 idle (Store 1 2)
-    ∷ storing 4 idle 1 2 (40 ∷ [])
+    ∷ cause 4 idle (Store 1 3)
+    ∷ storing 4 idle 1 3 (counting 3 80)
     -- 5 store bytes not width in count; 5 and 20; 5 and 27
     ∷ storing 5 idle 1 1 []
-    ∷ storing 5 idle 1 1 (40 ∷ [])
-    ∷ storing 5 idle 1 1 (40 ∷ 41 ∷ 42 ∷ [])
-    ∷ storing 5 waiting 1 1 (40 ∷ [])
-    ∷ storing 5 full 1 1 (40 ∷ [])
+    ∷ storing 5 idle 1 1 (counting 3 80)
+    ∷ storing 5 idle 1 1 (counting 5 80)
+    ∷ storing 5 waiting 1 1 (counting 3 80)
+    ∷ storing 5 full 1 1 (counting 5 80)
     -- 6 advance by 0
     ∷ cause 6 idle (Advance 1 0)
     ∷ cause 6 (pieces (core greatest 9 Empty) NoCopy (sharedLine 4 9)) (Advance 1 0)
@@ -191,8 +191,8 @@ mislaid n s p q = fencing n (machine s p q)
 abbrev pub machineRows : List Refusal
 machineRows =
     unfit (misowned idle)
-    ∷ unfit (withCores (usual idle) (set (usual idle .core) 1 (core 7 9 (Asked WantLoad 2 (stamp 7) NothingHeld))))
-    ∷ unfit (withCores (usual idle) (set (usual idle .core) 0 (core 7 9 (Answered GrantShare 2 (stamp 4) (stamp 9)))))
+    ∷ unfit (withCores (usual idle) (set (usual idle .core) 1 (core 7 9 (Asked WantLoad 3 (stamp 7) NothingHeld))))
+    ∷ unfit (withCores (usual idle) (set (usual idle .core) 0 (core 7 9 (Answered GrantShare 3 (stamp 4) (stamp 9)))))
     ∷ mislaid 2 (usual idle) (drop 1 (private unmoved)) (shared unmoved)
     ∷ mislaid 2 (usual idle) (9 ∷ private unmoved) (shared unmoved)
     ∷ mislaid 2 (usual idle) (private unmoved) (drop 1 (shared unmoved))

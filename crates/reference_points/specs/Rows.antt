@@ -1,8 +1,8 @@
 -- A worked example is a row: a small machine, a call on it, what the call answers and the machine after it, as 01 says them.
 --
--- The machine has 2 cores, 2 lines and a width of 2, and a row is about core 1 and line 1. Core 0, line 0 and the other copies hold something
--- of their own, and so do cores and lines outside the sizes, so that a step which looks or writes elsewhere shows. No two bytes are equal.
-use Prim.Native.Nat.{ℕ}
+-- The machine has 2 cores, 3 lines and a width of 4, and a row is about core 1 and line 1. The other core, lines and copies hold something of
+-- their own, and so do cores and lines outside the sizes, so that a step which looks or writes elsewhere shows. No two bytes are equal.
+use Prim.Native.Nat.{ℕ, zero, suc}
 use mathlib.Core.Path.{_≡_}
 use mathlib.Core.Bool.{true, false}
 use mathlib.Core.List.{List, [], _∷_, _++_}
@@ -85,33 +85,38 @@ pub record Places : Type 0 where
 abbrev pub places : Bytes → Bytes → Bytes → Bytes → Places
 places x m w a = record { copy = x; manager = m; writeback = w; answer = a }
 
+-- n bytes that count from a
+abbrev pub counting : ℕ → ℕ → Bytes
+counting zero a = []
+counting (suc n) a = a ∷ counting n (suc a)
+
 -- what stands at each of them before the call
 abbrev pub copyBytes : Bytes
-copyBytes = 16 ∷ 17 ∷ []
+copyBytes = counting 4 26
 
 abbrev pub managerBytes : Bytes
-managerBytes = 22 ∷ 23 ∷ []
+managerBytes = counting 4 44
 
 abbrev pub writebackBytes : Bytes
-writebackBytes = 26 ∷ 27 ∷ []
+writebackBytes = counting 4 56
 
 abbrev pub answerBytes : Bytes
-answerBytes = 30 ∷ 31 ∷ []
+answerBytes = counting 4 68
 
 abbrev pub unmoved : Places
 unmoved = places copyBytes managerBytes writebackBytes answerBytes
 
 -- the bytes given to a store
 abbrev pub given : Bytes
-given = 40 ∷ 41 ∷ []
+given = counting 4 80
 
--- the private buffer: core 0's copies of lines 0 and 1, core 1's copies of lines 0 and 1
+-- the private buffer: core 0's copies of the three lines, then core 1's
 abbrev pub private : Places → Bytes
-private b = 10 ∷ 11 ∷ 12 ∷ 13 ∷ 14 ∷ 15 ∷ b .copy
+private b = counting 16 10 ++ b .copy ++ counting 4 30
 
--- the shared buffer: lines 0 and 1, their writebacks, the answers to cores 0 and 1
+-- the shared buffer: the three lines, their writebacks, the answers to the two cores
 abbrev pub shared : Places → Bytes
-shared b = 20 ∷ 21 ∷ (b .manager ++ 24 ∷ 25 ∷ (b .writeback ++ 28 ∷ 29 ∷ b .answer))
+shared b = counting 4 40 ++ b .manager ++ counting 8 48 ++ b .writeback ++ counting 8 60 ++ b .answer
 
 -- ---- the machine
 
@@ -122,21 +127,23 @@ greatest = 4294967295
 abbrev pub cell : Copy → Cell
 cell x = record { copy = x }
 
--- the state with this lease and these pieces. Cores 2 and 3 and lines 2 and 3 lie outside the sizes: core 2 has lts at the greatest timestamp, an answered slot
--- and an owned copy of line 1 at the greatest rts; core 3 asked at the greatest timestamp; core 1 has such a copy of line 2 too; line 2 has an
--- owner, and line 3 an owner who holds no copy and a recall
+-- the state with this lease and these pieces. Cores 2 and 3 and lines 3 and 4 lie outside the sizes: core 2 has lts at the greatest timestamp, an
+-- answered slot and an owned copy of line 1 at the greatest rts; core 3 asked at the greatest timestamp; core 1 has such a copy of line 3 too;
+-- line 3 has an owner, and line 4 an owner who holds no copy, and a recall
 abbrev pub stateOf : ℕ → Pieces → State
 stateOf lease p =
     record {
-      opening = record { cores = 2; lines = 2; width = 2; lease = lease };
+      opening = record { cores = 2; lines = 3; width = 4; lease = lease };
       core =
-          core 3 5 (Asked WantStore 0 (stamp 2) NothingHeld) ∷ p .core ∷ core greatest 1 (Answered GrantShare 2 (stamp 1) (stamp 1))
+          core 3 5 (Asked WantStore 0 (stamp 2) NothingHeld) ∷ p .core ∷ core greatest 1 (Answered GrantShare 3 (stamp 1) (stamp 1))
           ∷ core 1 1 (asked WantLoad greatest NothingHeld) ∷ replicate 12 freshCore;
       cell =
-          cell (dirtyCopy 6 8) ∷ cell (sharedCopy 1 2) ∷ replicate 62 freshCell
-          ++ cell (sharedCopy 3 4) ∷ cell (p .copy) ∷ cell (dirtyCopy 6 greatest) ∷ replicate 61 freshCell
+          cell (dirtyCopy 6 8) ∷ cell (sharedCopy 1 2) ∷ cell (sharedCopy 2 3) ∷ replicate 61 freshCell
+          ++ cell (sharedCopy 3 4) ∷ cell (p .copy) ∷ cell (cleanCopy 5 9) ∷ cell (dirtyCopy 6 greatest) ∷ replicate 60 freshCell
           ++ cell NoCopy ∷ cell (dirtyCopy 6 greatest) ∷ replicate 894 freshCell;
-      line = withWriteback 5 7 (ownedLine 0 Downgrade) ∷ p .line ∷ ownedLine 2 NoRecall ∷ ownedLine 1 Flush ∷ replicate 60 freshLine;
+      line =
+          withWriteback 5 7 (ownedLine 0 Downgrade) ∷ p .line ∷ ownedLine 1 NoRecall ∷ ownedLine 2 NoRecall ∷ ownedLine 1 Flush
+          ∷ replicate 59 freshLine;
     }
 
 abbrev pub machineOf : ℕ → Pieces → Places → Machine

@@ -28,16 +28,16 @@ holding x = machine (usual (pieces (core 7 9 Empty) x (sharedLine 4 9))) (privat
 abbrev pub looks : List Look
 looks =
     -- a copy is held: "the copy of core c, line l starts at (c × lines + l) × width"
-    look (holding (sharedCopy 4 9)) 1 1 inPrivate 6 8
-    ∷ look (holding (cleanCopy 4 9)) 1 1 inPrivate 6 8
-    ∷ look (holding (dirtyCopy 4 9)) 1 1 inPrivate 6 8
-    ∷ look (holding NoCopy) 1 0 inPrivate 4 6
-    ∷ look (holding NoCopy) 0 1 inPrivate 2 4
+    look (holding (sharedCopy 4 9)) 1 1 inPrivate 16 20
+    ∷ look (holding (cleanCopy 4 9)) 1 1 inPrivate 16 20
+    ∷ look (holding (dirtyCopy 4 9)) 1 1 inPrivate 16 20
+    ∷ look (holding NoCopy) 1 0 inPrivate 12 16
+    ∷ look (holding NoCopy) 0 1 inPrivate 4 8
     -- none is held: "manager line l at l × width"
-    ∷ look (holding NoCopy) 1 1 inShared 2 4
+    ∷ look (holding NoCopy) 1 1 inShared 4 8
     -- 3, 4, 2 and 1
     ∷ look (holding NoCopy) 2 1 inShared 0 0
-    ∷ look (holding NoCopy) 1 2 inShared 0 0
+    ∷ look (holding NoCopy) 1 3 inShared 0 0
     ∷ look (machine (usual idle) (drop 1 (private unmoved)) (shared unmoved)) 1 1 inShared 0 0
     ∷ look (machine (usual idle) (private unmoved) (drop 1 (shared unmoved))) 0 1 inShared 0 0
     ∷ look (machine (misowned idle) (private unmoved) (shared unmoved)) 0 1 inShared 0 0
