@@ -81,7 +81,7 @@ bench: need-rt need-gcc need-cargo need-valgrind build
 wrong-programs: need-rt
 	@tests/wrong-programs/run
 
-memcheck: need-rt need-gcc need-valgrind build
+memcheck: need-rt need-gcc need-cargo need-valgrind build
 	@tests/host/memcheck
 
 install: build
