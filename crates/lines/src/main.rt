@@ -51,6 +51,7 @@ fn count_lines(journal: &[u8]) -> Tally
     }
 }
 
+// One byte more than the longest journal that is taken suffices to tell one that is too long.
 fn main() {
     let mut journal = [0u8; 65537];
     let n = io::read_full(STDIN_FILENO, &mut journal);

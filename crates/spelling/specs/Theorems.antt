@@ -24,11 +24,14 @@ DecodedOneTheorem = (s old : List ℕ) → One {A = List ℕ × Decoded} (λ x. 
 
 -- a number that is printed is read back; one that is read prints as it stood
 abbrev pub DecimalRoundTripTheorem : Type 0
-DecimalRoundTripTheorem = ((n : ℕ) (r : Number) → n ≤ greatest → NumberOf (decimal n) r → r ≡ Value n) × ((s : List ℕ) (n : ℕ) → NumberOf s (Value n) → decimal n ≡ s)
+DecimalRoundTripTheorem =
+    ((n : ℕ) (r : Number) → n ≤ greatest → NumberOf (decimal n) r → r ≡ Value n)
+    × ((s : List ℕ) (n : ℕ) → NumberOf s (Value n) → decimal n ≡ s)
 
 -- bytes that are printed are decoded again, where there is room for them
 abbrev pub HexPrinted : Type 0
-HexPrinted = (bs old new : List ℕ) (r : Decoded) → 0 < length bs → All Byte bs → length bs ≤ length old → DecodedOf (hex bs) old new r → (r ≡ Bytes (length bs)) × (take (length bs) new ≡ bs)
+HexPrinted = (bs old new : List ℕ) (r : Decoded) → 0 < length bs → All Byte bs
+    → length bs ≤ length old → DecodedOf (hex bs) old new r → (r ≡ Bytes (length bs)) × (take (length bs) new ≡ bs)
 
 -- data that are decoded print as they stood
 abbrev pub HexDecoded : Type 0
