@@ -103,7 +103,3 @@ pub one-next-theorem : OneNextTheorem
 one-next-theorem j at form =
     let a = some-next j at form (le-or-lt (length j) 65536) (le-or-lt (length j) at) in
     record { answer = a .0; holds = a .1; only = λ b x. same j at form (view j at form x) (view j at form (a .1)) }
-
--- the same, by the name that the driver cites
-pub one-next : OneNextTheorem
-one-next = one-next-theorem

@@ -2,14 +2,14 @@
 // One line is printed: how many lines were read, and the number of the refusal if there is one.
 ghost use mathlib.Core.Path.{_≡_};
 ghost use Rattle.journal.specs.Journal.{goesOn};
-ghost use Rattle.lines.specs.Tally.{Tallied};
+ghost use Rattle.lines.specs.Count.{CountsLines};
 use journal::Next;
 use journal::Reader;
 use libc::STDIN_FILENO;
 use libc::STDOUT_FILENO;
 
 // How many lines were read, and what stands after them: the end, or a refusal.
-struct Tally {
+struct LineCount {
     lines: usize,
     last: Next,
 }
@@ -36,8 +36,8 @@ fn goes_on(n: Next) -> bool
 }
 
 // A whole journal, by a reader from its start: each step is that of the reader that the one before handed out.
-fn count_lines(journal: &[u8]) -> Tally
-    ensures { λ r. ⌜ Tallied (now (journal .entry)) r ⌝ }
+fn count_lines(journal: &[u8]) -> LineCount
+    ensures { λ r. ⌜ CountsLines (now (journal .entry)) r ⌝ }
 {
     let mut lines: usize = 0;
     let mut s = Reader::new(journal).next();
@@ -45,7 +45,7 @@ fn count_lines(journal: &[u8]) -> Tally
         lines = lines + 1;
         s = s.reader.next();
     }
-    Tally {
+    LineCount {
         lines,
         last: s.next,
     }

@@ -14,7 +14,7 @@ use Rattle.spelling.proofs.Decide.{Told, same-number}
 use Rattle.journal.specs.Journal.{NextOf}
 use Rattle.journal.specs.declared.Next.{Next}
 use Rattle.journal.specs.declared.Next.the-variants.{Opening, Step, End, Refused}
-use Rattle.journal.proofs.OneNext.{one-next}
+use Rattle.journal.proofs.OneNext.{one-next-theorem}
 use Rattle.listing.specs.Record.{recordText}
 use Rattle.driver.specs.Listing.{Ending, NotOpened, outside, refusedFirst, notOpened}
 use Rattle.driver.proofs.Reading.{known}
@@ -63,5 +63,5 @@ listed j (Refused n) x = (_, fails (refusedFirst x))
 
 pub one-listing-theorem : OneListingTheorem
 one-listing-theorem j =
-    let l = listed j (one-next j 0 0 .answer) (one-next j 0 0 .holds) in
+    let l = listed j (one-next-theorem j 0 0 .answer) (one-next-theorem j 0 0 .holds) in
     record { text = l .0; holds = l .1; only = λ t x. listing-same x (l .1) }

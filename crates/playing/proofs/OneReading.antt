@@ -11,7 +11,7 @@ use Rattle.spelling.proofs.HexLaws.{hex-length, hex-injective}
 use Rattle.journal.specs.Journal.{NextOf}
 use Rattle.journal.specs.declared.Next.{Next}
 use Rattle.journal.specs.declared.Next.the-variants.{Opening, Step, End, Refused}
-use Rattle.journal.proofs.OneNext.{one-next}
+use Rattle.journal.proofs.OneNext.{one-next-theorem}
 use Rattle.driver.specs.Listing.{Ending, Data, noData, someData, Between, noLine, aLine, EndsAt, atEnd, atRefusal}
 use Rattle.driver.proofs.Reading.{known}
 use Rattle.playing.specs.Listing.{Reads}
@@ -21,7 +21,7 @@ use Rattle.playing.specs.Theorems.{OneReading, OneReadingTheorem}
 
 -- two answers at a place are one
 pub same-next : {j : Bytes} {at form : ℕ} {a b : Next} → NextOf j at form a → NextOf j at form b → a ≡ b
-same-next {j} {at} {form} x y = let o = one-next j at form in o .only _ x ∙ sym (o .only _ y)
+same-next {j} {at} {form} x y = let o = one-next-theorem j at form in o .only _ x ∙ sym (o .only _ y)
 
 data-same : {digits bs cs : Bytes} → Data digits bs → Data digits cs → bs ≡ cs
 data-same (noData e) (noData f) = refl
@@ -114,9 +114,9 @@ reading-on j form at f on (Step call start end next) x =
     one (record { to = r .to; steps = aLine x (k .digits .spelt) (r .steps); ends = r .ends })
 
 reading-within : (j : Bytes) (form : ℕ) → (form ≡ 0 → ⊥) → (n at : ℕ) → length j - at ≤ n → OneReading j form at
-reading-within j form f zero at h = reading-on j form at f (λ next a b. absurd (omega arith)) (one-next j at form .answer) (one-next j at form .holds)
+reading-within j form f zero at h = reading-on j form at f (λ next a b. absurd (omega arith)) (one-next-theorem j at form .answer) (one-next-theorem j at form .holds)
 reading-within j form f (suc n) at h =
-    reading-on j form at f (λ next a b. reading-within j form f n next (omega arith)) (one-next j at form .answer) (one-next j at form .holds)
+    reading-on j form at f (λ next a b. reading-within j form f n next (omega arith)) (one-next-theorem j at form .answer) (one-next-theorem j at form .holds)
 
 pub one-reading-theorem : OneReadingTheorem
 one-reading-theorem j form at f = reading-within j form f (length j - at) at (omega arith)

@@ -63,10 +63,10 @@ use Rattle.journal.proofs.Reader.next as next
 use Rattle.journal.proofs.Reader.next.Symbol as next-def
 use Rattle.journal.proofs.Reader.next.Symbol.{name as #journal·next}
 use Rattle.journal.proofs.Reader.next.Met as next-thm
-use Rattle.lines.specs.Tally.{Tallied}
-use Rattle.lines.specs.declared.Tally.{Tally}
-use Rattle.lines.proofs.Tally as Y
-use Rattle.lines.proofs.Tally.Laws as Y′
+use Rattle.lines.specs.Count.{CountsLines}
+use Rattle.lines.specs.declared.LineCount.{LineCount}
+use Rattle.lines.proofs.LineCount as Y
+use Rattle.lines.proofs.LineCount.Laws as Y′
 use Rattle.lines.proofs.Going.{onward, few-lines}
 use Rattle.lines.proofs.goes_on as test
 use Rattle.lines.proofs.goes_on.Symbol as test-def
@@ -230,11 +230,11 @@ module _ {M : Type 1} (𝓤 : URA M) (H : Heap 𝓤) (A : Atoms 𝓤) (W : Given
 
   -- ---- the exit
 
-  abbrev tallied : Stand → Tally
-  tallied i = record { lines = i .k; last = i .n }
+  abbrev counted : Stand → LineCount
+  counted i = record { lines = i .k; last = i .n }
 
-  abbrev tally-val : Stand → Val
-  tally-val i = LL.val Y.the-type Y′.the-laws (tallied i)
+  abbrev counted-val : Stand → Val
+  counted-val i = LL.val Y.the-type Y′.the-laws (counted i)
 
   module _ (room : length (now s) < 2 ^ 64) where
     -- no more lines than bytes, and there is one more where reading goes on
@@ -244,12 +244,12 @@ module _ {M : Type 1} (𝓤 : URA M) (H : Heap 𝓤) (A : Atoms 𝓤) (W : Given
     count-fits : (i : Stand) → goesOn (i .n) ≡ true → i .k + 1 < 2 ^ 64
     count-fits i g = omega (arith, few-lines (i .reached) .0, onward (i .found) g .0, onward (i .found) g .1, room)
 
-  exits : (i : Stand) → Is Y.the-row (tallied i) (tally-val i ∷ []) → goesOn (i .n) ≡ false → ent 𝓤 (⋆ 𝓤 H A (Token ∷ ‵ Own ∷ [])) (Post (tally-val i))
+  exits : (i : Stand) → Is Y.the-row (counted i) (counted-val i ∷ []) → goesOn (i .n) ≡ false → ent 𝓤 (⋆ 𝓤 H A (Token ∷ ‵ Own ∷ [])) (Post (counted-val i))
   exits i is g =
       qed W (Token ∷ ‵ Own ∷ []) ∵
-      suffices ! _ (ends-at 𝓤 H A this.ended stayed (this.clauses 𝓤 H A mem run) W (((κ, tt), (q, tt), tt, (s, tt), (v ∷ [], tt)), tt) (tally-val i) (tallied i) (tt, tt) (tt, tt)) $
+      suffices ! _ (ends-at 𝓤 H A this.ended stayed (this.clauses 𝓤 H A mem run) W (((κ, tt), (q, tt), tt, (s, tt), (v ∷ [], tt)), tt) (counted-val i) (counted i) (tt, tt) (tt, tt)) $
       says ! (record { at = i .at; form = i .form; reached = i .reached; found = i .found; stops = g }) $
-      frame ! $ nothing ! $ move ! (1 ∷ 0 ∷ []) $ fjoin ! $ frame ! $ owned ! Y.the-row (Is Y.the-row) (LL.makes Y.the-type Y′.the-plain 𝓤 H A) (tallied i) _ is $ done !
+      frame ! $ nothing ! $ move ! (1 ∷ 0 ∷ []) $ fjoin ! $ frame ! $ owned ! Y.the-row (Is Y.the-row) (LL.makes Y.the-type Y′.the-plain 𝓤 H A) (counted i) _ is $ done !
 
   -- ---- the loop
 
@@ -306,9 +306,9 @@ module _ {M : Type 1} (𝓤 : URA M) (H : Heap 𝓤) (A : Atoms 𝓤) (W : Given
         ∷ ‵ (fat fullShare (tyInt w64) l₂ 0 (vint w64 (i .k))) ∷ ‵ (fdies (tyInt w64) l₂) ∷ ‵ (fat fullShare slice l₁ 0 v) ∷ ‵ (fdies slice l₁) ∷ ‵ (froom Y′.mir l₀ 0) ∷ ‵ (fdies Y′.mir l₀) ∷ Token ∷ ‵ Own ∷ [])
         (runs C Λ En rest (atRet En Post))
     stops i g =
-        let isy : Is Y.the-row (tallied i) (tally-val i ∷ []) = LL.owes Y.the-type Y′.the-laws (tallied i) ((refl, count-held room i), (fields i .1, tt)) in
+        let isy : Is Y.the-row (counted i) (counted-val i ∷ []) = LL.owes Y.the-type Y′.the-laws (counted i) ((refl, count-held room i), (fields i .1, tt)) in
         assigns ! (of-opd ! (load ! (from ! (fld ! refl (stop !))) (look-in ! 10 (sub ! 1 refl (whole !))))) (from ! (stop !)) (init ! 0 refl (EL.lawful S.the-type S′.the-laws 𝓤 H A W tt .typed (i .n) _ (fields i .1) .0)) $
-        assigns ! (agg ! (and-then ! (load ! (from ! (stop !)) (look ! 12 refl)) (and-then ! (load ! (from ! (stop !)) (look ! 0 refl)) (no-more !)))) (from ! (stop !)) (init ! 16 refl (LL.lawful Y.the-type Y′.the-laws 𝓤 H A W .typed (tallied i) _ isy .0)) $
+        assigns ! (agg ! (and-then ! (load ! (from ! (stop !)) (look ! 12 refl)) (and-then ! (load ! (from ! (stop !)) (look ! 0 refl)) (no-more !)))) (from ! (stop !)) (init ! 16 refl (LL.lawful Y.the-type Y′.the-laws 𝓤 H A W .typed (counted i) _ isy .0)) $
         returns ! (look ! 16 refl) $ forget ! 0 refl $ forget ! 4 refl $ forget ! 6 refl $ forget ! 10 refl $ forget ! 12 refl $ forget ! 14 refl $ forget ! 16 refl $
         move ! (16 ∷ 17 ∷ []) $ free1 ! $ move ! (14 ∷ 15 ∷ []) $ free1 ! $ move ! (12 ∷ 13 ∷ []) $ free1 ! $ move ! (10 ∷ 11 ∷ []) $ free1 ! $ move ! (8 ∷ 9 ∷ []) $ free1 ! $ move ! (6 ∷ 7 ∷ []) $ free1 ! $ move ! (4 ∷ 5 ∷ []) $ free1 ! $ move ! (2 ∷ 3 ∷ []) $ free1 ! $ free1 ! $ free0 ! $
         by ! (exits i isy g)

@@ -5,10 +5,10 @@ use mathlib.Core.Bool.{false}
 use mathlib.Core.List.{List}
 use Rattle.journal.specs.Journal.{NextOf, goesOn}
 use Rattle.journal.specs.Theorems.{Reached}
-use Rattle.lines.specs.declared.Tally.{Tally}
+use Rattle.lines.specs.declared.LineCount.{LineCount}
 
 -- so many lines were read on from the start, to a place where reading does not go on, and what stands there
-pub record Tallied (j : List ℕ) (t : Tally) : Type 0 where
+pub record CountsLines (j : List ℕ) (t : LineCount) : Type 0 where
   pub at : ℕ
   pub form : ℕ
   pub reached : Reached j (t .lines) at form
