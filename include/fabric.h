@@ -1,15 +1,24 @@
 /*
- * fabric.h: the host simulator's view of the Tardis TSO fabric journal.
+ * fabric.h: checks the lines of a Tardis TSO fabric journal, for a simulator that writes one.
  *
- * Link with target/staticlib/libhost.a; nothing else is needed:
+ * One function, with nothing else to link. In a clone of the repository, after `make build`:
  *
  *     cc -Iinclude host.c target/staticlib/libhost.a
+ *
+ * Where the library is installed, under /usr/local say:
+ *
+ *     cc -I/usr/local/include host.c -L/usr/local/lib -lfabric
+ *
+ * The journal is played by the program `steps`, and its format is in the manual page steps(1). examples/host.c of the repository is a
+ * whole program.
  */
 #ifndef FABRIC_H
 #define FABRIC_H
 
 #include <stddef.h>
 #include <stdint.h>
+
+#define FABRIC_VERSION "1.0.0"
 
 #ifdef __cplusplus
 extern "C" {
@@ -19,7 +28,7 @@ extern "C" {
 enum fabric_line {
     FABRIC_LINE_STEP = 0,          /* a step line of a `fabric=1` journal */
     FABRIC_LINE_TOO_LONG = 10,     /* over 200 bytes */
-    FABRIC_LINE_NO_FORM = 11,      /* not a form of the grammar; an empty line is none either */
+    FABRIC_LINE_NO_FORM = 11,      /* none of the forms below; an empty line and a journal's first line are none either */
     FABRIC_LINE_WRONG_NUMBER = 12, /* a number without digits, with another byte, with a leading zero, or above 4294967295 */
     FABRIC_LINE_WRONG_DATA = 13    /* data that are empty, odd in count, or have a byte other than 0-9 a-f */
 };
@@ -33,15 +42,14 @@ enum fabric_line {
  *     op=receive core=N                    op=yield line=N
  *     op=take line=N
  *
- * with single blanks, N a decimal number and H lower-case hex pairs. A value is the bytes after its `=` up to the next
- * blank or the line's end.
+ * with single blanks, N a decimal number (0 itself, or without leading zeros) and H lower-case hex pairs. A value is the bytes after its
+ * `=` up to the next blank or the line's end.
  *
- * Returns one of the numbers above; where more than one applies, the smallest of them. Whether cores, lines or the count of
- * data bytes fit a particular engine is not looked at.
+ * Returns one of the numbers above: the first that applies, in the order 10, 11, 12, 13. A line that gives 0 may still be refused when it
+ * is played: whether its core, its line and the count of its data bytes fit an engine is not looked at, nor the engine's state.
  *
- * `line` may hold any bytes, zero bytes among them; it need not end in one, and a newline is a byte like any other.
- * `len` may be 0, which is 11; `line` must not be null even then. Exactly the bytes line[0] to line[len - 1] are read, and
- * none is written.
+ * `line` points to `len` bytes of any values; a zero byte and a newline are bytes like any other. `len` may be 0, which is 11; `line`
+ * must not be null even then. No byte outside these is read, not even one after the last, and none is written.
  *
  * The function keeps no state, allocates nothing, always returns and sets no errno: it may be called from any number of
  * threads at once, and from a signal handler.

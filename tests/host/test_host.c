@@ -1,6 +1,8 @@
 /*
- * Checks fabric_check_line: every number at its edges, by hand, and 100,000 random lines against the independent check of
- * plain_check.c. Prints one line; exits with 1 if anything is wrong. Takes the seed of the random lines as an argument.
+ * Checks fabric_check_line: every number at its edges, by hand; 100,000 random lines against the independent check of
+ * plain_check.c; and the lines on standard input, each with the number that the second implementation gives it, as
+ * `step-lines` of tests/reference writes them. Prints one line; exits with 1 if anything is wrong. Takes the seed of the
+ * random lines as an argument.
  */
 #include "fabric.h"
 #include "lines.h"
@@ -12,6 +14,31 @@
 
 static unsigned failed;
 static unsigned edges;
+
+/* How often each number was met; 0 and 10 to 13 are the numbers there are. */
+struct met {
+    unsigned of[14];
+    unsigned in_all;
+};
+
+static void meet(struct met *met, uint32_t number)
+{
+    met->in_all++;
+    if (number <= 13)
+        met->of[number]++;
+}
+
+/* Lines among which a number hardly occurs would show little. */
+static void see_that_all_are_met(const char *what, const struct met *met, unsigned least)
+{
+    static const unsigned numbers[] = { 0, 10, 11, 12, 13 };
+    for (size_t i = 0; i < sizeof numbers / sizeof *numbers; i++)
+        if (met->in_all < least || met->of[numbers[i]] < met->in_all / 100) {
+            fprintf(stderr, "the %s lines are too few or too much alike: %u, of them %u with %u\n", what, met->in_all,
+                    met->of[numbers[i]], numbers[i]);
+            failed++;
+        }
+}
 
 static void show(const uint8_t *line, size_t len)
 {
@@ -231,7 +258,7 @@ static void texts(void)
     EXPECT(13, "op=store core=0 line=0 data=H");
 }
 
-static void random_lines(uint64_t seed, unsigned count, unsigned *met)
+static void random_lines(uint64_t seed, unsigned count, struct met *met)
 {
     struct random r = { seed };
     for (unsigned i = 0; i < count; i++) {
@@ -242,10 +269,40 @@ static void random_lines(uint64_t seed, unsigned count, unsigned *met)
         for (uint32_t accidents = random_below(&r, 3); accidents > 0 && len < 900; accidents--)
             len = damaged_line(&r, line, len);
         got = answer(line, len, &plain);
-        if (got <= 13)
-            met[got]++;
+        meet(met, got);
         if (got != plain) {
             fprintf(stderr, "line %u: got %u, by the plain check %u: ", i, got, plain);
+            show(line, len);
+            fprintf(stderr, "\n");
+            failed++;
+        }
+    }
+}
+
+/* The bytes that a text of hex pairs stands for; how many. */
+static size_t from_hex(const char *text, uint8_t *bytes)
+{
+    size_t n = 0;
+    unsigned byte;
+    while (sscanf(text + 2 * n, "%2x", &byte) == 1)
+        bytes[n++] = (uint8_t)byte;
+    return n;
+}
+
+/* The lines of standard input: a number, a blank, and the line in hex. */
+static void given_lines(struct met *met)
+{
+    static char text[16384];
+    static uint8_t line[sizeof text / 2];
+    while (fgets(text, sizeof text, stdin) != NULL) {
+        char *rest;
+        uint32_t number = (uint32_t)strtoul(text, &rest, 10);
+        size_t len = from_hex(rest + 1, line);
+        uint32_t plain;
+        uint32_t got = answer(line, len, &plain);
+        meet(met, got);
+        if (got != number || plain != number) {
+            fprintf(stderr, "given %u, got %u, by the plain check %u: ", number, got, plain);
             show(line, len);
             fprintf(stderr, "\n");
             failed++;
@@ -256,20 +313,17 @@ static void random_lines(uint64_t seed, unsigned count, unsigned *met)
 int main(int argc, char **argv)
 {
     uint64_t seed = argc > 1 ? strtoull(argv[1], NULL, 0) : 0x9e3779b97f4a7c15u;
-    unsigned count = 100000;
-    unsigned met[14] = { 0 };
+    struct met random = { { 0 }, 0 }, given = { { 0 }, 0 };
     every_kind();
     lengths();
     numbers();
     datas();
     texts();
-    random_lines(seed != 0 ? seed : 1, count, met);
-    /* A run in which a number hardly occurs would show little. */
-    if (met[0] < count / 100 || met[10] < count / 100 || met[11] < count / 100 || met[12] < count / 100 || met[13] < count / 100) {
-        fprintf(stderr, "the random lines are too much alike\n");
-        failed++;
-    }
-    printf("host: %u edge lines, %u random lines (0: %u, 10: %u, 11: %u, 12: %u, 13: %u), %u wrong\n", edges, count, met[0], met[10],
-           met[11], met[12], met[13], failed);
+    random_lines(seed != 0 ? seed : 1, 100000, &random);
+    see_that_all_are_met("random", &random, 100000);
+    given_lines(&given);
+    see_that_all_are_met("given", &given, 1000);
+    printf("host: %u edge lines, %u random lines (0: %u, 10: %u, 11: %u, 12: %u, 13: %u), %u given by the second implementation, %u wrong\n",
+           edges, random.in_all, random.of[0], random.of[10], random.of[11], random.of[12], random.of[13], given.in_all, failed);
     return failed != 0;
 }

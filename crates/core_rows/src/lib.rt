@@ -18,6 +18,7 @@ use protocol::Line;
 use protocol::Move;
 use protocol::Opening;
 use protocol::Slot;
+use protocol::Sum;
 use protocol::Want;
 
 // The version of the shared copy held.
@@ -71,7 +72,7 @@ pub fn load(c: usize, l: usize, core: Core, copy: Copy, line: Line) -> Effect
     match copy {
         Copy::None => ask(Want::Load, l, core, copy, line),
         Copy::Shared { wts, rts } => {
-            if before.lts.0 <= rts.0 {
+            if before.lts.at_most(rts) {
                 let clocks = before.load(wts);
                 let ts = clocks.lts;
                 Effect {
@@ -142,28 +143,28 @@ pub fn store(c: usize, l: usize, core: Core, copy: Copy, line: Line) -> Effect
     match copy {
         Copy::None => ask(Want::Store, l, core, copy, line),
         Copy::Shared { .. } => ask(Want::Store, l, core, copy, line),
-        Copy::Owned { rts, .. } => {
-            if !rts.fits(1) {
-                return refusals::refused(27, core, copy, line);
+        Copy::Owned { rts, .. } => match rts.after(1) {
+            Sum::Passes => refusals::refused(27, core, copy, line),
+            Sum::At(earliest) => {
+                let clocks = before.store(earliest);
+                let ts = clocks.sts;
+                Effect {
+                    answer: Answer::CommitStore {
+                        core: c,
+                        line: l,
+                        ts,
+                    },
+                    moves: Move::Store,
+                    core: Core { clocks, slot },
+                    copy: Copy::Owned {
+                        dirty: true,
+                        wts: ts,
+                        rts: ts,
+                    },
+                    line,
+                }
             }
-            let clocks = before.store(rts);
-            let ts = clocks.sts;
-            Effect {
-                answer: Answer::CommitStore {
-                    core: c,
-                    line: l,
-                    ts,
-                },
-                moves: Move::Store,
-                core: Core { clocks, slot },
-                copy: Copy::Owned {
-                    dirty: true,
-                    wts: ts,
-                    rts: ts,
-                },
-                line,
-            }
-        }
+        },
     }
 }
 
@@ -190,15 +191,17 @@ pub fn advance(by: u32, core: Core, copy: Copy, line: Line) -> Effect
 {
     let slot = core.slot;
     let before = core.clocks;
-    if !before.lts.fits(by) {
-        return refusals::refused(27, core, copy, line);
-    }
-    let clocks = before.advance(by);
-    Effect {
-        answer: Answer::Advance,
-        moves: Move::Still,
-        core: Core { clocks, slot },
-        copy,
-        line,
+    match before.lts.after(by) {
+        Sum::Passes => refusals::refused(27, core, copy, line),
+        Sum::At(to) => {
+            let clocks = before.advance(to);
+            Effect {
+                answer: Answer::Advance,
+                moves: Move::Still,
+                core: Core { clocks, slot },
+                copy,
+                line,
+            }
+        }
     }
 }

@@ -57,6 +57,7 @@ pub record Going (j : Bytes) (from : Standing) (p₀ q₀ old : Bytes) (z : Size
   pub gs : List Given
   pub leads : Leads j from p₀ q₀ gs (standingAt at form steps commits refusals s) p q
   pub text : take used out ≡ lines (runFrom from p₀ q₀ gs .records)
+  pub size : length out ≡ length old
   pub within : used ≤ length out
   pub beyond : drop used out ≡ drop used old
 
@@ -85,6 +86,7 @@ going-start j s p q old base e b =
       gs = [];
       leads = leads-none j s p q;
       text = refl;
+      size = refl;
       within = omega arith;
       beyond = refl;
     }
@@ -102,7 +104,7 @@ module _ {j : Bytes} {from : Standing} {p₀ q₀ old : Bytes} {z : Sizes} {base
       let h = put-short w refl in
       let i = g .within in
       rw (e, h .1)
-      (record { within = g .within; beyond = g .beyond; tells = more (g .stands) (g .leads) (g .text) x (omega (arith, h .0)) })
+      (record { size = g .size; within = g .within; beyond = g .beyond; tells = more (g .stands) (g .leads) (g .text) x (omega (arith, h .0)) })
 
   -- the last lines are put, or there is no room for them
   pub finish : (e : Ending) (out' : Bytes) (put : Put) (r : Played) → EndsAt j form at e → PutAt out used (lastLines (countsOf (standingAt at form steps commits refusals s)) e) out' put → r ≡ playedBy put used (standingAt at form steps commits refusals s) → Plays j from p₀ q₀ old p q out' r
@@ -110,6 +112,7 @@ module _ {j : Bytes} {from : Standing} {p₀ q₀ old : Bytes} {z : Sizes} {base
       let v = put-written w refl in
       rw f
       (record {
+        size = v .size ∙ g .size;
         within = omega (arith, v .room, v .end, v .size);
         beyond = v .beyond ∙ past old out used k _ (g .beyond) (v .end);
         tells = done (g .stands) (g .leads) x (v .before ∙ ap (λ (l : Bytes). l ++ lastLines (countsOf (standingAt at form steps commits refusals s)) e) (g .text));
@@ -139,6 +142,7 @@ module _ {j : Bytes} {from : Standing} {p₀ q₀ old : Bytes} {z : Sizes} {base
           gs = g .gs ++ (given call (take count buf) ∷ []);
           leads = leads-more (g .leads) call (take count buf) (standingAt next form (steps + 1) commits' refusals' s') p' q' x (d .spelt) refl em refl ec er;
           text = v .before ∙ rw (g .text) (sym (lines-more (g .leads) call (take count buf)));
+          size = v .size ∙ g .size;
           within = omega (arith, v .room, v .end, v .size);
           beyond = v .beyond ∙ past old out used e _ (g .beyond) (v .end);
         }

@@ -6,4 +6,3 @@ pub mod Turning
 pub mod Going
 pub mod Decoding
 pub mod Starting
-pub mod Whole

@@ -1,6 +1,6 @@
--- The steps of a run one after the other: what one step more adds to the records, the machine, the counts and the listing.
+-- The steps of a run one after the other: what one step more adds to the records, the machine and the counts.
 use Prim.Native.Nat.{ℕ, suc, _+_, _-_}
-use mathlib.Core.Path.{_≡_, refl, sym, _∙_, ap, ap₂}
+use mathlib.Core.Path.{_≡_, refl, sym, _∙_, ap}
 use mathlib.Core.List.{List, [], _∷_, _++_, append-assoc, append-nil}
 use native.Mathlib.Omega.{arith}
 use native.Mathlib.Nat.{add-assoc, add-zero}
@@ -13,14 +13,18 @@ use Rattle.protocol.specs.declared.Call.{Call}
 use Rattle.journal.specs.Journal.{NextOf}
 use Rattle.journal.specs.declared.Next.the-variants.{Step}
 use Rattle.listing.specs.Record.{recordText}
-use Rattle.driver.specs.Listing.{Ending, Data, noLine, aLine, lines, isCommit, isRefusal, count, Counts, counted, lastLines, listingFrom}
+use Rattle.driver.specs.Listing.{Data, Between, noLine, aLine, lines, isCommit, isRefusal, count, Counts, counted}
 use Rattle.driver.specs.Play.{countsOf, runFrom, Leads}
 use Rattle.driver.specs.declared.Standing.{Standing}
-use Rattle.driver.proofs.Reading.{steps-append}
 
 -- ---- one list of steps after another
 
-lines-append : (rs ts : List Record) → lines (rs ++ ts) ≡ lines rs ++ lines ts
+-- lines that spell steps and then steps
+pub steps-append : {j : Bytes} {form a b d : ℕ} {gs hs : List Given} → Between j form a gs b → Between j form b hs d → Between j form a (gs ++ hs) d
+steps-append noLine y = y
+steps-append (aLine x b r) y = aLine x b (steps-append r y)
+
+pub lines-append : (rs ts : List Record) → lines (rs ++ ts) ≡ lines rs ++ lines ts
 unfolding lines
 lines-append [] ts = refl
 lines-append (r ∷ rs) ts = ap (λ (l : Bytes). recordText (r .place) (r .reply) ++ l) (lines-append rs ts) ∙ sym (append-assoc (recordText (r .place) (r .reply)) (lines rs) (lines ts))
@@ -30,7 +34,7 @@ unfolding count
 count-append f [] ts = omega arith
 count-append f (r ∷ rs) ts = omega (arith, count-append f rs ts)
 
-run-records : (gs hs : List Given) (p : ℕ) (m : Machine) → run (gs ++ hs) p m .records ≡ run gs p m .records ++ run hs (p + length gs) (run gs p m .last) .records
+pub run-records : (gs hs : List Given) (p : ℕ) (m : Machine) → run (gs ++ hs) p m .records ≡ run gs p m .records ++ run hs (p + length gs) (run gs p m .last) .records
 unfolding run
 run-records [] hs p m = ap (λ (k : ℕ). run hs k m .records) (omega arith)
 run-records (g ∷ gs) hs p m =
@@ -49,25 +53,9 @@ unfolding run
 run-length [] p m = refl
 run-length (g ∷ gs) p m = ap suc (run-length gs (suc p) (step m (g .call) (g .bytes) .machine))
 
-counted-append : (k : Counts) (rs ts : List Record) → counted (counted k rs) ts ≡ counted k (rs ++ ts)
+pub counted-append : (k : Counts) (rs ts : List Record) → counted (counted k rs) ts ≡ counted k (rs ++ ts)
 counted-append k rs ts =
     rw (length-append rs ts, count-append isCommit rs ts, count-append isRefusal rs ts, add-assoc, add-assoc, add-assoc)
-
--- THE LISTING GOES ON: the steps gs and then hs list as the lines of gs, and then as the listing from the machine and the counts after gs
-pub listing-append :
-    (m : Machine) (k : Counts) (gs hs : List Given) (e : Ending)
-    → listingFrom m k (gs ++ hs) e
-    ≡ lines (run gs (k .steps + 1) m .records)
-    ++ listingFrom (run gs (k .steps + 1) m .last) (counted k (run gs (k .steps + 1) m .records)) hs e
-listing-append m k gs hs e =
-    let rs : List Record = run gs (k .steps + 1) m .records in
-    let n : k .steps + 1 + length gs ≡ k .steps + length rs + 1 = omega (arith, run-length gs (k .steps + 1) m) in
-    let ts : List Record = run hs (k .steps + length rs + 1) (run gs (k .steps + 1) m .last) .records in
-    let r : run (gs ++ hs) (k .steps + 1) m .records ≡ rs ++ ts =
-    run-records gs hs (k .steps + 1) m ∙ ap (λ (i : ℕ). rs ++ run hs i (run gs (k .steps + 1) m .last) .records) n in
-    ap (λ (l : List Record). lines l ++ lastLines (counted k l) e) r
-    ∙ ap₂ (λ (l : Bytes) (c : Counts). l ++ lastLines c e) (lines-append rs ts) (sym (counted-append k rs ts))
-    ∙ append-assoc (lines rs) (lines ts) (lastLines (counted (counted k rs) ts) e)
 
 -- ---- from one standing to another
 

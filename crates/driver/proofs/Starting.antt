@@ -44,10 +44,10 @@ module _ {j old new : Bytes} {n : ℕ} {r : Played} (x : NotOpened j n) (u : Put
   away : (p : Put) → PutAt old 0 (notOpened n) new p → r ≡ turnedBy p → Starts j old new r
   away (End e) w f =
       let v = put-written w refl in
-      rw f (record { within = omega (arith, v .room, v .end, v .size); beyond = v .beyond; begins = fails x refl (v .before) })
+      rw f (record { size = v .size; within = omega (arith, v .room, v .end, v .size); beyond = v .beyond; begins = fails x refl (v .before) })
   away Short w f =
       let h = put-short w refl in
-      rw (f, h .1) (record { within = omega arith; beyond = refl; begins = noRoomToEnd x refl refl (omega (arith, h .0)) })
+      rw (f, h .1) (record { size = refl; within = omega arith; beyond = refl; begins = noRoomToEnd x refl refl (omega (arith, h .0)) })
 
   pub starts-away : Starts j old new r
   starts-away = away (u .put) (u .text) (u .played)
@@ -60,10 +60,10 @@ module _ {j old new : Bytes} {form next : ℕ} {o : Sizes} {r : Played} (x : Nex
   begun : (p : Put) → PutAt old 0 (recordText (place 0) (openReply o)) new p → r ≡ openedBy next form o p → Starts j old new r
   begun (End e) w g =
       let v = put-written w refl in
-      rw g (record { within = omega (arith, v .room, v .end, v .size); beyond = v .beyond; begins = opens x (open-fits o f) refl (v .before) })
+      rw g (record { size = v .size; within = omega (arith, v .room, v .end, v .size); beyond = v .beyond; begins = opens x (open-fits o f) refl (v .before) })
   begun Short w g =
       let h = put-short w refl in
-      rw (g, h .1) (record { within = omega arith; beyond = refl; begins = noRoom x (open-fits o f) refl refl (omega (arith, h .0)) })
+      rw (g, h .1) (record { size = refl; within = omega arith; beyond = refl; begins = noRoom x (open-fits o f) refl refl (omega (arith, h .0)) })
 
   pub starts-open : Starts j old new r
   starts-open = begun (u .put) (rw reply (u .text)) (u .played)

@@ -1,4 +1,3 @@
 pub mod Listing
 pub mod Play
 pub mod Pieces
-pub mod Calls

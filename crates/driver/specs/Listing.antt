@@ -1,14 +1,13 @@
--- The listing of a journal: 01, "Journal and driver". A journal reads as an opening and a list of steps; the steps are run on the fresh
--- engine, and the listing is the text of the run's records and the end line, whose counts are those of the records.
+-- What the listing of a journal is made of: 01, "Journal and driver". The steps that a journal spells, the text of their records, and the
+-- last lines, whose counts are those of the records.
 use Prim.Native.Nat.{ℕ, _+_, _-_}
 use mathlib.Core.Path.{_≡_}
 use mathlib.Core.List.{List, [], _∷_, _++_}
 use lib.ListN.{length}
 use Rattle.protocol.specs.Buffers.{Bytes, part}
-use Rattle.protocol.specs.Machine.{Machine, freshMachine}
 use Rattle.protocol.specs.Refusals.{openRefusal}
-use Rattle.protocol.specs.Step.{Reply, refused, done, commit, openReply}
-use Rattle.protocol.specs.Run.{Given, Record, place, run}
+use Rattle.protocol.specs.Step.{Reply, refused, done, commit}
+use Rattle.protocol.specs.Run.{Given, Record, place}
 use Rattle.protocol.specs.declared.Opening.{Opening as Sizes}
 use Rattle.protocol.specs.declared.Call.{Call}
 use Rattle.spelling.specs.Hex.{Spells}
@@ -40,12 +39,6 @@ pub data Between (journal : Bytes) (form : ℕ) : ℕ → List Given → ℕ →
 pub data EndsAt (journal : Bytes) (form at : ℕ) : Ending → Type 0 where
   atEnd : NextOf journal at form End → EndsAt journal form at ended
   atRefusal : {n : ℕ} → NextOf journal at form (Refused n) → EndsAt journal form at (stopped n)
-
--- the steps that a journal of some form spells from a place on, and how it ends
-pub record Reads (journal : Bytes) (form at : ℕ) (gs : List Given) (e : Ending) : Type 0 where
-  pub to : ℕ
-  pub steps : Between journal form at gs to
-  pub ends : EndsAt journal form to e
 
 -- ---- the text
 
@@ -93,14 +86,6 @@ lastLines k (stopped n) =
     recordText (place (k .steps + 1)) (refused n)
     ++ endLine (record { steps = k .steps + 1; commits = k .commits; refusals = k .refusals + 1 })
 
--- the listing from a machine on, after k was met: the records of the steps, and the last lines
-abbrev pub listingFrom : Machine → Counts → List Given → Ending → Bytes
-listingFrom m k gs e = lines (run gs (k .steps + 1) m .records) ++ lastLines (counted k (run gs (k .steps + 1) m .records)) e
-
--- nothing met yet
-abbrev pub none : Counts
-none = record { steps = 0; commits = 0; refusals = 0 }
-
 -- no engine is opened: the first line's sizes or lease lie outside the limits (7); or the first line is refused (10 to 12), the input is
 -- empty (11) or over 65,536 bytes (14)
 pub data NotOpened (journal : Bytes) : ℕ → Type 0 where
@@ -110,12 +95,3 @@ pub data NotOpened (journal : Bytes) : ℕ → Type 0 where
 -- the whole listing then: "n=0, end=0"
 abbrev pub notOpened : ℕ → Bytes
 notOpened n = recordText (place 0) (refused n) ++ endText 0 0 1
-
--- THE LISTING of a journal
-pub data Listing (journal : Bytes) : Bytes → Type 0 where
-  -- the first line opens an engine, and the steps run on it
-  opens :
-      {form : ℕ} {o : Sizes} {next : ℕ} {gs : List Given} {e : Ending} → NextOf journal 0 0 (Opening form o next) → openRefusal o ≡ 0
-      → Reads journal form next gs e → Listing journal (recordText (place 0) (openReply o) ++ listingFrom (freshMachine o) none gs e)
-  -- the first line opens none
-  fails : {n : ℕ} → NotOpened journal n → Listing journal (notOpened n)

@@ -78,8 +78,9 @@ pub data Tells (journal : Bytes) (from : Standing) (p q : Bytes) (there : Standi
       → Tells journal from p q there p' q' text room Unfit
 
 -- a call of `play` that returns r, for the buffers p and q and the output `old`, and leaves p', q' and `new`: the text is the first
--- `written` bytes of the output, and all bytes past it are as they were
+-- `written` bytes of the output, which keeps its length, and all bytes past it are as they were
 pub record Plays (journal : Bytes) (from : Standing) (p q old p' q' new : Bytes) (r : Played) : Type 0 where
+  pub size : length new ≡ length old
   pub within : r .written ≤ length new
   pub beyond : drop (r .written) new ≡ drop (r .written) old
   pub tells : Tells journal from p q (r .standing) p' q' (take (r .written) new) (length new - r .written) (r .progress)
@@ -111,6 +112,7 @@ pub data Begins (journal : Bytes) (there : Standing) (text : Bytes) (room : ℕ)
 
 -- a call of `start` that returns r, for the output `old`, and leaves `new`
 pub record Starts (journal old new : Bytes) (r : Played) : Type 0 where
+  pub size : length new ≡ length old
   pub within : r .written ≤ length new
   pub beyond : drop (r .written) new ≡ drop (r .written) old
   pub begins : Begins journal (r .standing) (take (r .written) new) (length new - r .written) (r .progress)

@@ -187,7 +187,7 @@ pub fn play(
                 let k = s.core[c];
                 let slot = k.slot;
                 let l = tables::line_of(call, slot);
-                let i = c * 64 + l;
+                let i = c * Opening::MOST_LINES + l;
                 let cell = s.cell[i];
                 let line = s.line[l];
                 let copy = cell.copy;

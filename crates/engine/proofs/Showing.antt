@@ -1,67 +1,61 @@
--- The part that `show` hands out: what it is where a refusal applies and where none does, and that it lies in its buffer.
-use Prim.Native.Nat.{ℕ, _+_, _≤_}
-use mathlib.Core.Path.{_≡_, refl}
-use mathlib.Core.Bool.{Bool, true, false}
+-- Which part `show` gives, where a refusal applies and where none does.
+use Prim.Native.Nat.{ℕ, _+_, _-_}
+use mathlib.Core.Path.{_≡_, sym, _∙_}
+use mathlib.Core.Bool.{true, false}
 use native.Mathlib.Omega.{arith}
-use lib.Dec.{eqb}
 use lib.ListN.{length, length-replicate}
-use borrow.Author.Tests.{ne-eqb, eqb-true}
+use borrow.Author.Tests.{ne-eqb}
+use denote.Ref.{RefT, now}
 use Rattle.protocol.specs.Pick.{pick}
-use Rattle.protocol.specs.Buffers.{Bytes, copyStart, managerStart}
+use Rattle.protocol.specs.Buffers.{Bytes, copyStart, managerStart, Placed}
 use Rattle.protocol.specs.Machine.{Machine, machine, copyAt}
 use Rattle.protocol.specs.Refusals.{machineRefusal, stateFits, isHeld}
 use Rattle.protocol.specs.Step.{shown, showRefusal}
 use Rattle.protocol.specs.declared.State.{State}
 use Rattle.protocol.specs.declared.Call.the-variants.{Load}
-use Rattle.protocol.specs.declared.Buffer.the-variants.{Private as InPrivate, Shared as InShared}
-use Rattle.protocol.specs.declared.Shown.{Shown}
-use Rattle.protocol.proofs.Places.{copy-ends, manager-ends}
-use Rattle.protocol.proofs.Refusals.{or-none, machine-fit, placed}
+use Rattle.protocol.proofs.Refusals.{Fit, or-none, machine-fit, placed}
 use Rattle.refusals.specs.Input.{machineWith, inputRefusal}
-use Rattle.engine.specs.Calls.{bufferOf}
+use Rattle.places.specs.Kept.{placeFits}
+use Rattle.places.proofs.Places.{placed-place, place-start}
+use Rattle.engine.specs.Calls.{PartOf, Shows}
 
-module _ (s : State) (p q : Bytes) (c l n : ℕ) (e : n ≡ inputRefusal (machineWith (s .opening) (s .core) (s .line) (length p) (length q)) (Load c l) 0) where
-  here : n ≡ showRefusal (machine s p q) c l
+-- the part of so many bytes is the part up to their end
+counted : (s r : RefT Bytes) (start count : ℕ) → PartOf s start count r → PartOf s start (start + count - start) r
+counted s r start count h = let e : start + count - start ≡ count = omega arith in rw e h
+
+-- what `input_refusal` is given of a machine
+abbrev lengthsOnly : State → RefT Bytes → RefT Bytes → Machine
+lengthsOnly s p q = machineWith (s .opening) (s .core) (s .line) (length (now p)) (length (now q))
+
+-- n is the refusal that it gives for core c and line l
+module _ (s : State) (p q : RefT Bytes) (c l n : ℕ) (e : n ≡ inputRefusal (lengthsOnly s p q) (Load c l) 0) where
+  here : n ≡ showRefusal (machine s (now p) (now q)) c l
   unfolding machineRefusal stateFits
   here = rw (length-replicate, length-replicate) at e
 
-  pub shown-nothing : (n ≡ 0 → ⊥) → record { buffer = InShared; start = 0; end = 0 } ≡ shown (machine s p q) c l
+  pub shows-nothing : (n ≡ 0 → ⊥) → (r : RefT Bytes) → PartOf q 0 0 r → Shows s p q c l r
   unfolding shown
-  shown-nothing h = rw (← here, ne-eqb n 0 h)
+  shows-nothing h r a = rw (← here, ne-eqb n 0 h) a
 
-  pub shown-copy :
-      n ≡ 0 → isHeld (copyAt s c l) ≡ true → (start : ℕ) → start ≡ copyStart (s .opening) c l
-      → record { buffer = InPrivate; start = start; end = start + s .opening .width } ≡ shown (machine s p q) c l
-  unfolding shown
-  shown-copy h k start a = rw (← here, h, k, a)
+  module _ (z : n ≡ 0) where
+    fit : Fit (machine s (now p) (now q))
+    fit = machine-fit (machine s (now p) (now q)) (or-none (machineRefusal (machine s (now p) (now q))) _ (sym here ∙ z) .0)
 
-  pub shown-manager :
-      n ≡ 0 → isHeld (copyAt s c l) ≡ false → (start : ℕ) → start ≡ managerStart (s .opening) l
-      → record { buffer = InShared; start = start; end = start + s .opening .width } ≡ shown (machine s p q) c l
-  unfolding shown
-  shown-manager h k start a = rw (← here, h, k, a)
+    pub there : Placed (s .opening) c l
+    there = placed fit (Load c l) 0 (or-none (machineRefusal (machine s (now p) (now q))) _ (sym here ∙ z) .1)
 
--- a part of a buffer, from a start to an end that lie in it
-abbrev pub Lies : Bytes → Bytes → Shown → Type 0
-Lies p q x = (x .start ≤ x .end) × (x .end ≤ length (bufferOf (x .buffer) p q))
+    -- a start as crate `places` gives it
+    exact : (a start : ℕ) → start ≡ pick (placeFits (s .opening) c l) a 0 → start ≡ a
+    exact = place-start (s .opening) c l (placed-place (fit .opening) there)
 
-either : (p q : Bytes) (b : Bool) (x y : Shown) → (b ≡ true → Lies p q x) → (b ≡ false → Lies p q y) → Lies p q (pick b x y)
-either p q true x y f g = f refl
-either p q false x y f g = g refl
+    pub shows-copy :
+        isHeld (copyAt s c l) ≡ true → (start : ℕ) → start ≡ pick (placeFits (s .opening) c l) (copyStart (s .opening) c l) 0
+        → (r : RefT Bytes) → PartOf p start (s .opening .width) r → Shows s p q c l r
+    unfolding shown
+    shows-copy h start a r b = rw (← here, z, h, ← exact _ start a) (counted p r start (s .opening .width) b)
 
-pub shown-lies : (m : Machine) (c l : ℕ) → Lies (m .private) (m .shared) (shown m c l)
-unfolding shown
-shown-lies m c l =
-    either (m .private) (m .shared) (eqb (showRefusal m c l) 0) _ _
-    (λ e.
-    let a = or-none (machineRefusal m) _ (eqb-true _ _ e) in
-    let f = machine-fit m (a .0) in
-    let g = placed f (Load c l) 0 (a .1) in
-    either (m .private) (m .shared) (isHeld (copyAt (m .state) c l)) _ _
-    (λ h. let k = copy-ends g in (omega arith, rw (f .nPrivate) k))
-    (λ h. let k = manager-ends g in (omega arith, rw (f .nShared) k)))
-    (λ e. (omega arith, omega arith))
-
--- the same of a value that is that part
-pub lies : (m : Machine) (c l : ℕ) (x : Shown) → x ≡ shown m c l → Lies (m .private) (m .shared) x
-lies m c l x e = rw e (shown-lies m c l)
+    pub shows-manager :
+        isHeld (copyAt s c l) ≡ false → (start : ℕ) → start ≡ pick (placeFits (s .opening) c l) (managerStart (s .opening) l) 0
+        → (r : RefT Bytes) → PartOf q start (s .opening .width) r → Shows s p q c l r
+    unfolding shown
+    shows-manager h start a r b = rw (← here, z, h, ← exact _ start a) (counted q r start (s .opening .width) b)

@@ -1,17 +1,16 @@
--- What `step`, `open` and `show` promise, each an equation with the definitions of `protocol`.
-use Prim.Native.Nat.{ℕ, _-_}
+-- What `step`, `open`, `show` and `commit_bytes` promise, by equations with the definitions of `protocol`.
+use Prim.Native.Nat.{ℕ, _+_, _-_, min}
 use mathlib.Core.Path.{_≡_}
 use mathlib.Core.List.{[]}
+use lib.ListN.{length}
+use denote.Ref.{RefT, ptr, now}
 use Rattle.protocol.specs.Buffers.{Bytes, part, copyStart}
 use Rattle.protocol.specs.Machine.{Machine, machine, coreOf, lineOf}
-use Rattle.protocol.specs.Step.{meaning, openReply, opened, step}
+use Rattle.protocol.specs.Step.{meaning, openReply, opened, step, Buffer, inPrivate, inShared, Shown, shown}
 use Rattle.protocol.specs.declared.Opening.{Opening}
 use Rattle.protocol.specs.declared.State.{State}
 use Rattle.protocol.specs.declared.Call.{Call}
 use Rattle.protocol.specs.declared.Answer.the-variants.{Refused}
-use Rattle.protocol.specs.declared.Buffer.{Buffer}
-use Rattle.protocol.specs.declared.Buffer.the-variants.{Private as InPrivate, Shared as InShared}
-use Rattle.protocol.specs.declared.Shown.{Shown}
 use Rattle.tables.specs.declared.Span.{Span}
 use Rattle.tables.specs.Spans.{spanOf}
 use Rattle.engine.specs.declared.Opened.{Opened}
@@ -35,11 +34,21 @@ pub record Opens (o : Opening) (r : Opened) : Type 0 where
   pub reply : meaning (r .answer) [] ≡ openReply o
   pub state : r .state ≡ opened o
 
--- the buffer that a part of `show` lies in
-abbrev pub bufferOf : Buffer → Bytes → Bytes → Bytes
-bufferOf InPrivate p q = p
-bufferOf InShared p q = q
+-- r is the part of the lent slice s that has `count` bytes from `start` on, as far as s has them. It points into the same memory, `start` bytes
+-- past where s points, or to the end of s where s ends before that. `commit_bytes` promises it of the private buffer
+pub record PartOf (s : RefT Bytes) (start count : ℕ) (r : RefT Bytes) : Type 0 where
+  pub place : ptr r ≡ (ptr s .0, min start (length (now s)) + ptr s .1)
+  pub bytes : now r ≡ part (now s) start count
 
--- the bytes of such a part
-abbrev pub shownBytes : Shown → Bytes → Bytes → Bytes
-shownBytes x p q = part (bufferOf (x .buffer) p q) (x .start) (x .end - x .start)
+-- which of the two lent slices a buffer is, the private one p or the shared one q
+abbrev pub lentAs : Buffer → RefT Bytes → RefT Bytes → RefT Bytes
+lentAs inPrivate p q = p
+lentAs inShared p q = q
+
+-- r is the part that x names of the lent slices p and q
+abbrev pub IsPart : Shown → RefT Bytes → RefT Bytes → RefT Bytes → Type 0
+IsPart x p q r = PartOf (lentAs (x .buffer) p q) (x .start) (x .end - x .start) r
+
+-- show: r is the part of the lent slices p and q that `shown` names
+abbrev pub Shows : State → RefT Bytes → RefT Bytes → ℕ → ℕ → RefT Bytes → Type 0
+Shows s p q core line r = IsPart (shown (machine s (now p) (now q)) core line) p q r

@@ -2,25 +2,22 @@
 // bytes of a line or of a commit.
 //
 // Every function takes any values at all and has no `requires`. What each promises is an equation with
-// `opened`, `step`, `shown` or `part` of crate `protocol`. Callers write `d = load(d.state, ..)`, which saves a
-// copy of the state against one by way of a local. `step` saves another copy against the nine.
+// `opened`, `step`, `shown` or `part` of crate `protocol`; of a part that is handed out, its place too.
+// Callers write `d = load(d.state, ..)`, which saves a copy of the state against one by way of a local.
+// `step` saves another copy against the nine.
 ghost use mathlib.Core.Path.{_≡_};
 ghost use mathlib.Core.List.{[]};
-ghost use Rattle.protocol.specs.Buffers.{part};
 ghost use Rattle.protocol.specs.Machine.{machine};
 ghost use Rattle.protocol.specs.Refusals.{isHeld};
-ghost use Rattle.protocol.specs.Step.{shown};
 ghost use Rattle.engine.specs.Turns.{Turns};
-ghost use Rattle.engine.specs.Calls.{handedBack, Performs, Opens, shownBytes};
+ghost use Rattle.engine.specs.Calls.{handedBack, Performs, Opens, Shows, PartOf};
 use protocol::Answer;
-use protocol::Buffer;
 use protocol::Call;
 use protocol::Cell;
 use protocol::Copy;
 use protocol::Core;
 use protocol::Line;
 use protocol::Opening;
-use protocol::Shown;
 use protocol::State;
 
 // What a call makes of the pieces that it looks at: one core, its copy of one line, the manager's
@@ -262,9 +259,27 @@ fn is_held(copy: Copy) -> bool
     }
 }
 
-// Which part of which buffer `show` hands out: buffer, start and end.
-pub fn shown_at(s: State, private: &[u8], shared: &[u8], core: usize, line: usize) -> Shown
-    ensures { λ r. ⌜ r ≡ shown (machine s (now («private» .entry)) (now (shared .entry))) core line ⌝ }
+// The part of a slice that has `count` bytes from `start` on, as far as the slice has them; where it
+// ends before `start`, the empty part at its end. Nothing is copied.
+fn part(bytes: &[u8], start: usize, count: usize) -> &[u8]
+    ensures { λ r. ⌜ PartOf (bytes .entry) start count r ⌝ }
+{
+    let length = bytes.len();
+    if length < start {
+        return &bytes[length..length];
+    }
+    if length - start < count {
+        return &bytes[start..length];
+    }
+    let end = start + count;
+    &bytes[start..end]
+}
+
+// The bytes of a line as a core sees them: its copy's, a part of the private buffer, if it holds
+// one, else the manager's, a part of the shared buffer; under refusals 1 to 4 the empty part at the
+// start of the shared buffer. Nothing is copied.
+pub fn show<'a>(s: State, private: &'a [u8], shared: &'a [u8], core: usize, line: usize) -> &'a [u8]
+    ensures { λ r. ⌜ Shows s («private» .entry) (shared .entry) core line r ⌝ }
 {
     let opening = s.opening;
     let cores = s.core;
@@ -273,62 +288,23 @@ pub fn shown_at(s: State, private: &[u8], shared: &[u8], core: usize, line: usiz
     let call = Call::Load { core, line };
     let n = refusals::input_refusal(call, opening, cores, lines, private.len(), shared.len(), 0);
     if n != 0 {
-        return Shown {
-            buffer: Buffer::Shared,
-            start: 0,
-            end: 0,
-        };
+        return part(shared, 0, 0);
     }
-    let i = core * 64 + line;
+    let i = core * Opening::MOST_LINES + line;
     let e = s.cell[i];
     let copy = e.copy;
     if is_held(copy) {
         let start = places::copy_start(opening, core, line);
-        let end = start + width;
-        Shown {
-            buffer: Buffer::Private,
-            start,
-            end,
-        }
-    } else {
-        let start = places::manager_start(opening, core, line);
-        let end = start + width;
-        Shown {
-            buffer: Buffer::Shared,
-            start,
-            end,
-        }
+        return part(private, start, width);
     }
-}
-
-// The bytes of a line as a core sees them: its copy's, a part of the private buffer, if it holds
-// one, else the manager's, a part of the shared buffer; under refusals 1 to 4 the empty part at the
-// start of the shared buffer. Nothing is copied.
-pub fn show<'a>(s: State, private: &'a [u8], shared: &'a [u8], core: usize, line: usize) -> &'a [u8]
-    ensures { λ r. ⌜ now r ≡ shownBytes (shown (machine s (now («private» .entry)) (now (shared .entry))) core line) (now («private» .entry)) (now (shared .entry)) ⌝ }
-{
-    let part = shown_at(s, private, shared, core, line);
-    let buffer = part.buffer;
-    let start = part.start;
-    let end = part.end;
-    match buffer {
-        Buffer::Private => &private[start..end],
-        Buffer::Shared => &shared[start..end],
-    }
+    let start = places::manager_start(opening, core, line);
+    part(shared, start, width)
 }
 
 // The bytes of a commit: `count` of them from `start` in the private buffer, as `Done` says where a
-// call made one. For any start and count, as many of them as the buffer has. Nothing is copied.
+// call made one. For any start and count it is that part, as far as the buffer has it.
 pub fn commit_bytes(private: &[u8], start: usize, count: usize) -> &[u8]
-    ensures { λ r. ⌜ now r ≡ part (now («private» .entry)) start count ⌝ }
+    ensures { λ r. ⌜ PartOf («private» .entry) start count r ⌝ }
 {
-    let length = private.len();
-    if length < start {
-        return &private[0..0];
-    }
-    if length - start < count {
-        return &private[start..length];
-    }
-    let end = start + count;
-    &private[start..end]
+    part(private, start, count)
 }

@@ -6,4 +6,3 @@ pub mod Judge
 pub mod Unique
 pub mod OneAnswer
 pub mod Inside
-pub mod Examples

@@ -10,11 +10,13 @@ use lib.Dec.{eqb, lit≤}
 use lib.ListN.{length, getD}
 use Rattle.spelling.specs.Decimal.{IsNumber}
 use Rattle.spelling.specs.Hex.{IsData}
+use Rattle.spelling.specs.One.{One}
 use Rattle.spelling.proofs.Lists.{le-or-lt}
 use Rattle.spelling.proofs.Decide.{Told, same-number, number-told, data-told}
 use Rattle.grammar.specs.Form.{Part, fixed, value, number, pairs, Has}
-use Rattle.grammar.specs.Table.{Row, rowAt, rowsOf, openings, steps}
+use Rattle.grammar.specs.Table.{Row, rowAt, openings, steps}
 use Rattle.grammar.specs.Line.{Fits, LineOf, tooLong}
+use Rattle.grammar.specs.Theorems.{OneAnswerTheorem}
 use Rattle.grammar.specs.Scan.{valueAt, table, formOf, byteOf, Reads, right, wrong, ended, longer, same, other, aValue, nothingRead, withNumber, withoutNumber, withData, withoutData, Fails, FoundIn, nowhere, here}
 use Rattle.grammar.specs.declared.Line.{Line}
 use Rattle.grammar.specs.declared.Values.{Values}
@@ -113,12 +115,6 @@ found-some s (suc n) from h = go (reads-some s (formOf from) 0 (nothingRead s) (
 
 -- ---- the theorem
 
--- the line s has one answer by these rows, and no other
-pub record One (rows : List Row) (s : List ℕ) : Type 0 where
-  pub answer : Line
-  pub holds : LineOf rows s answer
-  pub only : (b : Line) → LineOf rows s b → b ≡ answer
-
 module _ (rows : List Row) (from n : ℕ) (count : length rows ≡ n) (below : from + n ≤ 10) (part : (k : ℕ) → k < length rows → rowAt rows k ≡ rowAt table (from + k)) where
   shapes : (k : ℕ) → k < length rows → Shaped (rowAt rows k .form)
   shapes k h = rw (part k h) (entry-at (from + k) (omega arith) .shape)
@@ -134,15 +130,14 @@ module _ (rows : List Row) (from n : ℕ) (count : length rows ≡ n) (below : f
 
   some-answer : (s : List ℕ) → (length s ≤ 200) ⊎ (200 < length s) → (a : Line) × LineOf rows s a
   some-answer s (inl l) = short s l
-  some-answer s (inr l) = (_, tooLong l)
+  some-answer s (inr l) = (_, tooLong (omega (arith, l)))
 
-  one : (s : List ℕ) → One rows s
+  one : (s : List ℕ) → One (LineOf rows s)
   one s =
       let a = some-answer s (le-or-lt (length s) 200) in
       record { answer = a .0; holds = a .1; only = λ b x. same-answer rows shapes apart s b (a .0) x (a .1) }
 
--- EACH LINE HAS EXACTLY ONE ANSWER, whatever form the journal has
-pub one-answer : (form : ℕ) (s : List ℕ) → One (rowsOf form) s
-one-answer zero s = one openings 0 1 refl (lit≤ tt) first s
-one-answer (suc zero) s = one steps 1 9 refl (lit≤ tt) later s
-one-answer (suc (suc form)) s = one [] 0 0 refl (lit≤ tt) (λ k h. absurd (omega arith)) s
+pub one-answer-theorem : OneAnswerTheorem
+one-answer-theorem zero s = one openings 0 1 refl (lit≤ tt) first s
+one-answer-theorem (suc zero) s = one steps 1 9 refl (lit≤ tt) later s
+one-answer-theorem (suc (suc form)) s = one [] 0 0 refl (lit≤ tt) (λ k h. absurd (omega arith)) s

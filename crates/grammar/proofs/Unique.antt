@@ -99,7 +99,7 @@ module _ (rows : List Row) (shapes : (k : ℕ) → k < length rows → Shaped (r
     some : length s ≤ 200 → (k : ℕ) (vs : List (List ℕ)) → Fits rows s k vs → Judged s k vs b → View s b
 
   view : {s : List ℕ} {b : Line} → LineOf rows s b → View s b
-  view (tooLong l) = long l refl
+  view (tooLong l) = long (omega (arith, l)) refl
   view (noForm l n) = none l n refl
   view (wrongNumber k vs l f n) = some l k vs f (number-wrong refl n)
   view (wrongData k vs l f n d) = some l k vs f (data-wrong refl n d)

@@ -2,6 +2,7 @@
 use Prim.Native.Nat.{ℕ}
 use mathlib.Core.Path.{_≡_}
 use mathlib.Core.List.{List}
+use Rattle.spelling.specs.One.{One}
 use Rattle.grammar.specs.Table.{rowsOf}
 use Rattle.grammar.specs.Line.{LineOf, numberOf}
 use Rattle.grammar.specs.declared.Line.{Line}
@@ -11,3 +12,7 @@ pub record Verdict (s : List ℕ) (r : ℕ) : Type 0 where
   pub answer : Line
   pub line : LineOf (rowsOf 1) s answer
   pub number : r ≡ numberOf answer
+
+-- each line has exactly one number
+abbrev pub OneVerdictTheorem : Type 0
+OneVerdictTheorem = (s : List ℕ) → One (Verdict s)

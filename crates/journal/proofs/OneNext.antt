@@ -12,8 +12,9 @@ use Rattle.spelling.proofs.Split.{upTo-unique}
 use Rattle.grammar.specs.Table.{rowsOf}
 use Rattle.grammar.specs.Line.{LineOf}
 use Rattle.grammar.specs.declared.Line.{Line}
-use Rattle.grammar.proofs.OneAnswer.{one-answer}
+use Rattle.grammar.proofs.OneAnswer.{one-answer-theorem}
 use Rattle.journal.specs.Journal.{placed, LineAt, NextOf, tooMuch, empty, ended, unended, aLine}
+use Rattle.journal.specs.Theorems.{OneNextTheorem}
 use Rattle.journal.specs.declared.Next.{Next}
 use Rattle.journal.specs.declared.Next.the-variants.{End, Refused}
 use Rattle.journal.proofs.Lines.{line-here, none-here}
@@ -40,7 +41,7 @@ module _ (j : List ℕ) (at form : ℕ) where
     line : (l : List ℕ) (next : ℕ) (a : Line) → length j ≤ 65536 → at < length j → LineAt j at l next → LineOf (rowsOf form) l a → b ≡ placed a at next → View b
 
   view : {b : Next} → NextOf j at form b → View b
-  view (tooMuch l) = long l refl
+  view (tooMuch l) = long (omega (arith, l)) refl
   view (empty l h e) = first l h e refl
   view (ended l h n) = over l h n refl
   view (unended l h w) = cut l h w refl
@@ -53,7 +54,7 @@ module _ (j : List ℕ) (at form : ℕ) where
   lines-same l m p q a b h k x y =
       let e : l ≡ m = sym (line-same j at l p h) ∙ line-same j at m q k in
       let n : p ≡ q = omega (arith, h .after, k .after, ap length e) in
-      let o = one-answer form l in
+      let o = one-answer-theorem form l in
       let s : a ≡ b = o .only a x ∙ sym (o .only b (subst (λ (t : List ℕ). LineOf (rowsOf form) t b) (sym e) y)) in
       ap₂ (λ (c : Line) (t : ℕ). placed c at t) s n
 
@@ -87,25 +88,18 @@ module _ (j : List ℕ) (at form : ℕ) where
   -- there is one
   some-line : length j ≤ 65536 → at < length j → (length j ≤ at + length (upTo 10 (drop at j))) ⊎ (at + length (upTo 10 (drop at j)) < length j) → (b : Next) × NextOf j at form b
   some-line s h (inl e) = (Refused 10, unended s h (none-here j at (at + length (upTo 10 (drop at j))) refl e))
-  some-line s h (inr e) = (_, aLine _ _ s (line-here j at (at + length (upTo 10 (drop at j))) refl e) (one-answer form _ .holds))
+  some-line s h (inr e) = (_, aLine _ _ s (line-here j at (at + length (upTo 10 (drop at j))) refl e) (one-answer-theorem form _ .holds))
 
   some-end : length j ≤ 65536 → length j ≤ at → Told (form ≡ 0) → (b : Next) × NextOf j at form b
   some-end s h (inl e) = (Refused 11, empty s h e)
   some-end s h (inr n) = (End, ended s h n)
 
   some-next : (length j ≤ 65536) ⊎ (65536 < length j) → (length j ≤ at) ⊎ (at < length j) → (b : Next) × NextOf j at form b
-  some-next (inr l) h = (Refused 14, tooMuch l)
+  some-next (inr l) h = (Refused 14, tooMuch (omega (arith, l)))
   some-next (inl s) (inl h) = some-end s h (same-number form 0)
   some-next (inl s) (inr h) = some-line s h (le-or-lt (length j) (at + length (upTo 10 (drop at j))))
 
--- the place has one answer, and no other
-pub record One (j : List ℕ) (at form : ℕ) : Type 0 where
-  pub answer : Next
-  pub holds : NextOf j at form answer
-  pub only : (b : Next) → NextOf j at form b → b ≡ answer
-
--- EACH PLACE OF A JOURNAL HAS EXACTLY ONE ANSWER
-pub one-next : (j : List ℕ) (at form : ℕ) → One j at form
-one-next j at form =
+pub one-next-theorem : OneNextTheorem
+one-next-theorem j at form =
     let a = some-next j at form (le-or-lt (length j) 65536) (le-or-lt (length j) at) in
     record { answer = a .0; holds = a .1; only = λ b x. same j at form (view j at form x) (view j at form (a .1)) }

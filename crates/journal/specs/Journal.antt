@@ -1,7 +1,8 @@
 -- What stands at a place of a journal: 01's next line, the end, or a refusal 10 to 14. Assumes nothing.
 use Prim.Native.Nat.{ℕ, _+_, _≤_, _<_}
 use mathlib.Core.Path.{_≡_}
-use mathlib.Core.List.{List, [], _∷_, _++_}
+use mathlib.Core.Bool.{Bool, true, false}
+use mathlib.Core.List.{List, _∷_, _++_}
 use lib.ListN.{length, drop}
 use Rattle.spelling.specs.Bytes.{Without}
 use Rattle.grammar.specs.Table.{rowsOf}
@@ -9,12 +10,9 @@ use Rattle.grammar.specs.Line.{LineOf}
 use Rattle.grammar.specs.declared.Line.{Line}
 use Rattle.grammar.specs.declared.Line.the-variants.{Opening as OpeningLine, Step as StepLine, Refused as RefusedLine}
 use Rattle.journal.specs.declared.Next.{Next}
+use Rattle.journal.specs.declared.Read.{Read}
+use Rattle.journal.specs.declared.Reader.{Reader}
 use Rattle.journal.specs.declared.Next.the-variants.{Opening, Step, End, Refused}
-
--- the lines of a journal joined, each with its newline (10)
-unfoldable pub joined : List (List ℕ) → List ℕ
-joined [] = []
-joined (l ∷ ls) = l ++ (10 ∷ joined ls)
 
 -- a line's answer, where the line stands at a place of the journal and the next one at `next`
 abbrev pub placed : Line → ℕ → ℕ → Next
@@ -41,6 +39,13 @@ pub data NextOf (journal : List ℕ) (at form : ℕ) : Next → Type 0 where
   -- a line with its newline: what the line is
   aLine : {a : Line} (l : List ℕ) (next : ℕ) → length journal ≤ 65536 → LineAt journal at l next → LineOf (rowsOf form) l a → NextOf journal at form (placed a at next)
 
+-- whether reading goes on after an answer: after a line that was read
+abbrev pub goesOn : Next → Bool
+goesOn (Opening form sizes next) = true
+goesOn (Step call start end next) = true
+goesOn End = false
+goesOn (Refused n) = false
+
 -- the place after an answer: the next line's, and the same after the end or a refusal
 abbrev pub placeAfter : ℕ → Next → ℕ
 placeAfter at (Opening form sizes next) = next
@@ -54,3 +59,13 @@ formAfter form (Opening named sizes next) = named
 formAfter form (Step call start end next) = form
 formAfter form End = form
 formAfter form (Refused n) = form
+
+-- one reading at a place: the answer, and the place and the form after it
+pub record ReadOf (journal : List ℕ) (at form : ℕ) (r : Read) : Type 0 where
+  pub found : NextOf journal at form (r .next)
+  pub place : r .at ≡ placeAfter at (r .next)
+  pub formed : r .form ≡ formAfter form (r .next)
+
+-- the reader after an answer: the same bytes at the same place in memory, and the place and the form after it
+abbrev pub readerAfter : Reader → Next → Reader
+readerAfter r n = record { journal = r .journal; at = placeAfter (r .at) n; form = formAfter (r .form) n }

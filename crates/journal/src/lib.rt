@@ -1,10 +1,11 @@
 // A journal read line by line.
 //
 // A place and a form say where reading stands: it starts at place 0 in form 0, where the first line is due. `step_at` says what
-// stands there, and `place_after` and `form_after` where to go on; a refusal leaves both, so that asking again gives the same
-// number and nothing is passed over. `Reader` holds the journal with the place and the form, for who wants one value to carry.
+// stands there. A `Reader` holds the journal with the place and the form; `next` hands out what stands there and the reader after
+// it together, and nobody else can set its place, so no byte is passed over. A refusal, or the end, leaves the reader where it is:
+// asking again gives the same answer.
 ghost use mathlib.Core.Path.{_≡_};
-ghost use Rattle.journal.specs.Journal.{NextOf, placeAfter, formAfter};
+ghost use Rattle.journal.specs.Journal.{NextOf, placeAfter, formAfter, ReadOf, readerAfter};
 use grammar::Line;
 use protocol::Call;
 use protocol::Opening;
@@ -30,8 +31,8 @@ pub enum Next {
     Refused(u32),
 }
 
-// The work: what stands at a place of a journal of the form given.
-fn next_at(journal: &[u8], at: usize, form: u32) -> Next
+// What stands at a place of a journal of the form given. Form 0 expects the first line.
+pub fn step_at(journal: &[u8], at: usize, form: u32) -> Next
     ensures { λ r. ⌜ NextOf (now (journal .entry)) at form r ⌝ }
 {
     if 65536 < journal.len() {
@@ -64,7 +65,7 @@ fn next_at(journal: &[u8], at: usize, form: u32) -> Next
 }
 
 // The place after an answer: the next line's; a refusal, or the end, leaves it.
-pub fn place_after(at: usize, n: Next) -> usize
+fn place_after(at: usize, n: Next) -> usize
     ensures { λ r. ⌜ r ≡ placeAfter at n ⌝ }
 {
     match n {
@@ -85,7 +86,7 @@ pub fn place_after(at: usize, n: Next) -> usize
 }
 
 // The form after an answer: the first line names it.
-pub fn form_after(form: u32, n: Next) -> u32
+fn form_after(form: u32, n: Next) -> u32
     ensures { λ r. ⌜ r ≡ formAfter form n ⌝ }
 {
     match n {
@@ -105,43 +106,62 @@ pub fn form_after(form: u32, n: Next) -> u32
     }
 }
 
+// One reading: what stands at a place, and the place and the form after it.
+struct Read {
+    at: usize,
+    form: u32,
+    next: Next,
+}
+
+// The work of a reader's step, on the slice and the numbers.
+fn read_at(journal: &[u8], at: usize, form: u32) -> Read
+    ensures { λ r. ⌜ ReadOf (now (journal .entry)) at form r ⌝ }
+{
+    let next = step_at(journal, at, form);
+    Read {
+        at: place_after(at, next),
+        form: form_after(form, next),
+        next,
+    }
+}
+
 // A journal, a place in it where a line starts, and the journal's form: 0 until its first line was read.
 pub struct Reader<'a> {
-    pub journal: &'a [u8],
-    pub at: usize,
-    pub form: u32,
+    journal: &'a [u8],
+    at: usize,
+    form: u32,
 }
 
-// A reader at a place of a journal; at place 0 with form 0 it starts.
-pub fn reader_at<'a>(journal: &'a [u8], at: usize, form: u32) -> Reader<'a>
-    ensures { λ r. ⌜ (r .journal ≡ journal .entry) × (r .at ≡ at) × (r .form ≡ form) ⌝ }
-{
-    Reader { journal, at, form }
+// What a reader hands out: what stood where it was, and the reader after it.
+pub struct Step<'a> {
+    pub reader: Reader<'a>,
+    pub next: Next,
 }
 
-// What stands where the reader is.
-pub fn step<'a>(r: Reader<'a>) -> Next
-    ensures { λ s. ⌜ NextOf (now (r .entry .journal)) (r .entry .at) (r .entry .form) s ⌝ }
-{
-    next_at(r.journal, r.at, r.form)
-}
+impl<'a> Reader<'a> {
+    // A reader at the start of a journal.
+    pub fn new(journal: &'a [u8]) -> Reader<'a>
+        ensures { λ r. ⌜ (r .journal ≡ journal .entry) × (r .at ≡ 0) × (r .form ≡ 0) ⌝ }
+    {
+        Reader {
+            journal,
+            at: 0,
+            form: 0,
+        }
+    }
 
-// What stands at a place of a journal of the form given, with plain parameters. Form 0 expects the first line.
-pub fn step_at(journal: &[u8], at: usize, form: u32) -> Next
-    ensures { λ r. ⌜ NextOf (now (journal .entry)) at form r ⌝ }
-{
-    step(reader_at(journal, at, form))
-}
-
-// The reader after an answer: at the next line, and where it was after a refusal or the end.
-pub fn after<'a>(r: Reader<'a>, n: Next) -> Reader<'a>
-    ensures { λ q. ⌜ (q .journal ≡ r .entry .journal) × (q .at ≡ placeAfter (r .entry .at) n) × (q .form ≡ formAfter (r .entry .form) n) ⌝ }
-{
-    let at = place_after(r.at, n);
-    let form = form_after(r.form, n);
-    Reader {
-        journal: r.journal,
-        at,
-        form,
+    // What stands where the reader is, and the reader after it, over the same bytes.
+    pub fn next(self) -> Step<'a>
+        ensures { λ s. ⌜ (NextOf (now (self .entry .journal)) (self .entry .at) (self .entry .form) (s .next)) × (s .reader ≡ readerAfter (self .entry) (s .next)) ⌝ }
+    {
+        let r = read_at(self.journal, self.at, self.form);
+        Step {
+            reader: Reader {
+                journal: self.journal,
+                at: r.at,
+                form: r.form,
+            },
+            next: r.next,
+        }
     }
 }

@@ -77,9 +77,6 @@ module _ (P : Bytes → Type 0) where
 pub put-length : (buf : Bytes) (at : ℕ) (src : Bytes) → length (put buf at src) ≡ length buf
 put-length buf at src = after-put (λ (x : Bytes). length x ≡ length buf) buf at src (length-splice buf at src) refl
 
-pub moved-length : (dst : Bytes) (at : ℕ) (src : Bytes) (from n : ℕ) → length (moved dst at src from n) ≡ length dst
-moved-length dst at src from n = after-moved (λ (x : Bytes). length x ≡ length dst) dst at src from n (put-length dst at _) refl
-
 -- "all other bytes stay": an index before the n bytes from a, or past them
 abbrev pub Elsewhere : ℕ → ℕ → ℕ → Type 0
 Elsewhere i a n = (i < a) ⊎ (a + n ≤ i)

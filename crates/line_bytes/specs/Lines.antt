@@ -5,6 +5,7 @@ use mathlib.Core.Bool.{Bool}
 use lib.Dec.{leb, eqb}
 use lib.ListN.{length}
 use Rattle.protocol.specs.Pick.{pick, both}
+use Rattle.protocol.specs.Limits.{mostWidth}
 use Rattle.protocol.specs.Buffers.{Bytes, part, splice}
 
 -- a line laid over one that is as long
@@ -23,6 +24,6 @@ put buf at src = pick (liesIn at (length src) buf) (splice buf at src) buf
 unfoldable pub moved : Bytes → ℕ → Bytes → ℕ → ℕ → Bytes
 moved dst at src from n = pick (both (liesIn from n src) (liesIn at n dst)) (splice dst at (part src from n)) dst
 
--- the n bytes of a buffer from `from`, put into the same buffer at another place; a line has at most 64 bytes
+-- the n bytes of a buffer from `from`, put into the same buffer at another place; a line has at most `mostWidth` bytes
 unfoldable pub shifted : Bytes → ℕ → ℕ → ℕ → Bytes
-shifted buf to from n = pick (leb n 64) (moved buf to buf from n) buf
+shifted buf to from n = pick (leb n mostWidth) (moved buf to buf from n) buf

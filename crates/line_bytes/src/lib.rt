@@ -7,7 +7,9 @@ ghost use mathlib.Core.Path.{_≡_};
 ghost use Prim.Native.Nat.{_+_};
 ghost use lib.Dec.{leb};
 ghost use lib.ListN.{replicate};
+ghost use Rattle.protocol.specs.Limits.{mostWidth};
 ghost use Rattle.line_bytes.specs.Lines.{copied, put, moved, shifted};
+use protocol::Opening;
 
 // Copies src over dst, if both are as long.
 pub fn copy_line(dst: &mut [u8], src: &[u8])
@@ -48,7 +50,7 @@ pub fn move_line(dst: &mut [u8], at: usize, src: &[u8], from: usize, n: usize)
 pub fn shift_line(buf: &mut [u8], to: usize, from: usize, n: usize)
     ensures { λ _. ⌜ now (buf .exit) ≡ shifted (now (buf .entry)) to from n ⌝ }
 {
-    if 64 < n {
+    if Opening::MOST_WIDTH < n {
         return;
     }
     if lies_in(from, n, buf.len()) {
@@ -60,10 +62,10 @@ pub fn shift_line(buf: &mut [u8], to: usize, from: usize, n: usize)
 }
 
 // Room for the widest line.
-fn blank() -> [u8; 64]
-    ensures { λ r. ⌜ r ≡ replicate 64 0 ⌝ }
+fn blank() -> [u8; Opening::MOST_WIDTH]
+    ensures { λ r. ⌜ r ≡ replicate mostWidth 0 ⌝ }
 {
-    [0u8; 64]
+    [0u8; Opening::MOST_WIDTH]
 }
 
 // Whether the n bytes from `at` lie in a buffer of this length.

@@ -85,7 +85,7 @@ pub fn kept_at(opening: Opening, core: usize, line: usize) -> Kept
             start: 0,
         };
     }
-    let cell = core * 64 + line;
+    let cell = core * Opening::MOST_LINES + line;
     let start = copy_at(opening, core, line);
     Kept {
         core,

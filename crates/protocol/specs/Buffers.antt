@@ -2,6 +2,7 @@
 use Prim.Native.Nat.{ℕ, _+_, _*_, _≤_, _<_}
 use mathlib.Core.List.{List, _++_}
 use lib.ListN.{length, take, drop}
+use Rattle.protocol.specs.Limits.{mostCores, mostLines, mostWidth}
 use Rattle.protocol.specs.declared.Opening.{Opening}
 use Rattle.protocol.specs.declared.Move.{Move}
 use Rattle.protocol.specs.declared.Move.the-variants.{Still, Store, Answer, Receive, Writeback, Take}
@@ -43,9 +44,9 @@ answerStart o c = (2 * o .lines + c) * o .width
 
 -- core c and line l are among those of an opening whose sizes lie inside the limits: their places lie in the buffers
 pub record Placed (o : Opening) (c l : ℕ) : Type 0 where
-  pub cores : o .cores ≤ 16
-  pub lines : o .lines ≤ 64
-  pub width : o .width ≤ 64
+  pub cores : o .cores ≤ mostCores
+  pub lines : o .lines ≤ mostLines
+  pub width : o .width ≤ mostWidth
   pub core : c < o .cores
   pub line : l < o .lines
 

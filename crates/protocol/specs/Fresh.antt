@@ -1,7 +1,9 @@
 -- "Fresh, for given sizes and lease: every timestamp 0, slots empty, no copies, manager lines shared, no recall, no writeback, .. One fresh
 -- core and one fresh line are fixed values that every opening uses." (`freshMachine` adds "all bytes 0".)
+use Prim.Native.Nat.{_*_}
 use lib.ListN.{replicate}
 use Rattle.protocol.specs.Stamps.{stamp}
+use Rattle.protocol.specs.Limits.{mostCores, mostLines}
 use Rattle.protocol.specs.declared.Copy.the-variants.{None as NoCopy}
 use Rattle.protocol.specs.declared.Slot.the-variants.{Empty}
 use Rattle.protocol.specs.declared.Manager.the-variants.{Shared}
@@ -27,7 +29,13 @@ freshLine = record { manager = Shared (stamp 0) (stamp 0); recall = NoRecall; wr
 
 -- the fresh state of an opening
 abbrev pub freshState : Opening → State
-freshState o = record { opening = o; core = replicate 16 freshCore; cell = replicate 1024 freshCell; line = replicate 64 freshLine }
+freshState o =
+    record {
+      opening = o;
+      core = replicate mostCores freshCore;
+      cell = replicate (mostCores * mostLines) freshCell;
+      line = replicate mostLines freshLine;
+    }
 
 -- "the fresh state of 1 core, 1 line, width 1, lease 1": its opening
 abbrev pub smallest : Opening

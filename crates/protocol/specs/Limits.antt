@@ -5,10 +5,25 @@ use lib.Dec.{leb}
 use Rattle.protocol.specs.Pick.{both}
 use Rattle.protocol.specs.declared.Opening.{Opening}
 
+-- the greatest sizes, and the longest lease
+abbrev pub mostCores : ℕ
+mostCores = 16
+
+abbrev pub mostLines : ℕ
+mostLines = 64
+
+abbrev pub mostWidth : ℕ
+mostWidth = 64
+
+abbrev pub mostLease : ℕ
+mostLease = 1000
+
 -- n lies from 1 to most
 abbrev pub within : ℕ → ℕ → Bool
 within n most = both (leb 1 n) (leb n most)
 
 -- the sizes and the lease lie inside the limits
 unfoldable pub openingFits : Opening → Bool
-openingFits o = both (within (o .cores) 16) (both (within (o .lines) 64) (both (within (o .width) 64) (within (o .lease) 1000)))
+openingFits o =
+    both (within (o .cores) mostCores)
+    (both (within (o .lines) mostLines) (both (within (o .width) mostWidth) (within (o .lease) mostLease)))

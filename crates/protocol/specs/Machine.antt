@@ -2,6 +2,7 @@
 use Prim.Native.Nat.{ℕ, _+_, _*_}
 use lib.ListN.{getD, set, replicate}
 use Rattle.protocol.specs.Buffers.{Bytes, privateLength, sharedLength, movedPrivate, movedShared}
+use Rattle.protocol.specs.Limits.{mostLines}
 use Rattle.protocol.specs.Fresh.{freshCore, freshCell, freshLine, freshState}
 use Rattle.protocol.specs.declared.Copy.{Copy}
 use Rattle.protocol.specs.declared.Slot.{Slot}
@@ -34,8 +35,12 @@ freshMachine o = machine (freshState o) (replicate (privateLength o) 0) (replica
 abbrev pub coreAt : State → ℕ → Core
 coreAt s c = getD (s .core) c freshCore
 
+-- where the state keeps the copy of core c, line l
+abbrev pub cellOf : ℕ → ℕ → ℕ
+cellOf c l = c * mostLines + l
+
 abbrev pub copyAt : State → ℕ → ℕ → Copy
-copyAt s c l = getD (s .cell) (c * 64 + l) freshCell .copy
+copyAt s c l = getD (s .cell) (cellOf c l) freshCell .copy
 
 abbrev pub lineAt : State → ℕ → Line
 lineAt s l = getD (s .line) l freshLine
@@ -91,7 +96,7 @@ written s c l d =
     record {
       opening = s .opening;
       core = set (s .core) c (d .core);
-      cell = set (s .cell) (c * 64 + l) (record { copy = d .copy });
+      cell = set (s .cell) (cellOf c l) (record { copy = d .copy });
       line = set (s .line) l (d .line);
     }
 

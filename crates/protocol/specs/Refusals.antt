@@ -5,7 +5,7 @@ use mathlib.Core.List.{List, [], _∷_}
 use lib.Dec.{ltb, leb, eqb}
 use lib.ListN.{length, take}
 use Rattle.protocol.specs.Pick.{pick, both, fails, every, Rule, first, _gives_}
-use Rattle.protocol.specs.Stamps.{fits}
+use Rattle.protocol.specs.Stamps.{earlier, fits}
 use Rattle.protocol.specs.Limits.{openingFits}
 use Rattle.protocol.specs.Buffers.{Bytes, privateLength, sharedLength}
 use Rattle.protocol.specs.Machine.{Machine, Pieces, piecesAt, coreOf, lineOf}
@@ -139,7 +139,7 @@ inFlight (Flight w r) = true
 -- a load must ask: "shared, lts > rts, or none"
 abbrev pub loadAsks : Copy → Stamp → Bool
 loadAsks NoCopy lts = true
-loadAsks (CopyShared w r) lts = ltb (r .0) (lts .0)
+loadAsks (CopyShared w r) lts = earlier r lts
 loadAsks (CopyOwned d w r) lts = false
 
 -- rts + 1 passes the greatest timestamp (store to an owned line)

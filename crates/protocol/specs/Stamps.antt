@@ -9,6 +9,9 @@ use mathlib.Core.Logic.{_⊎_}
 use lib.Dec.{ltb, leb, eqb}
 use Rattle.protocol.specs.Pick.{pick}
 use Rattle.protocol.specs.declared.Stamp.{Stamp}
+use Rattle.protocol.specs.declared.Sum.{Sum}
+use Rattle.protocol.specs.declared.Sum.the-variants.{At, Passes}
+use Rattle.protocol.specs.declared.Place.{Place}
 use Rattle.protocol.specs.declared.Key.{Key}
 
 -- a number as a timestamp
@@ -19,13 +22,37 @@ stamp n = record { 0 = n }
 abbrev pub greatest : Stamp
 greatest = stamp 4294967295
 
+-- the number n later, as a timestamp
+abbrev pub plus : Stamp → ℕ → Stamp
+plus t n = stamp (t .0 + n)
+
+-- a ≤ b, of two timestamps
+abbrev pub atMost : Stamp → Stamp → Bool
+atMost a b = leb (a .0) (b .0)
+
+-- a < b, of two timestamps
+abbrev pub earlier : Stamp → Stamp → Bool
+earlier a b = ltb (a .0) (b .0)
+
+-- two timestamps are equal
+abbrev pub same : Stamp → Stamp → Bool
+same a b = eqb (a .0) (b .0)
+
+-- "Made earlier means at a smaller place."
+abbrev pub madeEarlier : Place → Place → Bool
+madeEarlier a b = ltb (a .0) (b .0)
+
 -- the later of two timestamps
 abbrev pub later : Stamp → Stamp → Stamp
 later a b = stamp (max (a .0) (b .0))
 
 -- the timestamp n later does not pass the greatest (refusal 27 where it does)
 abbrev pub fits : Stamp → ℕ → Bool
-fits t n = leb (t .0 + n) (greatest .0)
+fits t n = atMost (plus t n) greatest
+
+-- the timestamp n later, or that it passes the greatest
+abbrev pub after : Stamp → ℕ → Sum
+after t n = pick (fits t n) (At (plus t n)) Passes
 
 -- "One commit precedes another if its timestamp is smaller, or if the timestamps are equal and its place is smaller."
 abbrev pub Precedes : Key → Key → Type 0
@@ -33,4 +60,4 @@ Precedes a b = (a .0 .0 < b .0 .0) ⊎ ((a .0 .0 ≡ b .0 .0) × (a .1 .0 < b .1
 
 -- the same as a test
 abbrev pub precedes : Key → Key → Bool
-precedes a b = pick (ltb (a .0 .0) (b .0 .0)) true (pick (eqb (a .0 .0) (b .0 .0)) (ltb (a .1 .0) (b .1 .0)) false)
+precedes a b = pick (earlier (a .0) (b .0)) true (pick (same (a .0) (b .0)) (madeEarlier (a .1) (b .1)) false)

@@ -19,8 +19,6 @@ use Rattle.protocol.specs.declared.Call.the-variants.{Load, Store, Fence
 use Rattle.protocol.specs.declared.Answer.{Answer}
 use Rattle.protocol.specs.declared.Answer.the-variants.{Refused, Open, Ask, Recall, Share, Renew, Own, Drop, Evict as AnswerEvict, Advance as AnswerAdvance, Yield as AnswerYield, Take as AnswerTake, CommitLoad, CommitStore, CommitFence}
 use Rattle.protocol.specs.declared.Effect.{Effect}
-use Rattle.protocol.specs.declared.Buffer.the-variants.{Private as InPrivate, Shared as InShared}
-use Rattle.protocol.specs.declared.Shown.{Shown}
 
 -- ---- answers
 
@@ -104,6 +102,16 @@ step m call given =
 
 -- ---- show
 
+-- one of the two lent buffers
+pub data Buffer : Type 0 where
+  inPrivate inShared : Buffer
+
+-- a part of one of them, from start up to end
+pub record Shown : Type 0 where
+  pub buffer : Buffer
+  pub start : ℕ
+  pub end : ℕ
+
 -- 1 to 4, as they apply to a core and a line
 abbrev pub showRefusal : Machine → ℕ → ℕ → ℕ
 showRefusal m c l = orElse (machineRefusal m) (callRefusal (Load c l) (m .state .opening) 0)
@@ -114,6 +122,6 @@ unfoldable pub shown : Machine → ℕ → ℕ → Shown
 shown m c l =
     pick (eqb (showRefusal m c l) 0)
     (pick (isHeld (copyAt (m .state) c l))
-    (record { buffer = InPrivate; start = copyStart (m .state .opening) c l; end = copyStart (m .state .opening) c l + m .state .opening .width })
-    (record { buffer = InShared; start = managerStart (m .state .opening) l; end = managerStart (m .state .opening) l + m .state .opening .width }))
-    (record { buffer = InShared; start = 0; end = 0 })
+    (record { buffer = inPrivate; start = copyStart (m .state .opening) c l; end = copyStart (m .state .opening) c l + m .state .opening .width })
+    (record { buffer = inShared; start = managerStart (m .state .opening) l; end = managerStart (m .state .opening) l + m .state .opening .width }))
+    (record { buffer = inShared; start = 0; end = 0 })

@@ -2,9 +2,9 @@
 -- A row gives the answer, the new pieces, and which line of bytes moves. They are read only where no refusal applies.
 use Prim.Native.Nat.{ℕ, _+_}
 use mathlib.Core.Bool.{Bool, true, false}
-use lib.Dec.{leb, eqb}
+use lib.Dec.{eqb}
 use Rattle.protocol.specs.Pick.{pick}
-use Rattle.protocol.specs.Stamps.{stamp, later}
+use Rattle.protocol.specs.Stamps.{plus, atMost, same, later}
 use Rattle.protocol.specs.Clock.{loaded, storeTime, stored, fenced, advanced}
 use Rattle.protocol.specs.Machine.{Pieces}
 use Rattle.protocol.specs.Refusals.{stateRefusal}
@@ -86,16 +86,20 @@ loadShared c l w p =
 -- "shared, lts > rts, or none: ask"
 unfoldable pub loadTable : Copy → ℕ → ℕ → Pieces → Effect
 loadTable (CopyOwned d w r) c l p = loadOwned d c l w r p
-loadTable (CopyShared w r) c l p = pick (leb (p .core .clocks .lts .0) (r .0)) (loadShared c l w p) (asking WantLoad l p)
+loadTable (CopyShared w r) c l p = pick (atMost (p .core .clocks .lts) r) (loadShared c l w p) (asking WantLoad l p)
 loadTable NoCopy c l p = asking WantLoad l p
 
 -- ---- store
 
+-- the earliest that a store may stand, past the lease: rts + 1
+abbrev pub earliest : Stamp → Stamp
+earliest r = plus r 1
+
 -- "owned: ts = max(lts, sts, rts + 1); sts, wts and rts become ts, bytes replaced, dirty; commit at ts. Else: ask."
 unfoldable pub storeTable : Copy → ℕ → ℕ → Pieces → Effect
 storeTable (CopyOwned d w r) c l p =
-    row (CommitStore c l (storeTime (p .core .clocks) r)) MoveStore (clocked (p .core) (stored (p .core .clocks) r))
-    (CopyOwned true (storeTime (p .core .clocks) r) (storeTime (p .core .clocks) r)) (p .line)
+    row (CommitStore c l (storeTime (p .core .clocks) (earliest r))) MoveStore (clocked (p .core) (stored (p .core .clocks) (earliest r)))
+    (CopyOwned true (storeTime (p .core .clocks) (earliest r)) (storeTime (p .core .clocks) (earliest r))) (p .line)
 storeTable (CopyShared w r) c l p = asking WantStore l p
 storeTable NoCopy c l p = asking WantStore l p
 
@@ -107,7 +111,7 @@ fenceTable c p = row (CommitFence c (fenced (p .core .clocks) .lts)) Still (cloc
 
 -- "advance (core, by): lts grows by that amount. No commit."
 unfoldable pub advanceTable : ℕ → Pieces → Effect
-advanceTable by p = row AnswerAdvance Still (clocked (p .core) (advanced (p .core .clocks) by)) (p .copy) (p .line)
+advanceTable by p = row AnswerAdvance Still (clocked (p .core) (advanced (p .core .clocks) (plus (p .core .clocks .lts) by))) (p .copy) (p .line)
 
 -- ---- evict
 
@@ -133,7 +137,7 @@ recalled WantLoad Flush = Flush
 -- "the asked wts equals the manager's"
 abbrev pub sameVersion : Held → Stamp → Bool
 sameVersion NothingHeld w = false
-sameVersion (Version v) w = eqb (v .0) (w .0)
+sameVersion (Version v) w = same v w
 
 -- the line with another manager part
 abbrev pub managed : Line → Manager → Line
@@ -141,7 +145,7 @@ managed m v = record { manager = v; recall = m .recall; writeback = m .writeback
 
 -- the lease's end after serving a load: "rts becomes max(rts, asked lts + lease)"
 abbrev pub leasedTo : Stamp → Stamp → ℕ → Stamp
-leasedTo r t lease = later r (stamp (t .0 + lease))
+leasedTo r t lease = later r (plus t lease)
 
 -- "the slot becomes renew, no bytes move; otherwise share, with bytes"; r is the new end of the lease
 unfoldable pub serveLoad : Bool → ℕ → Stamp → Stamp → Pieces → Effect

@@ -3,12 +3,9 @@
 //
 // What each step does to these parts is written in specs/, in the words of the scope document; this
 // crate's code is what every other crate shares: comparing timestamps, stepping a core's clocks,
-// and the fixed values that a fresh engine starts from. Only the sums of a timestamp have a `requires`:
-// that the sum fits, which a row finds before it adds (refusal 27).
-ghost use Prim.Native.Nat.{_+_};
+// and the fixed values that a fresh engine starts from. No function here has a `requires`.
 ghost use mathlib.Core.Path.{_≡_};
-ghost use mathlib.Core.Bool.{true};
-ghost use Rattle.protocol.specs.Stamps.{stamp, greatest, later, fits, precedes};
+ghost use Rattle.protocol.specs.Stamps.{greatest, atMost, earlier, same, madeEarlier, later, after, precedes};
 ghost use Rattle.protocol.specs.Clock.{loaded, stored, fenced, advanced};
 ghost use Rattle.protocol.specs.Fresh.{freshCore, freshCell, freshLine, freshState, smallest};
 ghost use Rattle.protocol.specs.Limits.{within, openingFits};
@@ -18,6 +15,12 @@ pub struct Stamp(pub u32);
 
 // A call's position in the list of calls, from 1. It is compared only with another place.
 pub struct Place(pub u64);
+
+// A timestamp so much later: still one, or past the greatest (refusal 27).
+pub enum Sum {
+    At(Stamp),
+    Passes,
+}
 
 // What commits are sorted by: the timestamp, and the place among equal timestamps.
 pub struct Key(pub Stamp, pub Place);
@@ -32,27 +35,53 @@ impl Stamp {
         Stamp::GREATEST
     }
 
+    // Whether this timestamp is at most the other.
+    pub fn at_most(self, other: Stamp) -> bool
+        ensures { λ r. ⌜ r ≡ atMost self other ⌝ }
+    {
+        self.0 <= other.0
+    }
+
+    // Whether this timestamp is smaller than the other.
+    pub fn earlier(self, other: Stamp) -> bool
+        ensures { λ r. ⌜ r ≡ earlier self other ⌝ }
+    {
+        self.0 < other.0
+    }
+
+    // Whether two timestamps are equal.
+    pub fn same(self, other: Stamp) -> bool
+        ensures { λ r. ⌜ r ≡ same self other ⌝ }
+    {
+        self.0 == other.0
+    }
+
     // The later of two timestamps.
     pub fn later(self, other: Stamp) -> Stamp
         ensures { λ r. ⌜ r ≡ later self other ⌝ }
     {
-        if self.0 < other.0 { other } else { self }
-    }
-
-    // Whether the timestamp n later is still one.
-    pub fn fits(self, n: u32) -> bool
-        ensures { λ r. ⌜ r ≡ fits self n ⌝ }
-    {
-        let most = Stamp::GREATEST;
-        n <= most.0 - self.0
+        if self.earlier(other) { other } else { self }
     }
 
     // The timestamp n later, where that is one.
-    pub fn after(self, n: u32) -> Stamp
-        requires { ⌜ fits self n ≡ true ⌝ }
-        ensures { λ r. ⌜ r ≡ stamp (self .0 + n) ⌝ }
+    pub fn after(self, n: u32) -> Sum
+        ensures { λ r. ⌜ r ≡ after self n ⌝ }
     {
-        Stamp(self.0 + n)
+        let most = Stamp::GREATEST;
+        if n <= most.0 - self.0 {
+            Sum::At(Stamp(self.0 + n))
+        } else {
+            Sum::Passes
+        }
+    }
+}
+
+impl Place {
+    // Whether the call at this place was made earlier than the one at the other.
+    pub fn made_earlier(self, other: Place) -> bool
+        ensures { λ r. ⌜ r ≡ madeEarlier self other ⌝ }
+    {
+        self.0 < other.0
     }
 }
 
@@ -61,13 +90,13 @@ impl Key {
     pub fn precedes(self, other: Key) -> bool
         ensures { λ r. ⌜ r ≡ precedes self other ⌝ }
     {
-        if self.0.0 < other.0.0 {
+        if self.0.earlier(other.0) {
             return true;
         }
-        if other.0.0 < self.0.0 {
-            return false;
+        if self.0.same(other.0) {
+            return self.1.made_earlier(other.1);
         }
-        self.1.0 < other.1.0
+        false
     }
 }
 
@@ -86,14 +115,12 @@ impl Clocks {
         self
     }
 
-    // After a store to a copy whose lease ends at rts, where rts + 1 is a timestamp.
-    pub fn store(mut self, rts: Stamp) -> Clocks
-        requires { ⌜ fits rts 1 ≡ true ⌝ }
-        ensures { λ r. ⌜ r ≡ stored self rts ⌝ }
+    // After a store that may stand at `earliest` at the earliest.
+    pub fn store(mut self, earliest: Stamp) -> Clocks
+        ensures { λ r. ⌜ r ≡ stored self earliest ⌝ }
     {
-        let past = rts.after(1);
         let last = self.lts.later(self.sts);
-        self.sts = last.later(past);
+        self.sts = last.later(earliest);
         self
     }
 
@@ -105,12 +132,11 @@ impl Clocks {
         self
     }
 
-    // After an advance, where lts + by is a timestamp.
-    pub fn advance(mut self, by: u32) -> Clocks
-        requires { ⌜ fits (self .lts) by ≡ true ⌝ }
-        ensures { λ r. ⌜ r ≡ advanced self by ⌝ }
+    // After an advance to a timestamp.
+    pub fn advance(mut self, to: Stamp) -> Clocks
+        ensures { λ r. ⌜ r ≡ advanced self to ⌝ }
     {
-        self.lts = self.lts.after(by);
+        self.lts = to;
         self
     }
 }
@@ -258,7 +284,10 @@ impl Opening {
 
     pub const MOST_WIDTH: usize = 64;
 
-    pub const MOST_LEASE: usize = 1000;
+    pub const MOST_LEASE: u32 = 1000;
+
+    // One copy for each core and line.
+    pub const MOST_COPIES: usize = Opening::MOST_CORES * Opening::MOST_LINES;
 
     // The opening of the state that a refused opening hands back.
     pub const SMALLEST: Opening = Opening {
@@ -279,6 +308,7 @@ impl Opening {
         ensures { λ r. ⌜ r ≡ openingFits self ⌝ }
     {
         let lease = self.lease as usize;
+        let longest = Opening::MOST_LEASE as usize;
         if !within(self.cores, Opening::MOST_CORES) {
             return false;
         }
@@ -288,7 +318,7 @@ impl Opening {
         if !within(self.width, Opening::MOST_WIDTH) {
             return false;
         }
-        within(lease, Opening::MOST_LEASE)
+        within(lease, longest)
     }
 }
 
@@ -302,13 +332,13 @@ fn within(n: usize, most: usize) -> bool
     n <= most
 }
 
-// The engine's state. The copy of core c, line l is cell c × 64 + l. Only cores and lines inside
-// the opening's sizes take part.
+// The engine's state. The copy of core c, line l is cell c × MOST_LINES + l. Only cores and lines
+// inside the opening's sizes take part.
 pub struct State {
     pub opening: Opening,
-    pub core: [Core; 16],
-    pub cell: [Cell; 1024],
-    pub line: [Line; 64],
+    pub core: [Core; Opening::MOST_CORES],
+    pub cell: [Cell; Opening::MOST_COPIES],
+    pub line: [Line; Opening::MOST_LINES],
 }
 
 impl State {
@@ -316,12 +346,12 @@ impl State {
     pub fn fresh(opening: Opening) -> State
         ensures { λ r. ⌜ r ≡ freshState opening ⌝ }
     {
-        let k = Core::FRESH;
-        let e = Cell::FRESH;
-        let l = Line::FRESH;
-        let core = [k; 16];
-        let cell = [e; 1024];
-        let line = [l; 64];
+        let k = Core::fresh();
+        let e = Cell::fresh();
+        let l = Line::fresh();
+        let core = [k; Opening::MOST_CORES];
+        let cell = [e; Opening::MOST_COPIES];
+        let line = [l; Opening::MOST_LINES];
         State {
             opening,
             core,
@@ -387,17 +417,4 @@ pub struct Effect {
     pub core: Core,
     pub copy: Copy,
     pub line: Line,
-}
-
-// One of the two lent buffers.
-pub enum Buffer {
-    Private,
-    Shared,
-}
-
-// The part of a buffer that `show` hands out.
-pub struct Shown {
-    pub buffer: Buffer,
-    pub start: usize,
-    pub end: usize,
 }

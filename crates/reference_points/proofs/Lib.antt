@@ -1,2 +1,7 @@
--- The proof of the reference points.
-pub mod Theorem
+-- The theorems: each table of specs/ is computed, and its rows are as the definitions give them.
+pub mod Each
+pub mod Rows
+pub mod Lines
+pub mod Sample
+pub mod Decides
+pub mod Logs

@@ -1,1 +1,9 @@
+-- The worked examples: the machine that they are played on, then a table for each part of 01.
+pub mod Rows
 pub mod Points
+pub mod Steps
+pub mod Numbers
+pub mod Show
+pub mod Lines
+pub mod Sample
+pub mod Logs

@@ -1,2 +1,2 @@
-// The scope document's reference points W1 to W12. The crate has no code: specs/ has the points as a table, proofs/ the theorem that
-// `step` gives every one of them.
+// Worked examples of the scope document as theorems about the definitions. The crate has no code: specs/ has the examples as tables, proofs/
+// the theorems that every one of them holds.

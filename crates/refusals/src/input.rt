@@ -5,7 +5,7 @@ ghost use mathlib.Core.Bool.{true};
 ghost use mathlib.Core.List.{[], _∷_};
 ghost use Prim.Native.Nat.{_≤_};
 ghost use Rattle.protocol.specs.Pick.{first};
-ghost use Rattle.protocol.specs.Limits.{openingFits};
+ghost use Rattle.protocol.specs.Limits.{mostCores, mostLines, openingFits};
 ghost use Rattle.protocol.specs.Refusals.{ownerFits, slotFits, ownersFit, slotsFit, stateFits, buffersFit, machineRefusal, coreRule, lineRule, callRefusal};
 ghost use Rattle.refusals.specs.Input.{machineWith, inputRefusal, lengthsFit};
 use protocol::Call;
@@ -26,8 +26,8 @@ fn owner_fits(cores: usize, manager: Manager) -> bool
 }
 
 // Whether every owner among the lines of an opening is one of its cores.
-fn owners_fit(opening: Opening, line: [Line; 64]) -> bool
-    requires { ⌜ opening .lines ≤ 64 ⌝ }
+fn owners_fit(opening: Opening, line: [Line; Opening::MOST_LINES]) -> bool
+    requires { ⌜ opening .lines ≤ mostLines ⌝ }
     ensures { λ r. ⌜ r ≡ ownersFit opening line ⌝ }
 {
     let lines = opening.lines;
@@ -65,8 +65,8 @@ fn slot_fits(lines: usize, slot: Slot) -> bool
 }
 
 // Whether every slot among the cores of an opening speaks of one of its lines.
-fn slots_fit(opening: Opening, core: [Core; 16]) -> bool
-    requires { ⌜ opening .cores ≤ 16 ⌝ }
+fn slots_fit(opening: Opening, core: [Core; Opening::MOST_CORES]) -> bool
+    requires { ⌜ opening .cores ≤ mostCores ⌝ }
     ensures { λ r. ⌜ r ≡ slotsFit opening core ⌝ }
 {
     let cores = opening.cores;
@@ -83,7 +83,11 @@ fn slots_fit(opening: Opening, core: [Core; 16]) -> bool
 }
 
 // Whether refusal 1 does not apply.
-pub fn state_fits(opening: Opening, core: [Core; 16], line: [Line; 64]) -> bool
+pub fn state_fits(
+    opening: Opening,
+    core: [Core; Opening::MOST_CORES],
+    line: [Line; Opening::MOST_LINES],
+) -> bool
     ensures { λ r. ⌜ r ≡ stateFits (machineWith opening core line 0 0 .state) ⌝ }
 {
     if !opening.fits() {
@@ -122,8 +126,8 @@ pub fn lengths_fit(opening: Opening, private: usize, shared: usize) -> bool
 // 1 or 2, or 0 where neither applies, for buffers of these lengths.
 pub fn machine_refusal(
     opening: Opening,
-    core: [Core; 16],
-    line: [Line; 64],
+    core: [Core; Opening::MOST_CORES],
+    line: [Line; Opening::MOST_LINES],
     private: usize,
     shared: usize,
 ) -> u8
@@ -215,8 +219,8 @@ pub fn call_refusal(call: Call, opening: Opening, count: usize) -> u8
 pub fn input_refusal(
     call: Call,
     opening: Opening,
-    core: [Core; 16],
-    line: [Line; 64],
+    core: [Core; Opening::MOST_CORES],
+    line: [Line; Opening::MOST_LINES],
     private: usize,
     shared: usize,
     count: usize,

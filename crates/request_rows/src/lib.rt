@@ -22,6 +22,7 @@ use protocol::Opening;
 use protocol::Recall;
 use protocol::Slot;
 use protocol::Stamp;
+use protocol::Sum;
 use protocol::Want;
 
 // The recall after a request for an owned line.
@@ -44,7 +45,7 @@ fn same_version(held: Held, wts: Stamp) -> bool
 {
     match held {
         Held::None => false,
-        Held::Version(v) => v.0 == wts.0,
+        Held::Version(v) => v.same(wts),
     }
 }
 
@@ -139,13 +140,13 @@ fn serve_asked(
             },
         },
         Manager::Shared { wts, rts } => match want {
-            Want::Load => {
-                if !lts.fits(opening.lease) {
-                    return refusals::refused(27, core, copy, line);
+            Want::Load => match lts.after(opening.lease) {
+                Sum::Passes => refusals::refused(27, core, copy, line),
+                Sum::At(end) => {
+                    let rts = rts.later(end);
+                    serve_load(same_version(held, wts), l, wts, rts, core, copy, line)
                 }
-                let end = rts.later(lts.after(opening.lease));
-                serve_load(same_version(held, wts), l, wts, end, core, copy, line)
-            }
+            },
             Want::Store => Effect {
                 answer: Answer::Own,
                 moves: Move::Answer,

@@ -5,4 +5,4 @@ pub mod Decide
 pub mod Split
 pub mod OverLaws
 pub mod DecodeLaws
-pub mod RoundTrip
+pub mod Theorems

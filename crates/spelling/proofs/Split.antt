@@ -1,7 +1,7 @@
 -- Laws of the bytes up to the next byte of some kind: a blank ends a value, a newline ends a line. Assumes nothing.
 use Prim.Native.Nat.{ℕ, suc, _+_, _≤_, _<_, _-_}
 use mathlib.Core.Path.{_≡_, refl, sym, _∙_, ap}
-use mathlib.Core.List.{List, [], _∷_, _++_, append-nil}
+use mathlib.Core.List.{List, [], _∷_, _++_}
 use mathlib.Core.Logic.{_⊎_, inl, inr, ⊎-elim}
 use native.Mathlib.Omega.{arith}
 use native.Mathlib.Numerals.{add-one}
@@ -43,9 +43,6 @@ module _ (stop : ℕ) where
   upTo-unique [] r c (inl e) = rw e none
   upTo-unique [] r c (inr e) = rw (e .1) (stopped stop (e .0) refl)
   upTo-unique (b ∷ v) r c e = other b (v ++ r) (c .0) ∙ ap (λ (l : List ℕ). b ∷ l) (upTo-unique v r (c .1) e)
-
-  pub upTo-whole : (v : List ℕ) → Without stop v → upTo stop v ≡ v
-  upTo-whole v c = ap (upTo stop) (sym (append-nil v)) ∙ upTo-unique v [] c (inl refl)
 
   -- one byte more
   pub upTo-at : (s : List ℕ) (i : ℕ) → i < length s → (getD s i 0 ≡ stop → ⊥) → length (upTo stop (drop i s)) ≡ 1 + length (upTo stop (drop (i + 1) s))

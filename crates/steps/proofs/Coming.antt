@@ -7,13 +7,15 @@ use native.Mathlib.Omega.{arith}
 use lib.ListN.{length, take, replicate}
 use Rattle.protocol.specs.Buffers.{Bytes, privateLength, sharedLength}
 use Rattle.driver.specs.Play.{stands, Plays, Starts}
-use Rattle.driver.specs.Calls.{Plays-on, last, next, over, begun}
 use Rattle.driver.specs.declared.Standing.{Standing}
 use Rattle.driver.specs.declared.Progress.{Progress}
 use Rattle.driver.specs.declared.Progress.the-variants.{Done, More, Short, Unfit}
 use Rattle.driver.specs.declared.Played.{Played}
 use Rattle.driver.proofs.Going.{met}
-use Rattle.steps.proofs.Progressing.{start-writes, Onward, finished, further, play-comes-on, Begun, listed, running, start-comes-on}
+use Rattle.playing.specs.Calls.{Plays-on, last, next, Playing, over, begun}
+use Rattle.playing.specs.Theorems.{Begun, listed, running, Onward, finished, further}
+use Rattle.playing.proofs.Whole.{whole-theorem}
+use Rattle.playing.proofs.Progressing.{start-comes-on-theorem, play-comes-on-theorem}
 use Rattle.steps.specs.Listed.{Ended, ended, stopped, Listed, whole, part}
 
 -- calls of `play` lead from a standing with the buffers p₀ and q₀ to another with p and q, from where `play` goes on
@@ -39,7 +41,7 @@ on-unfit (further a s) e = let z : _≡_ {A = ℕ} 0 1 = cc in omega arith
 
 module _ {j : Bytes} {from : Standing} {p₀ q₀ : Bytes} {there : Standing} {p q old p' q' new : Bytes} {r : Played} (c : Come j from p₀ q₀ there p q old) (x : Plays j there p q old p' q' new r) (n : length new ≡ length old) where
   on : Onward j there (r .standing) (r .progress)
-  on = play-comes-on x (c .standing) (omega (arith, n, c .room))
+  on = play-comes-on-theorem j there p q old p' q' new r x (c .standing) (c .room)
 
   -- the call was done
   pub come-done : r .progress ≡ Done → Ended j from p₀ q₀ true
@@ -65,31 +67,42 @@ begun-stands : {j : Bytes} {there : Standing} {g : Progress} → Begun j there g
 begun-stands listed e = absurd (let z : _≡_ {A = ℕ} 0 1 = cc in omega arith)
 begun-stands (running s) e = s
 
+begun-short : {j : Bytes} {there : Standing} {g : Progress} → Begun j there g → g ≡ Short → ⊥
+begun-short listed e = let z : _≡_ {A = ℕ} 0 1 = cc in omega arith
+begun-short (running s) e = let z : _≡_ {A = ℕ} 0 1 = cc in omega arith
+
 begun-unfit : {j : Bytes} {there : Standing} {g : Progress} → Begun j there g → g ≡ Unfit → ⊥
 begun-unfit listed e = let z : _≡_ {A = ℕ} 0 1 = cc in omega arith
 begun-unfit (running s) e = let z : _≡_ {A = ℕ} 0 1 = cc in omega arith
 
+-- the calls were made to the end: their texts are the listing
+listed-whole : {j : Bytes} {ts : List Bytes} → Playing j ts → Listed j true
+listed-whole {j} {ts} x = whole x (whole-theorem j ts x)
+
 module _ {j old new : Bytes} {r : Played} (x : Starts j old new r) where
   -- the listing is out whole
   pub list-done : r .progress ≡ Done → Listed j true
-  list-done e = whole (over x e)
+  list-done e = listed-whole (over x e)
 
   -- or is it with the calls of `play` on buffers of zeros
   pub list-more :
       {p q : Bytes} {b : Bool} → r .progress ≡ More → p ≡ replicate (privateLength (r .standing .state .opening)) 0
       → q ≡ replicate (sharedLength (r .standing .state .opening)) 0 → Ended j (r .standing) p q b → Listed j b
-  list-more e ep eq (ended y) = whole (begun x e (rw (ep, eq) at y))
+  list-more e ep eq (ended y) = listed-whole (begun x e (rw (ep, eq) at y))
   list-more e ep eq stopped = part
 
   module _ (h : 246 ≤ length new) where
+    begins : Begun j (r .standing) (r .progress)
+    begins = start-comes-on-theorem j old new r x (omega (arith, h, x .size))
+
     pub list-stands : r .progress ≡ More → stands (length j) (r .standing) ≡ true
-    list-stands e = begun-stands (start-comes-on x h) e
+    list-stands e = begun-stands begins e
 
     pub list-short : r .progress ≡ Short → ⊥
-    list-short e = start-writes x h e
+    list-short e = begun-short begins e
 
     pub list-unfit : r .progress ≡ Unfit → ⊥
-    list-unfit e = begun-unfit (start-comes-on x h) e
+    list-unfit e = begun-unfit begins e
 
 -- the first of many zeros
 zeros : (n m : ℕ) → n ≤ m → take {A = ℕ} n (replicate m 0) ≡ replicate n 0

@@ -2,15 +2,16 @@
 use mathlib.Core.Bool.{Bool, true, false}
 use mathlib.Core.List.{List}
 use Rattle.protocol.specs.Buffers.{Bytes}
-use Rattle.driver.specs.Calls.{Plays-on, Playing}
 use Rattle.driver.specs.declared.Standing.{Standing}
+use Rattle.playing.specs.Listing.{Listing}
+use Rattle.playing.specs.Calls.{joined, Plays-on, Playing}
 
 -- from a standing on, with the buffers p and q: true, and calls of `play` lead from there to the listing's end
 pub data Ended (journal : Bytes) (from : Standing) (p q : Bytes) : Bool → Type 0 where
   ended : {ts : List Bytes} → Plays-on journal from p q ts → Ended journal from p q true
   stopped : Ended journal from p q false
 
--- from the start: true, and `start` and calls of `play` give the whole listing
+-- from the start: true, and `start` and calls of `play` wrote texts that, put together, are the journal's listing
 pub data Listed (journal : Bytes) : Bool → Type 0 where
-  whole : {ts : List Bytes} → Playing journal ts → Listed journal true
+  whole : {ts : List Bytes} → Playing journal ts → Listing journal (joined ts) → Listed journal true
   part : Listed journal false

@@ -3,16 +3,58 @@
 // The journal is read to its end; one byte more than the longest that is taken suffices to tell one
 // that is too long. The driver does the work: it fills a large buffer with whole lines, which is
 // written in one piece, and goes on from where it stands.
+//
+// A read that fails is no end: nothing is listed then. That a read or a write failed, and why, is one
+// line on standard error.
 ghost use Prim.Native.Nat.{_≤_};
 ghost use mathlib.Core.Path.{_≡_};
 ghost use mathlib.Core.Bool.{true};
 ghost use lib.ListN.{length};
 ghost use Rattle.driver.specs.Play.{stands};
 ghost use Rattle.steps.specs.Listed.{Ended, Listed};
+ghost use Rattle.steps.specs.Input.{ReadInto};
 use driver::Progress;
 use driver::Standing;
+use libc::EINTR;
 use libc::STDIN_FILENO;
 use libc::STDOUT_FILENO;
+
+// How many reads that a signal interrupts are tried again.
+const MOST_RETRIES: usize = 1000;
+
+// What reading came to: so many bytes, or a read that failed.
+enum Input {
+    Read(usize),
+    Failed,
+}
+
+// Reads standard input into buf, until it ends or buf is full. Where a read fails, errno says why. Each turn of the
+// loop reads a byte or more, or is one of the retries.
+fn read_input(buf: &mut [u8]) -> Input
+    ensures { λ r. ⌜ ReadInto r (now (buf .exit)) ⌝ }
+{
+    let mut done = 0;
+    let mut retries = MOST_RETRIES;
+    while done < buf.len() {
+        let got = libc::read(STDIN_FILENO, &mut buf[done..]);
+        let more = io::count(got, &buf[done..]);
+        if more > 0 {
+            done += more;
+            continue;
+        }
+        if got == 0 {
+            return Input::Read(done);
+        }
+        if os::errno() != EINTR {
+            return Input::Failed;
+        }
+        if retries == 0 {
+            return Input::Failed;
+        }
+        retries -= 1;
+    }
+    Input::Read(done)
+}
 
 // Writes the listing of a journal from a standing on: all of it, or false where standard output does not take it.
 fn play_on(
@@ -91,8 +133,18 @@ fn list(journal: &[u8]) -> bool
     }
 }
 
+// The failing call is the last one before its line is written, so that errno is its own.
 fn main() {
     let mut journal = [0u8; 65537];
-    let n = io::read_full(STDIN_FILENO, &mut journal);
-    list(&journal[..n]);
+    let input = read_input(&mut journal);
+    match input {
+        Input::Read(n) => {
+            if !list(&journal[..n]) {
+                os::fail(b"steps: cannot write standard output");
+            }
+        }
+        Input::Failed => {
+            os::fail(b"steps: cannot read standard input");
+        }
+    }
 }

@@ -1,49 +1,245 @@
-//! How often each answer, each refusal and some cases worth knowing occurred,
-//! so that one can see that generated journals reach what they should.
+//! Which rows of 01 a run meets: every answer, every row of the step tables,
+//! every refusal with each of its reasons, every place where one can end a run.
+//! `rows` lists them; generated journals have to meet them all.
+//!
+//! Rows that no list of calls reaches are left out: refusals 1 and 2, which
+//! need a broken state or buffer, and answers that find an owned copy. A core's
+//! copy becomes owned only by the answer in its one slot, so a share or renewal
+//! that is under way never finds it owned.
 
 use std::collections::BTreeMap;
 
-use crate::journal::{kind_name, MAX_JOURNAL};
+use crate::journal::{self, has_unknown_kind, kind_name, MAX_JOURNAL, MAX_LINE};
 use crate::listing::done_name;
 use crate::machine::*;
 use crate::run::{Record, Run};
 
-/// Refusal numbers that a journal can reach. A driver never gets 1 and 2.
-pub const REACHABLE: [u32; 18] = [14, 10, 11, 12, 13, 7, 3, 4, 5, 6, 20, 21, 22, 23, 24, 25, 26, 27];
+const ANSWERS: &[&str] = &[
+    "done open",
+    "done ask",
+    "done recall",
+    "done share",
+    "done renew",
+    "done own",
+    "done drop",
+    "done evict",
+    "done advance",
+    "done yield",
+    "done take",
+    "commit load",
+    "commit store",
+    "commit fence",
+];
 
-/// Counted cases by name.
+/// 01, "Steps".
+const STEPS: &[&str] = &[
+    "load: owned dirty, lts up to rts",
+    "load: owned dirty, lts past rts",
+    "load: owned clean, lts below wts",
+    "load: owned clean, lts from wts to rts",
+    "load: owned clean, lts past rts",
+    "load: shared, lts below wts",
+    "load: shared, lts from wts on, below rts",
+    "load: shared, lts at rts",
+    "load: shared, lts past rts",
+    "load: no copy",
+    "load: commits within 2,000 of the greatest timestamp",
+    "store: owned clean, at lts",
+    "store: owned clean, at sts",
+    "store: owned clean, at rts + 1",
+    "store: owned dirty, at lts",
+    "store: owned dirty, at sts",
+    "store: owned dirty, at rts + 1",
+    "store: shared",
+    "store: no copy",
+    "store: commits within 2,000 of the greatest timestamp",
+    "fence: lts below sts",
+    "fence: lts from sts on",
+    "fence: commits within 2,000 of the greatest timestamp",
+    "evict: shared",
+    "evict: shared, a request for the line under way",
+    "evict: shared, a writeback of the line in flight",
+    "evict: owned, no recall",
+    "evict: owned, downgrade",
+    "evict: owned, flush",
+    "advance",
+    "serve: owned, load, no recall",
+    "serve: owned, load, downgrade",
+    "serve: owned, load, flush",
+    "serve: owned, store, no recall",
+    "serve: owned, store, downgrade",
+    "serve: owned, store, flush",
+    "serve: owned by the asking core",
+    "serve: owned, a writeback in flight",
+    "serve: owned, load, asked lts + lease past the greatest",
+    "serve: shared, load, no version held",
+    "serve: shared, load, another version held",
+    "serve: shared, load, the same version held",
+    "serve: shared, load, rts grows",
+    "serve: shared, load, rts stays",
+    "serve: shared, store",
+    "serve: shared, store, asked lts + lease past the greatest",
+    "receive: share, no copy",
+    "receive: share, shared copy",
+    "receive: own, no copy",
+    "receive: own, shared copy",
+    "receive: renew, no copy",
+    "receive: renew, shared copy",
+    "yield: downgrade, clean",
+    "yield: downgrade, dirty",
+    "yield: flush, clean",
+    "yield: flush, dirty",
+    "take: no recall",
+    "take: downgrade",
+    "take: flush",
+    "a step on an engine of 16 x 64 x 64",
+];
+
+/// 01, "Refused because of the input" and "of the state".
+const REFUSALS: &[&str] = &[
+    "refused 14",
+    "refused 10: line over 200 bytes",
+    "refused 10: no last newline",
+    "refused 11: empty journal",
+    "refused 11: opening",
+    "refused 11: unknown step kind",
+    "refused 11: another form",
+    "refused 12: no digits",
+    "refused 12: another byte",
+    "refused 12: leading zero",
+    "refused 12: above the greatest",
+    "refused 13: empty",
+    "refused 13: odd in count",
+    "refused 13: not 0-9 a-f",
+    "refused 7: cores 0",
+    "refused 7: cores above the limit",
+    "refused 7: lines 0",
+    "refused 7: lines above the limit",
+    "refused 7: width 0",
+    "refused 7: width above the limit",
+    "refused 7: lease 0",
+    "refused 7: lease above the limit",
+    "refused 3: load",
+    "refused 3: store",
+    "refused 3: fence",
+    "refused 3: evict",
+    "refused 3: advance",
+    "refused 3: serve",
+    "refused 3: receive",
+    "refused 3: and the line is none",
+    "refused 3: and by is 0",
+    "refused 4: load",
+    "refused 4: store",
+    "refused 4: evict",
+    "refused 4: yield",
+    "refused 4: take",
+    "refused 4: and the data do not fit",
+    "refused 5: too few bytes",
+    "refused 5: too many bytes",
+    "refused 5: and the slot is not empty",
+    "refused 6",
+    "refused 20: load, no copy, slot asked",
+    "refused 20: load, no copy, slot answered",
+    "refused 20: load, shared, slot asked",
+    "refused 20: load, shared, slot answered",
+    "refused 20: store, no copy, slot asked",
+    "refused 20: store, no copy, slot answered",
+    "refused 20: store, shared, slot asked",
+    "refused 20: store, shared, slot answered",
+    "refused 21: slot empty",
+    "refused 21: slot answered",
+    "refused 22: slot empty",
+    "refused 22: slot asked",
+    "refused 23: line shared",
+    "refused 23: no recall",
+    "refused 24: the owner's copy is shared",
+    "refused 24: the owner has no copy, no writeback in flight",
+    "refused 24: the owner has no copy, a writeback in flight",
+    "refused 25: line shared",
+    "refused 25: line owned",
+    "refused 26",
+    "refused 27: store",
+    "refused 27: advance",
+    "refused 27: serve",
+];
+
+/// 01, "Journal and driver": limits, and where a run ends.
+const JOURNALS: &[&str] = &[
+    "journal of 65,536 bytes",
+    "journal of 65,537 bytes",
+    "line of 200 bytes",
+    "line of 201 bytes",
+    "read to its end",
+    "ended by 7: opening",
+    "ended by 14: opening",
+    "ended by 10: opening",
+    "ended by 10: first step",
+    "ended by 10: middle step",
+    "ended by 10: last step",
+    "ended by 11: opening",
+    "ended by 11: first step",
+    "ended by 11: middle step",
+    "ended by 11: last step",
+    "ended by 12: opening",
+    "ended by 12: first step",
+    "ended by 12: middle step",
+    "ended by 12: last step",
+    "ended by 13: first step",
+    "ended by 13: middle step",
+    "ended by 13: last step",
+];
+
+/// Every row that generated journals must meet.
+pub fn rows() -> impl Iterator<Item = &'static str> {
+    [ANSWERS, STEPS, REFUSALS, JOURNALS].into_iter().flatten().copied()
+}
+
+/// How often each row was met.
 #[derive(Default)]
 pub struct Coverage {
     counts: BTreeMap<String, u64>,
 }
 
 impl Coverage {
-    fn count(&mut self, name: String) {
-        *self.counts.entry(name).or_insert(0) += 1;
+    fn count(&mut self, row: impl Into<String>) {
+        *self.counts.entry(row.into()).or_insert(0) += 1;
     }
 
     pub fn add(&mut self, other: &Coverage) {
-        for (name, count) in &other.counts {
-            *self.counts.entry(name.clone()).or_insert(0) += count;
+        for (row, count) in &other.counts {
+            *self.counts.entry(row.clone()).or_insert(0) += count;
         }
     }
 
-    pub fn of(&self, name: &str) -> u64 {
-        self.counts.get(name).copied().unwrap_or(0)
+    /// The rows that were never met, and what was counted that is no row.
+    pub fn missing(&self) -> Vec<String> {
+        let met = |row: &&str| self.counts.contains_key(*row);
+        let unmet = rows().filter(|row| !met(row)).map(String::from);
+        let unknown = self.counts.keys().filter(|name| !rows().any(|row| row == *name));
+        unmet.chain(unknown.map(|name| format!("{name}, which is no row"))).collect()
+    }
+
+    /// All rows with their counts, one a line.
+    pub fn table(&self) -> String {
+        let count = |row| self.counts.get(row).copied().unwrap_or(0);
+        rows().map(|row| format!("{:>10}  {row}\n", count(row))).collect()
     }
 
     /// Runs a journal, counts what occurs and gives the records. A second
-    /// machine follows one step behind, to tell which case of a table applied.
+    /// machine follows one step behind, to tell which row of a table applied.
     pub fn run(&mut self, journal: &[u8]) -> Vec<Record> {
-        self.count_journal(journal);
+        self.count_limits(journal);
         let mut records = Vec::new();
         let mut run = Run::new(journal);
         let mut behind: Option<Machine> = None;
         while let Some(record) = run.next() {
-            self.count_record(&record, behind.as_ref().map(|machine| &machine.state));
+            self.count_answer(&record);
             match (&mut behind, &record.step) {
                 (None, _) => behind = run.machine().cloned(),
-                (Some(machine), Some(step)) => drop(machine.step(step)),
+                (Some(machine), Some(step)) => {
+                    self.count_step(step, record.answer, &machine.state);
+                    machine.step(step);
+                }
                 _ => {}
             }
             records.push(record);
@@ -52,28 +248,39 @@ impl Coverage {
         records
     }
 
-    fn count_journal(&mut self, journal: &[u8]) {
-        if journal.is_empty() {
-            self.count("journal: empty".into());
-        } else if journal.last() != Some(&b'\n') {
-            self.count("journal: no last newline".into());
-        }
+    fn count_limits(&mut self, journal: &[u8]) {
         match journal.len() {
-            MAX_JOURNAL => self.count("journal: exactly 65,536 bytes".into()),
-            n if n == MAX_JOURNAL + 1 => self.count("journal: exactly 65,537 bytes".into()),
+            MAX_JOURNAL => self.count("journal of 65,536 bytes"),
+            n if n == MAX_JOURNAL + 1 => self.count("journal of 65,537 bytes"),
             _ => {}
         }
         for line in journal.split(|&byte| byte == b'\n') {
-            if (199..=201).contains(&line.len()) {
-                self.count(format!("journal: line of {} bytes", line.len()));
+            match line.len() {
+                MAX_LINE => self.count("line of 200 bytes"),
+                n if n == MAX_LINE + 1 => self.count("line of 201 bytes"),
+                _ => {}
             }
         }
     }
 
-    /// The position of a refusal that ended the run.
+    fn count_answer(&mut self, record: &Record) {
+        let (kind, ts) = match record.answer {
+            Answer::Refused(_) => return,
+            Answer::Commit(Commit::Load { ts, .. }) => ("load", ts),
+            Answer::Commit(Commit::Store { ts, .. }) => ("store", ts),
+            Answer::Commit(Commit::Fence { ts, .. }) => ("fence", ts),
+            done => return self.count(format!("done {}", done_name(&done))),
+        };
+        self.count(format!("commit {kind}"));
+        if ts > GREATEST - 2000 {
+            self.count(format!("{kind}: commits within 2,000 of the greatest timestamp"));
+        }
+    }
+
+    /// The number that ended the run, its reason and its place.
     fn count_end(&mut self, journal: &[u8], records: &[Record]) {
         let Some(Record { place, step: None, answer: Answer::Refused(number) }) = records.last() else {
-            return self.count("journal: read to its end".into());
+            return self.count("read to its end");
         };
         let lines = journal.iter().filter(|&&byte| byte == b'\n').count() as u32;
         let position = match *place {
@@ -82,130 +289,166 @@ impl Coverage {
             place if place + 1 >= lines => "last step",
             _ => "middle step",
         };
-        self.count(format!("end by {number:2}: {position}"));
+        self.count(format!("ended by {number}: {position}"));
+        let line = journal.split(|&byte| byte == b'\n').nth(*place as usize).unwrap_or(&[]);
+        match number {
+            7 => self.count_limits_of(line),
+            14 => self.count("refused 14"),
+            11 if journal.is_empty() => self.count("refused 11: empty journal"),
+            11 if *place == 0 => self.count("refused 11: opening"),
+            _ => self.count(format!("refused {number}: {}", reason(*number, line))),
+        }
     }
 
-    fn count_record(&mut self, record: &Record, before: Option<&State>) {
-        match record.answer {
-            Answer::Refused(number) => self.count(format!("refused {number:2}")),
-            Answer::Commit(commit) => {
-                let (name, ts) = match commit {
-                    Commit::Load { ts, .. } => ("load", ts),
-                    Commit::Store { ts, .. } => ("store", ts),
-                    Commit::Fence { ts, .. } => ("fence", ts),
-                };
-                self.count(format!("commit {name}"));
-                if ts > GREATEST - 2000 {
-                    self.count(format!("case: {name} commits within 2,000 of the greatest timestamp"));
-                }
+    /// Which sizes of an opening line lie outside the limits.
+    fn count_limits_of(&mut self, line: &[u8]) {
+        let Ok(Sizes { cores, lines, width, lease }) = journal::opening(line) else {
+            return;
+        };
+        let most = [MAX_CORES, MAX_LINES, MAX_WIDTH, MAX_LEASE as usize];
+        let names = ["cores", "lines", "width", "lease"];
+        for ((size, most), name) in [cores, lines, width, lease].into_iter().zip(most).zip(names) {
+            if size == 0 {
+                self.count(format!("refused 7: {name} 0"));
+            } else if size as usize > most {
+                self.count(format!("refused 7: {name} above the limit"));
             }
-            done => self.count(format!("done {}", done_name(&done))),
-        }
-        if let (Some(step), Some(before)) = (&record.step, before) {
-            self.count_case(step, record.answer, before);
-        } else if record.answer == Answer::Open {
-            self.count("opened".into());
         }
     }
 
-    /// Cases inside the tables, by the state before the step.
-    fn count_case(&mut self, step: &Step, answer: Answer, before: &State) {
-        if let Some(case) = case_name(step, answer, before) {
-            self.count(format!("case: {} {case}", kind_name(step)));
-        }
-        if let Answer::Refused(number @ (20 | 27)) = answer {
-            self.count(format!("case: {number} by {}", kind_name(step)));
+    /// The rows that apply to a step of the grammar, by the state before it.
+    fn count_step(&mut self, step: &Step, answer: Answer, before: &State) {
+        match answer {
+            Answer::Refused(number @ 3..=6) => self.count_input_refusal(number, step, before),
+            Answer::Refused(number) => self.count(state_refusal(number, step, before)),
+            _ => {
+                self.count(step_row(step, before));
+                self.count_asides(step, before);
+            }
         }
         let sizes = before.sizes;
         if (sizes.cores, sizes.lines, sizes.width) == (16, 64, 64) {
-            self.count("case: step on an engine of 16 x 64 x 64".into());
+            self.count("a step on an engine of 16 x 64 x 64");
         }
     }
 
-    /// The whole table, one case a line.
-    pub fn table(&self) -> String {
-        let mut text = String::new();
-        for (name, count) in &self.counts {
-            text.push_str(&format!("{count:>10}  {name}\n"));
+    /// What else is to be met where a step is performed.
+    fn count_asides(&mut self, step: &Step, before: &State) {
+        match *step {
+            Step::Evict { core, line } if matches!(copy(before, core, line), PrivateCopy::Shared { .. }) => {
+                if slot_is_on(before.cores[core as usize].slot, line) {
+                    self.count("evict: shared, a request for the line under way");
+                }
+                if before.lines[line as usize].writeback.is_some() {
+                    self.count("evict: shared, a writeback of the line in flight");
+                }
+            }
+            Step::Serve { core } => self.count_serve(core, before),
+            _ => {}
         }
-        text
     }
 
-    /// The refusals and answers that never occurred.
-    pub fn missing(&self) -> Vec<String> {
-        const DONE: [&str; 11] =
-            ["open", "ask", "recall", "share", "renew", "own", "drop", "evict", "advance", "yield", "take"];
-        let refused = REACHABLE.iter().map(|number| format!("refused {number:2}"));
-        let done = DONE.iter().map(|name| format!("done {name}"));
-        let commits = ["load", "store", "fence"].iter().map(|name| format!("commit {name}"));
-        refused.chain(done).chain(commits).filter(|name| self.of(name) == 0).collect()
+    fn count_serve(&mut self, core: u32, before: &State) {
+        let Slot::Asked { wish, line, lts, .. } = before.cores[core as usize].slot else {
+            return;
+        };
+        let manager = before.lines[line as usize];
+        let end = lts.checked_add(before.sizes.lease);
+        match (manager.holder, wish) {
+            (Holder::Owned { core: owner }, _) => {
+                if owner == core {
+                    self.count("serve: owned by the asking core");
+                }
+                if manager.writeback.is_some() {
+                    self.count("serve: owned, a writeback in flight");
+                }
+                if wish == Wish::Load && end.is_none() {
+                    self.count("serve: owned, load, asked lts + lease past the greatest");
+                }
+            }
+            (Holder::Shared { .. }, Wish::Store) if end.is_none() => {
+                self.count("serve: shared, store, asked lts + lease past the greatest");
+            }
+            (Holder::Shared { rts, .. }, Wish::Load) => {
+                let stays = end.is_some_and(|end| end <= rts);
+                self.count(format!("serve: shared, load, rts {}", if stays { "stays" } else { "grows" }));
+            }
+            _ => {}
+        }
+    }
+
+    /// 3 to 6, and where a later number would apply too.
+    fn count_input_refusal(&mut self, number: u32, step: &Step, before: &State) {
+        let sizes = before.sizes;
+        if let (3 | 4, kind) = (number, kind_name(step)) {
+            self.count(format!("refused {number}: {kind}"));
+        }
+        let no_line = step.line().is_some_and(|line| line >= sizes.lines);
+        match (number, step) {
+            (3, _) if no_line => self.count("refused 3: and the line is none"),
+            (3, Step::Advance { by: 0, .. }) => self.count("refused 3: and by is 0"),
+            (4, Step::Store { data, .. }) if data.as_slice().len() != sizes.width as usize => {
+                self.count("refused 4: and the data do not fit");
+            }
+            (5, Step::Store { core, data, .. }) => {
+                let few = data.as_slice().len() < sizes.width as usize;
+                self.count(format!("refused 5: too {} bytes", if few { "few" } else { "many" }));
+                if before.cores[*core as usize].slot != Slot::Empty {
+                    self.count("refused 5: and the slot is not empty");
+                }
+            }
+            (6, _) => self.count("refused 6"),
+            _ => {}
+        }
     }
 }
 
-/// Which row of a step's table applied, in a few words.
-fn case_name(step: &Step, answer: Answer, before: &State) -> Option<&'static str> {
-    let core = |core: u32| &before.cores[core as usize];
-    let copy = |core: u32, line: u32| before.copies[core as usize][line as usize];
-    if matches!(answer, Answer::Refused(_)) {
-        return None;
+/// The reason of a line's refusal by 10 to 13.
+fn reason(number: u32, line: &[u8]) -> &'static str {
+    match number {
+        10 if line.len() > MAX_LINE => "line over 200 bytes",
+        10 => "no last newline",
+        11 if has_unknown_kind(line) => "unknown step kind",
+        12 => numbers(line).find_map(wrong_number).unwrap_or("?"),
+        13 => values(line).find(|(key, _)| *key == b"data").map_or("?", |(_, value)| wrong_data(value)),
+        _ => "another form",
     }
-    Some(match *step {
-        Step::Load { core: c, line } => match copy(c, line) {
-            PrivateCopy::None => "without a copy asks",
-            PrivateCopy::Shared { .. } if answer == Answer::Ask => "after the lease asks",
-            PrivateCopy::Shared { rts, .. } if rts == core(c).lts => "at the very end of a lease",
-            PrivateCopy::Shared { wts, .. } if wts > core(c).lts => "of a shared copy moves lts up to wts",
-            PrivateCopy::Shared { .. } => "of a shared copy at lts",
-            PrivateCopy::Owned { dirty: true, wts, .. } if core(c).lts < wts => {
-                "of a dirty copy below its wts"
-            }
-            PrivateCopy::Owned { dirty: true, rts, .. } if core(c).lts > rts => "of a dirty copy past rts",
-            PrivateCopy::Owned { dirty: true, .. } => "of a dirty copy",
-            PrivateCopy::Owned { wts, .. } if core(c).lts < wts => {
-                "of an owned clean copy moves lts up to wts"
-            }
-            PrivateCopy::Owned { rts, .. } if core(c).lts > rts => "of an owned clean copy past rts",
-            PrivateCopy::Owned { .. } => "of an owned clean copy",
-        },
-        Step::Store { core: c, line, .. } => match copy(c, line) {
-            PrivateCopy::None => "without a copy asks",
-            PrivateCopy::Shared { .. } => "with a shared copy asks",
-            PrivateCopy::Owned { rts, .. } if rts >= core(c).lts.max(core(c).sts) => "at rts + 1",
-            PrivateCopy::Owned { .. } if core(c).lts >= core(c).sts => "at lts",
-            PrivateCopy::Owned { .. } => "at sts",
-        },
-        Step::Fence { core: c } if core(c).sts > core(c).lts => "moves lts up to sts",
-        Step::Fence { .. } => "leaves lts",
-        Step::Evict { core: c, line } => match (copy(c, line), before.lines[line as usize].recall) {
-            (PrivateCopy::Owned { .. }, Recall::None) => "of an owned copy",
-            (PrivateCopy::Owned { .. }, _) => "of an owned copy under a recall",
-            _ if slot_is_on(core(c).slot, line) => "of a shared copy while a request for it is under way",
-            _ => "of a shared copy",
-        },
-        Step::Serve { core: c } => {
-            let Slot::Asked { wish, line, wts, .. } = core(c).slot else {
-                return None;
-            };
-            let manager = before.lines[line as usize];
-            match (manager.holder, wish, manager.recall, answer) {
-                (Holder::Owned { core: o }, _, _, _) if o == c => "on a line that the same core owned",
-                (Holder::Owned { .. }, Wish::Store, Recall::Downgrade, _) => "of a store over a downgrade",
-                (Holder::Owned { .. }, Wish::Load, Recall::Flush, _) => "of a load under a flush",
-                (Holder::Owned { .. }, _, _, _) if manager.writeback.is_some() => {
-                    "with a writeback in flight"
-                }
-                (Holder::Owned { .. }, Wish::Store, _, _) => "of a store on an owned line",
-                (Holder::Owned { .. }, Wish::Load, _, _) => "of a load on an owned line",
-                (_, _, _, Answer::Share) if wts.is_some() => "renews too late and shares",
-                _ => "grants",
-            }
-        }
-        Step::Yield { line } => match before.lines[line as usize].recall {
-            Recall::Flush => "by flush",
-            _ => "by downgrade",
-        },
-        _ => return None,
+}
+
+/// The keys of a line with their values.
+fn values(line: &[u8]) -> impl Iterator<Item = (&[u8], &[u8])> {
+    line.split(|&byte| byte == b' ').filter_map(|word| {
+        let equals = word.iter().position(|&byte| byte == b'=')?;
+        Some((&word[..equals], &word[equals + 1..]))
     })
+}
+
+/// The values that have to be numbers.
+fn numbers(line: &[u8]) -> impl Iterator<Item = &[u8]> {
+    let others: [&[u8]; 3] = [b"fabric", b"op", b"data"];
+    values(line).filter(move |(key, _)| !others.contains(key)).map(|(_, value)| value)
+}
+
+/// Why a value is no number.
+fn wrong_number(value: &[u8]) -> Option<&'static str> {
+    match value {
+        [] => Some("no digits"),
+        _ if !value.iter().all(u8::is_ascii_digit) => Some("another byte"),
+        [b'0', _, ..] => Some("leading zero"),
+        _ => (value.len() > 10 || value.len() == 10 && value > b"4294967295").then_some("above the greatest"),
+    }
+}
+
+fn wrong_data(value: &[u8]) -> &'static str {
+    match value.len() {
+        0 => "empty",
+        n if n % 2 == 1 => "odd in count",
+        _ => "not 0-9 a-f",
+    }
+}
+
+fn copy(before: &State, core: u32, line: u32) -> PrivateCopy {
+    before.copies[core as usize][line as usize]
 }
 
 fn slot_is_on(slot: Slot, wanted: u32) -> bool {
@@ -213,4 +456,146 @@ fn slot_is_on(slot: Slot, wanted: u32) -> bool {
         Slot::Empty => false,
         Slot::Asked { line, .. } | Slot::Answered { line, .. } => line == wanted,
     }
+}
+
+/// Which row of its table a step that is not refused follows.
+fn step_row(step: &Step, before: &State) -> String {
+    let clocks = |core: u32| &before.cores[core as usize];
+    match *step {
+        Step::Load { core, line } => {
+            format!("load: {}", load_row(clocks(core).lts, copy(before, core, line)))
+        }
+        Step::Store { core, line, .. } => {
+            format!("store: {}", store_row(clocks(core), copy(before, core, line)))
+        }
+        Step::Fence { core } if clocks(core).lts < clocks(core).sts => "fence: lts below sts".into(),
+        Step::Fence { .. } => "fence: lts from sts on".into(),
+        Step::Evict { core, line } => match copy(before, core, line) {
+            PrivateCopy::Owned { .. } => format!("evict: owned, {}", recall_name(before, line)),
+            _ => "evict: shared".into(),
+        },
+        Step::Advance { .. } => "advance".into(),
+        Step::Serve { core } => format!("serve: {}", serve_row(clocks(core).slot, before)),
+        Step::Receive { core } => format!("receive: {}", receive_row(core, before)),
+        Step::Yield { line } => {
+            let Holder::Owned { core } = before.lines[line as usize].holder else {
+                return "yield: line not owned".into();
+            };
+            let dirty = matches!(copy(before, core, line), PrivateCopy::Owned { dirty: true, .. });
+            format!("yield: {}, {}", recall_name(before, line), if dirty { "dirty" } else { "clean" })
+        }
+        Step::Take { line } => format!("take: {}", recall_name(before, line)),
+    }
+}
+
+fn recall_name(before: &State, line: u32) -> &'static str {
+    match before.lines[line as usize].recall {
+        Recall::None => "no recall",
+        Recall::Downgrade => "downgrade",
+        Recall::Flush => "flush",
+    }
+}
+
+fn load_row(lts: u32, copy: PrivateCopy) -> &'static str {
+    match copy {
+        PrivateCopy::None => "no copy",
+        PrivateCopy::Shared { wts, .. } if lts < wts => "shared, lts below wts",
+        PrivateCopy::Shared { rts, .. } if lts < rts => "shared, lts from wts on, below rts",
+        PrivateCopy::Shared { rts, .. } if lts == rts => "shared, lts at rts",
+        PrivateCopy::Shared { .. } => "shared, lts past rts",
+        PrivateCopy::Owned { dirty: true, rts, .. } if lts <= rts => "owned dirty, lts up to rts",
+        PrivateCopy::Owned { dirty: true, .. } => "owned dirty, lts past rts",
+        PrivateCopy::Owned { wts, .. } if lts < wts => "owned clean, lts below wts",
+        PrivateCopy::Owned { rts, .. } if lts <= rts => "owned clean, lts from wts to rts",
+        PrivateCopy::Owned { .. } => "owned clean, lts past rts",
+    }
+}
+
+fn store_row(clocks: &Core, copy: PrivateCopy) -> String {
+    match copy {
+        PrivateCopy::None => "no copy".into(),
+        PrivateCopy::Shared { .. } => "shared".into(),
+        PrivateCopy::Owned { rts, dirty, .. } => {
+            let at = match () {
+                _ if rts >= clocks.lts.max(clocks.sts) => "rts + 1",
+                _ if clocks.lts >= clocks.sts => "lts",
+                _ => "sts",
+            };
+            format!("owned {}, at {at}", if dirty { "dirty" } else { "clean" })
+        }
+    }
+}
+
+fn serve_row(slot: Slot, before: &State) -> String {
+    let Slot::Asked { wish, line, wts, .. } = slot else {
+        return "slot not asked".into();
+    };
+    match (before.lines[line as usize].holder, wish) {
+        (Holder::Owned { .. }, Wish::Load) => format!("owned, load, {}", recall_name(before, line)),
+        (Holder::Owned { .. }, Wish::Store) => format!("owned, store, {}", recall_name(before, line)),
+        (Holder::Shared { .. }, Wish::Store) => "shared, store".into(),
+        (Holder::Shared { wts: now, .. }, Wish::Load) => match wts {
+            None => "shared, load, no version held".into(),
+            Some(held) if held == now => "shared, load, the same version held".into(),
+            Some(_) => "shared, load, another version held".into(),
+        },
+    }
+}
+
+fn receive_row(core: u32, before: &State) -> String {
+    let Slot::Answered { grant, line, .. } = before.cores[core as usize].slot else {
+        return "slot not answered".into();
+    };
+    let grant = match grant {
+        Grant::Share => "share",
+        Grant::Renew => "renew",
+        Grant::Own => "own",
+    };
+    match copy(before, core, line) {
+        PrivateCopy::None => format!("{grant}, no copy"),
+        PrivateCopy::Shared { .. } => format!("{grant}, shared copy"),
+        PrivateCopy::Owned { .. } => format!("{grant}, owned copy"),
+    }
+}
+
+/// 20 to 27 with the reason.
+fn state_refusal(number: u32, step: &Step, before: &State) -> String {
+    let slot_of = |core: u32| match before.cores[core as usize].slot {
+        Slot::Empty => "slot empty",
+        Slot::Asked { .. } => "slot asked",
+        Slot::Answered { .. } => "slot answered",
+    };
+    let held = |core, line| match copy(before, core, line) {
+        PrivateCopy::None => "no copy",
+        PrivateCopy::Shared { .. } => "shared",
+        PrivateCopy::Owned { .. } => "owned",
+    };
+    let owner = |line: u32| match before.lines[line as usize].holder {
+        Holder::Owned { core } => Some(core),
+        Holder::Shared { .. } => None,
+    };
+    let reason = match (number, *step) {
+        (20, Step::Load { core, line } | Step::Store { core, line, .. }) => {
+            format!("{}, {}, {}", kind_name(step), held(core, line), slot_of(core))
+        }
+        (21, Step::Serve { core }) | (22, Step::Receive { core }) => slot_of(core).into(),
+        (23, Step::Yield { line }) => match owner(line) {
+            Some(_) => "no recall".into(),
+            None => "line shared".into(),
+        },
+        (24, Step::Yield { line }) => match owner(line).map(|core| copy(before, core, line)) {
+            Some(PrivateCopy::Shared { .. }) => "the owner's copy is shared".into(),
+            _ => {
+                let flight = before.lines[line as usize].writeback.map_or("no", |_| "a");
+                format!("the owner has no copy, {flight} writeback in flight")
+            }
+        },
+        (25, Step::Take { line }) => match owner(line) {
+            Some(_) => "line owned".into(),
+            None => "line shared".into(),
+        },
+        (26, _) => return "refused 26".into(),
+        _ => kind_name(step).into(),
+    };
+    format!("refused {number}: {reason}")
 }

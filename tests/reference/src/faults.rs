@@ -3,7 +3,10 @@
 //! `machine.rs` knows nothing of them: each fault bends the right step from the
 //! outside. Faults of the driver are asked for by `run.rs` and `listing.rs`.
 
-use crate::journal::kind_name;
+use std::borrow::Cow;
+use std::ops::Range;
+
+use crate::journal::{has_unknown_kind, kind_name};
 use crate::listing::Counts;
 use crate::machine::*;
 
@@ -49,6 +52,7 @@ faults! {
     Early27Advance "early-27-advance" "27 for an advance where lts + by is exactly 4,294,967,295"
     Early27Serve "early-27-serve" "27 for a serve where asked lts + lease is exactly 4,294,967,295"
     Early27Owned "early-27-owned" "27 for a serve on an owned line"
+    Early27StoreServed "early-27-store-served" "27 for a serve of a store where asked lts + lease passes the greatest timestamp"
     RefusesAll "refuses-all" "every step is refused"
     ConstantCommit "constant-commit" "every load, store and fence answers one constant commit"
     InventedCounts "invented-counts" "the end line's counts are invented"
@@ -78,6 +82,15 @@ faults! {
     LoadWeakensFlush "load-weakens-flush" "serving a load turns a standing flush into a downgrade"
     StoreLeavesDowngrade "store-leaves-downgrade" "serving a store leaves a standing downgrade"
     StretchAtDowngrade "stretch-at-downgrade" "a downgrade also stretches the former owner's lease, as in Figure 1 of 002"
+    AskOverAnswer "ask-over-answer" "20 is left out where the slot has an answer, which a new request then overwrites"
+    RenewalLeavesRts "renewal-leaves-rts" "a renewal leaves the copy's rts"
+    RenewalByLease "renewal-by-lease" "a renewal brings asked lts + lease, and not the manager's rts"
+    SharedEvictDropsWriteback "shared-evict-drops-writeback" "the eviction of a shared copy drops the writeback in flight"
+    SharedEvictWritesBack "shared-evict-writes-back" "the eviction of a shared copy makes a writeback"
+    OwnLineGranted "own-line-granted" "a serve of the line's own owner grants it at once"
+    AnswersAtCore0 "answers-at-core-0" "the bytes of every answer lie at core 0's place"
+    AnswersOverWritebacks "answers-over-writebacks" "the bytes of a core's answer lie at the place of the writeback of that number"
+    WritebacksAtLine0 "writebacks-at-line-0" "the bytes of every writeback lie at line 0's place"
     RefusalChangesClock "refusal-changes-clock" "a refused step changes a timestamp"
     RefusalChangesBytes "refusal-changes-bytes" "a refused step changes a byte"
     // The driver.
@@ -85,6 +98,18 @@ faults! {
     OtherCoreTs "other-core-ts" "a commit prints the lts of core 0"
     GoesOnAfter11 "goes-on-after-11" "the run goes on after a line that is no form of the grammar"
     Takes65537 "takes-65537" "a journal of 65,537 bytes is taken"
+    StopsAfter64K "stops-after-64k" "the listing ends after its first 65,536 bytes"
+    LeaseAboveTaken "lease-above-taken" "a lease above 1,000 is taken"
+    WidthAboveTaken "width-above-taken" "a width above 64 is taken"
+    ZeroLinesTaken "zero-lines-taken" "an engine without lines is opened"
+    // The reader.
+    UnknownStepSkipped "unknown-step-skipped" "a line with an unknown step kind is passed over"
+    TrailingBlankTaken "trailing-blank-taken" "a blank at a line's end is passed over"
+    EmptyNumberAs0 "empty-number-as-0" "a number without digits is 0"
+    NumberUpToLetter "number-up-to-letter" "a number ends before its first other byte"
+    TabSkipped "tab-skipped" "a tab is passed over"
+    EmptyDataTaken "empty-data-taken" "empty data are one zero byte"
+    OddDataCut "odd-data-cut" "the last digit of odd data is left out"
 }
 
 impl Fault {
@@ -103,6 +128,69 @@ impl Fault {
             Fault::InventedCounts => Counts { end: counts.end, commits: counts.end, refused: 0 },
             Fault::RefusalAsCommit => Counts { commits: counts.commits + counts.refused, ..counts },
             _ => counts,
+        }
+    }
+
+    /// How many bytes of a listing are written.
+    pub fn longest_listing(self) -> usize {
+        if self == Fault::StopsAfter64K {
+            65_536
+        } else {
+            usize::MAX
+        }
+    }
+
+    /// Whether these sizes are taken although they lie outside the limits.
+    pub fn takes_sizes(self, sizes: Sizes) -> bool {
+        match self {
+            Fault::LeaseAboveTaken => sizes.lease > MAX_LEASE,
+            Fault::WidthAboveTaken => sizes.width as usize > MAX_WIDTH,
+            Fault::ZeroLinesTaken => sizes.lines == 0,
+            _ => false,
+        }
+    }
+
+    /// Whether a step line is passed over, place and all.
+    pub fn passes_over(self, line: &[u8]) -> bool {
+        self == Fault::UnknownStepSkipped && has_unknown_kind(line)
+    }
+
+    /// The line that a reader with this fault takes a step line for.
+    pub fn reads_as(self, line: &[u8]) -> Cow<'_, [u8]> {
+        let words = |change: &dyn Fn(&mut Vec<u8>)| {
+            let changed = line.split(|&byte| byte == b' ').map(|word| {
+                let mut word = word.to_vec();
+                change(&mut word);
+                word
+            });
+            Cow::Owned(changed.collect::<Vec<_>>().join(&b' '))
+        };
+        match self {
+            Fault::TrailingBlankTaken => Cow::Borrowed(line.strip_suffix(b" ").unwrap_or(line)),
+            Fault::TabSkipped => words(&|word| word.retain(|&byte| byte != b'\t')),
+            Fault::EmptyNumberAs0 => words(&|word| {
+                if word.ends_with(b"=") && word != b"data=" {
+                    word.push(b'0');
+                }
+            }),
+            Fault::NumberUpToLetter => words(&|word| {
+                let start = word.iter().position(|&byte| byte == b'=').map_or(0, |at| at + 1);
+                let digits = word[start..].iter().take_while(|byte| byte.is_ascii_digit()).count();
+                if digits > 0 && !word.starts_with(b"data=") {
+                    word.truncate(start + digits);
+                }
+            }),
+            Fault::EmptyDataTaken => words(&|word| {
+                if word == b"data=" {
+                    word.extend_from_slice(b"00");
+                }
+            }),
+            Fault::OddDataCut => words(&|word| {
+                if word.starts_with(b"data=") && word.len() % 2 == 0 {
+                    word.pop();
+                }
+            }),
+            _ => Cow::Borrowed(line),
         }
     }
 
@@ -163,6 +251,7 @@ impl Faulty {
                 self.early_27(step, before, answer)
             }
             Fault::Early27Owned => self.early_27_owned(step, before, answer),
+            Fault::Early27StoreServed => self.early_27_store_served(step, before, answer),
             Fault::RefusesAll => self.refuse_if(true, before, 20, answer),
             Fault::ConstantCommit => self.constant_commit(step, answer),
             Fault::ShortLease => self.short_lease(step, before, answer),
@@ -170,6 +259,17 @@ impl Faulty {
             Fault::LoadWeakensFlush => self.load_weakens_flush(step, before, answer),
             Fault::StoreLeavesDowngrade => self.store_leaves_downgrade(step, before, answer),
             Fault::StretchAtDowngrade => self.stretch_at_downgrade(step, answer),
+            Fault::AskOverAnswer => self.ask_over_answer(step, before, answer),
+            Fault::RenewalLeavesRts => self.renewal_leaves_rts(step, before, answer),
+            Fault::RenewalByLease => self.renewal_by_lease(step, before, answer),
+            Fault::SharedEvictDropsWriteback => self.shared_evict(step, before, answer, false),
+            Fault::SharedEvictWritesBack => self.shared_evict(step, before, answer, true),
+            Fault::OwnLineGranted => self.own_line_granted(step, before, answer),
+            Fault::AnswersAtCore0 => {
+                self.answers_at(step, before, answer, |machine, _| machine.answer_place(0))
+            }
+            Fault::AnswersOverWritebacks => self.answers_at(step, before, answer, Machine::writeback_place),
+            Fault::WritebacksAtLine0 => self.writebacks_at_line_0(step, before, answer),
             Fault::RefusalChangesClock => self.refusal_changes_clock(step, answer),
             Fault::RefusalChangesBytes => self.refusal_changes_bytes(answer),
             Fault::OtherCoreTs => self.other_core_ts(answer),
@@ -310,6 +410,130 @@ impl Faulty {
         let passes = Self::asked_before(step, before)
             .is_some_and(|(wish, _, lts)| wish == Wish::Load && lts.checked_add(lease).is_none());
         self.refuse_if(passes && answer == Answer::Recall, before, 27, answer)
+    }
+
+    fn early_27_store_served(&mut self, step: &Step, before: &Machine, answer: Answer) -> Answer {
+        let lease = before.state.sizes.lease;
+        let passes = Self::asked_before(step, before)
+            .is_some_and(|(wish, _, lts)| wish == Wish::Store && lts.checked_add(lease).is_none());
+        self.refuse_if(passes && answer == Answer::Own, before, 27, answer)
+    }
+
+    /// The access is made as if the slot were empty.
+    fn ask_over_answer(&mut self, step: &Step, before: &Machine, answer: Answer) -> Answer {
+        let (Answer::Refused(20), Some(core)) = (answer, step.core()) else {
+            return answer;
+        };
+        let core = core as usize;
+        if !matches!(before.state.cores[core].slot, Slot::Answered { .. }) {
+            return answer;
+        }
+        self.machine.state.cores[core].slot = Slot::Empty;
+        self.machine.step(step)
+    }
+
+    /// The line of an answer that a core receives.
+    fn received(step: &Step, before: &Machine) -> Option<(u32, u32)> {
+        let Step::Receive { core } = *step else {
+            return None;
+        };
+        match before.state.cores.get(core as usize)?.slot {
+            Slot::Answered { line, .. } => Some((core, line)),
+            _ => None,
+        }
+    }
+
+    fn renewal_leaves_rts(&mut self, step: &Step, before: &Machine, answer: Answer) -> Answer {
+        if let (Some((core, line)), Answer::Renew) = (Self::received(step, before), answer) {
+            self.machine.set_copy(core, line, before.copy(core, line));
+        }
+        answer
+    }
+
+    fn renewal_by_lease(&mut self, step: &Step, before: &Machine, answer: Answer) -> Answer {
+        let (Some((_, _, lts)), Some(core)) = (Self::asked_before(step, before), step.core()) else {
+            return answer;
+        };
+        if let Slot::Answered { grant: Grant::Renew, rts, .. } =
+            &mut self.machine.state.cores[core as usize].slot
+        {
+            *rts = lts + before.state.sizes.lease;
+        }
+        answer
+    }
+
+    /// The eviction of a shared copy drops the writeback in flight, or makes one.
+    fn shared_evict(&mut self, step: &Step, before: &Machine, answer: Answer, makes: bool) -> Answer {
+        let Some((core, line, PrivateCopy::Shared { wts, rts })) = Self::copy_before(step, before) else {
+            return answer;
+        };
+        if answer == Answer::Evict {
+            self.machine.state.lines[line as usize].writeback = makes.then_some(Writeback { wts, rts });
+            let to = before.writeback_place(line);
+            self.machine.shared[to].copy_from_slice(&before.private[before.private_place(core, line)]);
+        }
+        answer
+    }
+
+    fn own_line_granted(&mut self, step: &Step, before: &Machine, answer: Answer) -> Answer {
+        let (Some((wish, line, lts)), Some(core)) = (Self::asked_before(step, before), step.core()) else {
+            return answer;
+        };
+        if before.state.lines[line as usize].holder != (Holder::Owned { core }) {
+            return answer;
+        }
+        let grant = if wish == Wish::Load { Grant::Share } else { Grant::Own };
+        self.machine = before.clone();
+        self.machine.state.cores[core as usize].slot = Slot::Answered { grant, line, wts: 0, rts: lts };
+        if wish == Wish::Load {
+            Answer::Share
+        } else {
+            Answer::Own
+        }
+    }
+
+    /// The bytes of an answer lie at another place, where the core also finds them.
+    fn answers_at(
+        &mut self,
+        step: &Step,
+        before: &Machine,
+        answer: Answer,
+        place: fn(&Machine, u32) -> Range<usize>,
+    ) -> Answer {
+        if !matches!(answer, Answer::Share | Answer::Own) {
+            return answer;
+        }
+        if let Step::Serve { core } = *step {
+            let bytes = self.machine.shared[before.answer_place(core)].to_vec();
+            self.machine.shared.copy_from_slice(&before.shared);
+            self.machine.shared[place(before, core)].copy_from_slice(&bytes);
+        } else if let Some((core, line)) = Self::received(step, before) {
+            let to = before.private_place(core, line);
+            self.machine.private[to].copy_from_slice(&before.shared[place(before, core)]);
+        }
+        answer
+    }
+
+    fn writebacks_at_line_0(&mut self, step: &Step, before: &Machine, answer: Answer) -> Answer {
+        let owned = matches!(Self::copy_before(step, before), Some((_, _, PrivateCopy::Owned { .. })));
+        let place = before.writeback_place(0);
+        match (*step, answer) {
+            (Step::Evict { line, .. }, Answer::Evict) if owned => self.write_back_at(place, line, before),
+            (Step::Yield { line }, Answer::Yield) => self.write_back_at(place, line, before),
+            (Step::Take { line }, Answer::Take) => {
+                let to = before.manager_place(line);
+                self.machine.shared[to].copy_from_slice(&before.shared[place]);
+            }
+            _ => {}
+        }
+        answer
+    }
+
+    /// Moves the bytes of a line's writeback that was just made.
+    fn write_back_at(&mut self, place: Range<usize>, line: u32, before: &Machine) {
+        let bytes = self.machine.shared[before.writeback_place(line)].to_vec();
+        self.machine.shared.copy_from_slice(&before.shared);
+        self.machine.shared[place].copy_from_slice(&bytes);
     }
 
     fn constant_commit(&mut self, step: &Step, answer: Answer) -> Answer {

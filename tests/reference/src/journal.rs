@@ -187,6 +187,17 @@ pub fn write_opening(out: &mut Vec<u8>, sizes: &Sizes) {
     write_field(out, " lease=", sizes.lease);
 }
 
+/// Whether a line starts like a step, with a word that is none of the nine kinds.
+pub fn has_unknown_kind(line: &[u8]) -> bool {
+    const KINDS: [&str; 9] =
+        ["load", "store", "fence", "evict", "advance", "serve", "receive", "yield", "take"];
+    let Some(rest) = line.strip_prefix(b"op=") else {
+        return false;
+    };
+    let kind = &rest[..value_length(rest)];
+    !kind.is_empty() && !KINDS.iter().any(|known| known.as_bytes() == kind)
+}
+
 /// The name of a step's kind.
 pub fn kind_name(step: &Step) -> &'static str {
     match step {

@@ -12,6 +12,7 @@ pub mod kept;
 pub mod listing;
 pub mod machine;
 pub mod order;
+pub mod program;
 pub mod random;
 pub mod run;
 pub mod shrink;

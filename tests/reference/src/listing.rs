@@ -20,6 +20,7 @@ pub fn listing_with_fault(journal: &[u8], fault: Fault) -> Vec<u8> {
         write_record(&mut out, &record);
     }
     write_end(&mut out, &fault.distort_counts(counts));
+    out.truncate(fault.longest_listing());
     out
 }
 

@@ -296,8 +296,13 @@ impl Machine {
         if let Answer::Refused(number) = answer {
             return Err(number);
         }
+        Ok(Machine::fresh(state.sizes))
+    }
+
+    /// A fresh engine with zeroed buffers.
+    pub fn fresh(sizes: Sizes) -> Machine {
         let (private, shared) = buffer_lengths(sizes);
-        Ok(Machine { state, private: vec![0; private], shared: vec![0; shared] })
+        Machine { state: State::fresh(sizes), private: vec![0; private], shared: vec![0; shared] }
     }
 
     /// One call: every refusal of 01 is checked, 1 and 2 too.
@@ -346,19 +351,19 @@ impl Machine {
         start..start + self.width()
     }
 
-    fn private_place(&self, core: u32, line: u32) -> Range<usize> {
+    pub fn private_place(&self, core: u32, line: u32) -> Range<usize> {
         self.place((core * self.state.sizes.lines + line) as usize)
     }
 
-    fn manager_place(&self, line: u32) -> Range<usize> {
+    pub fn manager_place(&self, line: u32) -> Range<usize> {
         self.place(line as usize)
     }
 
-    fn writeback_place(&self, line: u32) -> Range<usize> {
+    pub fn writeback_place(&self, line: u32) -> Range<usize> {
         self.place((self.state.sizes.lines + line) as usize)
     }
 
-    fn answer_place(&self, core: u32) -> Range<usize> {
+    pub fn answer_place(&self, core: u32) -> Range<usize> {
         self.place((2 * self.state.sizes.lines + core) as usize)
     }
 

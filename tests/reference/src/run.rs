@@ -46,7 +46,11 @@ impl<'a> Run<'a> {
             return Err(14);
         }
         let line = self.lines.next().unwrap_or(Err(11))?;
-        Machine::open(journal::opening(line)?)
+        let sizes = journal::opening(line)?;
+        if self.fault.takes_sizes(sizes) {
+            return Ok(Machine::fresh(sizes));
+        }
+        Machine::open(sizes)
     }
 
     /// The record of a bad line or opening, which ends the run.
@@ -74,8 +78,11 @@ impl Iterator for Run<'_> {
         }
         loop {
             let line = self.lines.next()?;
+            if line.is_ok_and(|line| self.fault.passes_over(line)) {
+                continue;
+            }
             self.place += 1;
-            let step = match line.and_then(journal::step) {
+            let step = match line.and_then(|line| journal::step(&self.fault.reads_as(line))) {
                 Err(number) => return Some(self.end_with(number)),
                 Ok(step) => step,
             };

@@ -1,10 +1,10 @@
 -- By the copy, its lease and whether it is dirty: the row, asked, or 20.
-use mathlib.Core.Path.{refl}
+use mathlib.Core.Path.{refl, sym, _∙_}
 use borrow.Author.Needs.{needs}
-use borrow.Author.Tests.{le-leb, lt-leb, lt-ltb, le-ltb}
 use Rattle.protocol.specs.Pick.{fails, first}
 use Rattle.protocol.specs.Refusals.{isEmpty, stateRules, stateRefusal}
 use Rattle.protocol.specs.Tables.{loadTable, loadOwned, tableOf, effectOf}
+use Rattle.protocol.proofs.Stamps.{not-earlier, then-earlier}
 use Rattle.protocol.proofs.Refusals.{ruled}
 use Rattle.core_rows.proofs.load.Statement.{statement}
 use Rattle.core_rows.proofs.load.Tie as tie
@@ -16,15 +16,17 @@ returns c o = rw (c .ask .ensures, c .before .enum-told .given .1) (ruled (fails
 returns-2 : tie.Need-returns-2
 unfolding effectOf tableOf loadTable stateRefusal stateRules first
 returns-2 c o =
-    let h = c .before .before .if1 .taken in
-    rw (c .before .before .before .before .before .before .copy .given .1, le-leb _ _ h, le-ltb _ _ h, c .before .load .ensures)
+    let b = c .before .before .before in
+    let t = sym (b .at-most .ensures) ∙ c .before .before .if1 .taken in
+    rw (b .before .before .copy .given .1, t, not-earlier _ _ t, c .before .load .ensures)
 
 returns-3 : tie.Need-returns-3
 unfolding effectOf tableOf loadTable stateRefusal stateRules first
 returns-3 c o =
-    let h = c .before .if1 .left in
-    rw (c .ask2 .ensures, c .before .before .before .before .before .copy .given .1, lt-leb _ _ h, lt-ltb _ _ h)
-    (ruled (fails (isEmpty (c .before .before .before .before .before .before .before .before .args .core .slot))) 20 _ _ refl)
+    let b = c .before .before in
+    let t = sym (b .at-most .ensures) ∙ c .before .if1 .left in
+    rw (c .ask2 .ensures, b .before .before .copy .given .1, t, then-earlier _ _ t)
+    (ruled (fails (isEmpty (b .before .before .before .before .before .args .core .slot))) 20 _ _ refl)
 
 returns-4 : tie.Need-returns-4
 unfolding effectOf tableOf loadTable loadOwned stateRefusal stateRules first
@@ -32,7 +34,9 @@ returns-4 c o = rw (c .before .before .before .before .copy2 .given .1, c .befor
 
 returns-5 : tie.Need-returns-5
 unfolding effectOf tableOf loadTable loadOwned stateRefusal stateRules first
-returns-5 c o = rw (c .before .before .before .before .before .before .copy2 .given .1, c .before .before .before .if2 .left, c .later2 .ensures, c .before .before .load2 .ensures)
+returns-5 c o =
+    let b = c .before .before .before in
+    rw (b .before .before .before .copy2 .given .1, b .if2 .left, c .later2 .ensures, c .before .before .load2 .ensures)
 
 pub load-spec : {M : Type 1} → statement M
 load-spec =
@@ -41,6 +45,7 @@ load-spec =
     (λ c. search needs)
     (λ c κs. search needs)
     (λ c. search needs)
+    (λ c κs. search needs)
     (λ c κs. search needs)
     (λ c κs. search needs)
     (λ c. search needs)

@@ -1,4 +1,4 @@
--- `driver::play` meets its contract. The loop's invariant: the lengths of the lent slices stay; what was met is no more than the bytes before
+-- `driver::play` meets its contract. The loop's invariant: the lengths of both buffers stay; what was met is no more than the bytes before
 -- the place; and `Going`. The measure is what is left of the journal. Assumes nothing.
 use Prim.Native.Nat.{ℕ, _+_, _-_, _<_}
 use mathlib.Core.Path.{_≡_, refl, sym, _∙_, ap, subst}
@@ -20,7 +20,6 @@ abbrev Inv-loop : tie.InvT-loop
 Inv-loop journal private₀ shared₀ out₀ s₀ form at₀ steps₀ commits₀ refusals₀ used₀ z base private shared out s at steps commits refusals used =
     (length private ≡ length private₀)
     × (length shared ≡ length shared₀)
-    × (length out ≡ length out₀)
     × Met journal at steps commits refusals
     × Going journal (standingAt at₀ form steps₀ commits₀ refusals₀ s₀) private₀ shared₀ out₀ z base form private shared out s at steps commits refusals used
 
@@ -29,13 +28,13 @@ abbrev μ-loop : tie.MeasureT-loop
     length journal - at
 
 returns : tie.Need-returns Inv-loop μ-loop
-returns c = record { within = omega arith; beyond = refl; tells = unfit (sym (c .before .may-stand .ensures) ∙ not-true _ (c .if1 .taken)) refl refl refl refl }
+returns c = record { size = refl; within = omega arith; beyond = refl; tells = unfit (sym (c .before .may-stand .ensures) ∙ not-true _ (c .if1 .taken)) refl refl refl refl }
 
 loop-holds : tie.Need-loop-holds Inv-loop μ-loop
 loop-holds c =
     let e = sym (c .before .before .before .before .before .before .may-stand .ensures) ∙ not-false _ (c .before .before .before .before .before .if1 .left) in
     let a = c .before .before .before .before .before .before .before .before .before .before .before .args in
-    (refl, refl, refl, met (a .journal .now) (a .from) e, going-start (a .journal .now) (a .from) (a .private .now) (a .shared .now) (a .out .now) _ e (looked-over (a .from .state) (a .private .now) (a .shared .now) _ (c .machine-refusal .ensures)))
+    (refl, refl, met (a .journal .now) (a .from) e, going-start (a .journal .now) (a .from) (a .private .now) (a .shared .now) (a .out .now) _ e (looked-over (a .from .state) (a .private .now) (a .shared .now) _ (c .machine-refusal .ensures)))
 
 same-length : tie.Need-same-length Inv-loop μ-loop
 same-length c = c .before .before .before .before .before .loop .inv .0
@@ -44,10 +43,10 @@ same-length-2 : tie.Need-same-length-2 Inv-loop μ-loop
 same-length-2 c = c .before .before .before .before .before .loop .inv .1
 
 same-length-3 : tie.Need-same-length-3 Inv-loop μ-loop
-same-length-3 c = c .before .before .before .before .before .loop .inv .2
+same-length-3 c = c .before .before .before .before .before .loop .inv .3 .size
 
 returns-2 : tie.Need-returns-2 Inv-loop μ-loop
-returns-2 c = absurd (c .before .before .before .before .before .loop .inv .4 .named (known (subst (NextOf _ _ _) (c .before .before .enum-told .given .1) (c .before .before .before .before .step-at .ensures)) .0))
+returns-2 c = absurd (c .before .before .before .before .before .loop .inv .3 .named (known (subst (NextOf _ _ _) (c .before .before .enum-told .given .1) (c .before .before .before .before .step-at .ensures)) .0))
 
 same-length-4 : tie.Need-same-length-4 Inv-loop μ-loop
 same-length-4 c = c .before .before .before .before .before .before .before .before .before .loop .inv .0
@@ -56,18 +55,18 @@ same-length-5 : tie.Need-same-length-5 Inv-loop μ-loop
 same-length-5 c = c .before .before .before .before .before .before .before .before .before .loop .inv .1
 
 same-length-6 : tie.Need-same-length-6 Inv-loop μ-loop
-same-length-6 c = c .before .before .before .out .given ∙ c .before .before .before .before .before .before .before .before .before .loop .inv .2
+same-length-6 c = c .before .before .before .out .given ∙ c .before .before .before .before .before .before .before .before .before .loop .inv .3 .size
 
 returns-3 : tie.Need-returns-3 Inv-loop μ-loop
 returns-3 c =
-    finish (c .before .before .before .before .before .before .before .before .before .loop .inv .4) ended _ (c .before .before .before .before .put-end .result) _ (atEnd (subst (NextOf _ _ _) (c .before .before .before .before .before .before .enum-told2 .given .1) (c .before .before .before .before .before .before .before .before .step-at .ensures))) (c .before .before .before .before .put-end .ensures)
+    finish (c .before .before .before .before .before .before .before .before .before .loop .inv .3) ended _ (c .before .before .before .before .put-end .result) _ (atEnd (subst (NextOf _ _ _) (c .before .before .before .before .before .before .enum-told2 .given .1) (c .before .before .before .before .before .before .before .before .step-at .ensures))) (c .before .before .before .before .put-end .ensures)
     (rw (c .before .standing2 .ensures) at (c .played2 .ensures))
 
 add-put-last : tie.Need-add-put-last Inv-loop μ-loop
-add-put-last c = omega (arith, c .before .before .before .before .before .loop .inv .3, c .before .before .before .before .before .before .before .before .before .before .before .before .before .before .before .before .before .good .0 .1)
+add-put-last c = omega (arith, c .before .before .before .before .before .loop .inv .2, c .before .before .before .before .before .before .before .before .before .before .before .before .before .before .before .before .before .good .0 .1)
 
 add-put-last-2 : tie.Need-add-put-last-2 Inv-loop μ-loop
-add-put-last-2 c = omega (arith, c .before .before .before .before .before .loop .inv .3, c .before .before .before .before .before .before .before .before .before .before .before .before .before .before .before .before .before .good .0 .1)
+add-put-last-2 c = omega (arith, c .before .before .before .before .before .loop .inv .2, c .before .before .before .before .before .before .before .before .before .before .before .before .before .before .before .before .before .good .0 .1)
 
 put-last-requires : tie.Need-put-last-requires Inv-loop μ-loop
 put-last-requires c κs = omega (arith, known (subst (NextOf _ _ _) (c .before .before .n .given .1) (c .before .before .before .before .step-at .ensures)))
@@ -79,18 +78,18 @@ same-length-8 : tie.Need-same-length-8 Inv-loop μ-loop
 same-length-8 c = c .before .before .before .before .before .before .before .before .before .before .loop .inv .1
 
 same-length-9 : tie.Need-same-length-9 Inv-loop μ-loop
-same-length-9 c = c .before .before .before .out2 .given ∙ c .before .before .before .before .before .before .before .before .before .before .loop .inv .2
+same-length-9 c = c .before .before .before .out2 .given ∙ c .before .before .before .before .before .before .before .before .before .before .loop .inv .3 .size
 
 returns-4 : tie.Need-returns-4 Inv-loop μ-loop
 returns-4 c =
-    finish (c .before .before .before .before .before .before .before .before .before .before .loop .inv .4) (stopped _) _ (c .before .before .before .before .put-last .result) _ (atRefusal (subst (NextOf _ _ _) (c .before .before .before .before .before .before .before .n .given .1) (c .before .before .before .before .before .before .before .before .before .step-at .ensures))) (c .before .before .before .before .put-last .ensures)
+    finish (c .before .before .before .before .before .before .before .before .before .before .loop .inv .3) (stopped _) _ (c .before .before .before .before .put-last .result) _ (atRefusal (subst (NextOf _ _ _) (c .before .before .before .before .before .before .before .n .given .1) (c .before .before .before .before .before .before .before .before .before .step-at .ensures))) (c .before .before .before .before .put-last .ensures)
     (rw (c .before .standing3 .ensures) at (c .played3 .ensures))
 
 decode-requires : tie.Need-decode-requires Inv-loop μ-loop
 decode-requires c κs = (known (subst (NextOf _ _ _) (c .before .before .call .given .1) (c .before .before .before .before .step-at .ensures)) .1 .digits, omega arith)
 
 add-met : tie.Need-add-met Inv-loop μ-loop
-add-met c = omega (arith, c .before .before .before .before .before .before .before .before .loop .inv .3, c .before .before .before .before .before .before .before .before .before .before .before .before .before .before .before .before .before .before .before .before .good .0 .1)
+add-met c = omega (arith, c .before .before .before .before .before .before .before .before .loop .inv .2, c .before .before .before .before .before .before .before .before .before .before .before .before .before .before .before .before .before .before .before .before .good .0 .1)
 
 same-length-10 : tie.Need-same-length-10 Inv-loop μ-loop
 same-length-10 c = c .before .before .before .before .before .before .before .before .before .before .before .before .before .before .before .before .before .before .before .loop .inv .0
@@ -99,7 +98,7 @@ same-length-11 : tie.Need-same-length-11 Inv-loop μ-loop
 same-length-11 c = c .before .before .before .before .before .before .before .before .before .before .before .before .before .before .before .before .before .before .before .loop .inv .1
 
 same-length-12 : tie.Need-same-length-12 Inv-loop μ-loop
-same-length-12 c = c .before .before .before .before .before .out3 .given ∙ c .before .before .before .before .before .before .before .before .before .before .before .before .before .before .before .before .before .before .before .loop .inv .2
+same-length-12 c = c .before .before .before .before .before .out3 .given ∙ c .before .before .before .before .before .before .before .before .before .before .before .before .before .before .before .before .before .before .before .loop .inv .3 .size
 
 returns-5 : tie.Need-returns-5 Inv-loop μ-loop
 returns-5 c =
@@ -107,10 +106,10 @@ returns-5 c =
     let x = subst (NextOf _ _ _) (c .before .before .before .before .before .before .before .before .before .before .before .before .before .before .before .before .call .given .1) (c .before .before .before .before .before .before .before .before .before .before .before .before .before .before .before .before .before .before .step-at .ensures) in
     let d = c .before .before .before .before .before .before .before .before .before .before .before .before .before .decode .ensures in
     let e = c .before .before .before .before .before .before .before .before .before .before .before .number-of .ensures in
-    refused-short (i .4) x _ _ d _ e (c .before .before .before .before .before .before .before .before .before .before .if2 .taken) _ _ _ (rw (c .before .before .enum-told3 .given .1) at (c .before .before .before .before .before .before .put-record .ensures)) (rw (c .before .standing4 .ensures) at (c .played4 .ensures))
+    refused-short (i .3) x _ _ d _ e (c .before .before .before .before .before .before .before .before .before .before .if2 .taken) _ _ _ (rw (c .before .before .enum-told3 .given .1) at (c .before .before .before .before .before .before .put-record .ensures)) (rw (c .before .standing4 .ensures) at (c .played4 .ensures))
 
 add-refusals : tie.Need-add-refusals Inv-loop μ-loop
-add-refusals c = omega (arith, c .before .before .before .before .before .before .before .before .before .before .before .before .before .before .before .before .before .before .loop .inv .3, c .before .before .before .before .before .before .before .before .before .before .before .before .before .before .before .before .before .before .before .before .before .before .before .before .before .before .before .before .before .before .good .0 .1)
+add-refusals c = omega (arith, c .before .before .before .before .before .before .before .before .before .before .before .before .before .before .before .before .before .before .loop .inv .2, c .before .before .before .before .before .before .before .before .before .before .before .before .before .before .before .before .before .before .before .before .before .before .before .before .before .before .before .before .before .before .good .0 .1)
 
 loop-less : tie.Need-loop-less Inv-loop μ-loop
 loop-less c = let k = known (subst (NextOf _ _ _) (c .before .before .before .before .before .before .before .before .before .before .before .before .before .before .before .call .given .1) (c .before .before .before .before .before .before .before .before .before .before .before .before .before .before .before .before .before .step-at .ensures)) .1 in omega (arith, k .forward, k .inside)
@@ -124,9 +123,8 @@ loop-again c =
     let k = known x .1 in (
       i .0,
       i .1,
-      c .before .before .before .before .out3 .given ∙ i .2,
-      record { inside = omega (arith, k .inside); few-steps = omega (arith, i .3, k .forward); few-commits = omega (arith, i .3, k .forward); few-refusals = omega (arith, i .3, k .forward) },
-      refused-turn (i .4) x _ _ d _ e (c .before .before .before .before .before .before .before .before .before .if2 .taken) _ _ _ (rw (c .before .e .given .1) at (c .before .before .before .before .before .put-record .ensures)),
+      record { inside = omega (arith, k .inside); few-steps = omega (arith, i .2, k .forward); few-commits = omega (arith, i .2, k .forward); few-refusals = omega (arith, i .2, k .forward) },
+      refused-turn (i .3) x _ _ d _ e (c .before .before .before .before .before .before .before .before .before .if2 .taken) _ _ _ (rw (c .before .e .given .1) at (c .before .before .before .before .before .put-record .ensures)),
     )
 
 -- the line that a call names, the core and the line that it is about have elements in the state
@@ -137,7 +135,7 @@ named-here c =
     let d = c .before .before .before .before .decode .ensures in
     let e = c .before .before .number-of .ensures in
     let h = c .before .if2 .left in
-    rw (c .named-line .ensures) (named-low (i .4) x _ _ d _ e h)
+    rw (c .named-line .ensures) (named-low (i .3) x _ _ d _ e h)
 
 core-here : (c : tie.After-core-of Inv-loop μ-loop) → c .core-of .result < 16
 core-here c =
@@ -147,7 +145,7 @@ core-here c =
     let e = c .before .before .before .before .number-of .ensures in
     let h = c .before .before .before .if2 .left in
     let ec = rw (c .before .before .named-line .ensures) at (c .core-of .ensures) in
-    core-low (i .4) x _ _ d _ e h _ ec
+    core-low (i .3) x _ _ d _ e h _ ec
 
 line-here : (c : tie.After-line-of Inv-loop μ-loop) → (c .before .before .core-of .result < 16) × (c .line-of .result < 64)
 line-here c =
@@ -158,7 +156,7 @@ line-here c =
     let h = c .before .before .before .before .before .if2 .left in
     let ec = rw (c .before .before .before .before .named-line .ensures) at (c .before .before .core-of .ensures) in
     let el = c .line-of .ensures in
-    (core-low (i .4) x _ _ d _ e h _ ec, line-low (i .4) x _ _ d _ e h _ ec _ el)
+    (core-low (i .3) x _ _ d _ e h _ ec, line-low (i .3) x _ _ d _ e h _ ec _ el)
 
 mul-owned : tie.Need-mul-owned Inv-loop μ-loop
 mul-owned c = let a = named-here (c) in omega arith
@@ -202,7 +200,7 @@ put-answer-requires c κs =
     let h = c .before .before .before .before .before .before .before .before .before .before .before .before .if2 .left in
     let ec = rw (c .before .before .before .before .before .before .before .before .before .before .before .named-line .ensures) at (c .before .before .before .before .before .before .before .before .before .core-of .ensures) in
     let el = c .before .before .before .before .before .before .before .line-of .ensures in
-    (place-low (i .4) x _ _ d _ e h _ ec _ el, private-long (i .4) x _ _ d _ e h)
+    (place-low (i .3) x _ _ d _ e h _ ec _ el, private-long (i .3) x _ _ d _ e h)
 
 same-length-13 : tie.Need-same-length-13 Inv-loop μ-loop
 same-length-13 c = c .before .before .before .before .before .before .before .before .before .before .before .before .before .before .before .before .before .before .before .before .before .before .before .before .before .before .before .before .loop .inv .0
@@ -211,7 +209,7 @@ same-length-14 : tie.Need-same-length-14 Inv-loop μ-loop
 same-length-14 c = c .before .before .before .before .before .before .before .before .before .before .before .before .before .before .before .before .before .before .before .before .before .before .before .before .before .before .before .before .loop .inv .1
 
 same-length-15 : tie.Need-same-length-15 Inv-loop μ-loop
-same-length-15 c = c .before .before .before .before .before .out4 .given ∙ c .before .before .before .before .before .before .before .before .before .before .before .before .before .before .before .before .before .before .before .before .before .before .before .before .before .before .before .before .loop .inv .2
+same-length-15 c = c .before .before .before .before .before .out4 .given ∙ c .before .before .before .before .before .before .before .before .before .before .before .before .before .before .before .before .before .before .before .before .before .before .before .before .before .before .before .before .loop .inv .3 .size
 
 returns-6 : tie.Need-returns-6 Inv-loop μ-loop
 returns-6 c =
@@ -223,7 +221,7 @@ returns-6 c =
     let ec = rw (c .before .before .before .before .before .before .before .before .before .before .before .before .before .before .before .before .before .before .named-line .ensures) at (c .before .before .before .before .before .before .before .before .before .before .before .before .before .before .before .before .core-of .ensures) in
     let el = c .before .before .before .before .before .before .before .before .before .before .before .before .before .before .line-of .ensures in
     let ef = c .before .before .before .before .before .before .before .before .before .before .before .effect .ensures in
-    made-short (i .4) x _ _ d _ e h _ ec _ el _ ef _ _ (rw (c .before .before .enum-told4 .given .1) at (c .before .before .before .before .before .before .put-answer .ensures)) (rw (c .before .standing5 .ensures) at (c .played5 .ensures))
+    made-short (i .3) x _ _ d _ e h _ ec _ el _ ef _ _ (rw (c .before .before .enum-told4 .given .1) at (c .before .before .before .before .before .before .put-answer .ensures)) (rw (c .before .standing5 .ensures) at (c .played5 .ensures))
 
 mul-core : tie.Need-mul-core Inv-loop μ-loop
 mul-core c = let a = line-here (c .before .before .before .before .before .before .before .before .before .before .before .before .before .before .before) in omega arith
@@ -247,10 +245,10 @@ part-move-bytes-end : tie.Need-part-move-bytes-end Inv-loop μ-loop
 part-move-bytes-end c = c .before .before .before .before .before .before .before .before .before .before .before .before .before .before .before .before .before .before .before .before .before .before .before .before .before .before .decode .ensures .fits
 
 add-commits : tie.Need-add-commits Inv-loop μ-loop
-add-commits c = omega (arith, c .before .before .before .before .before .before .before .before .before .before .before .before .before .before .before .before .before .before .before .before .before .before .before .before .before .before .before .before .before .before .before .before .before .before .before .before .before .before .before .loop .inv .3, c .before .before .before .before .before .before .before .before .before .before .before .before .before .before .before .before .before .before .before .before .before .before .before .before .before .before .before .before .before .before .before .before .before .before .before .before .before .before .before .before .before .before .before .before .before .before .before .before .before .before .before .good .0 .1, commits-few (c .before .before .before .before .before .before .before .before .before .before .before .before .before .before .before .before .before .before .before .before .before .before .effect .result .answer) _ (c .commits-of .ensures))
+add-commits c = omega (arith, c .before .before .before .before .before .before .before .before .before .before .before .before .before .before .before .before .before .before .before .before .before .before .before .before .before .before .before .before .before .before .before .before .before .before .before .before .before .before .before .loop .inv .2, c .before .before .before .before .before .before .before .before .before .before .before .before .before .before .before .before .before .before .before .before .before .before .before .before .before .before .before .before .before .before .before .before .before .before .before .before .before .before .before .before .before .before .before .before .before .before .before .before .before .before .before .good .0 .1, commits-few (c .before .before .before .before .before .before .before .before .before .before .before .before .before .before .before .before .before .before .before .before .before .before .effect .result .answer) _ (c .commits-of .ensures))
 
 add-refusals-2 : tie.Need-add-refusals-2 Inv-loop μ-loop
-add-refusals-2 c = omega (arith, c .before .before .before .before .before .before .before .before .before .before .before .before .before .before .before .before .before .before .before .before .before .before .before .before .before .before .before .before .before .before .before .before .before .before .before .before .before .before .before .before .loop .inv .3, c .before .before .before .before .before .before .before .before .before .before .before .before .before .before .before .before .before .before .before .before .before .before .before .before .before .before .before .before .before .before .before .before .before .before .before .before .before .before .before .before .before .before .before .before .before .before .before .before .before .before .before .before .good .0 .1, refusals-few (c .before .before .before .before .before .before .before .before .before .before .before .before .before .before .before .before .before .before .before .before .before .before .before .effect .result .answer) _ (c .refusals-of .ensures))
+add-refusals-2 c = omega (arith, c .before .before .before .before .before .before .before .before .before .before .before .before .before .before .before .before .before .before .before .before .before .before .before .before .before .before .before .before .before .before .before .before .before .before .before .before .before .before .before .before .loop .inv .2, c .before .before .before .before .before .before .before .before .before .before .before .before .before .before .before .before .before .before .before .before .before .before .before .before .before .before .before .before .before .before .before .before .before .before .before .before .before .before .before .before .before .before .before .before .before .before .before .before .before .before .before .before .good .0 .1, refusals-few (c .before .before .before .before .before .before .before .before .before .before .before .before .before .before .before .before .before .before .before .before .before .before .before .effect .result .answer) _ (c .refusals-of .ensures))
 
 loop-less-2 : tie.Need-loop-less-2 Inv-loop μ-loop
 loop-less-2 c = let k = known (subst (NextOf _ _ _) (c .before .before .before .before .before .before .before .before .before .before .before .before .before .before .before .before .before .before .before .before .before .before .before .before .before .before .before .before .before .before .before .before .before .before .before .before .before .call .given .1) (c .before .before .before .before .before .before .before .before .before .before .before .before .before .before .before .before .before .before .before .before .before .before .before .before .before .before .before .before .before .before .before .before .before .before .before .before .before .before .before .step-at .ensures)) .1 in omega (arith, k .forward, k .inside)
@@ -274,9 +272,8 @@ loop-again-2 c =
     let nr = c .refusals-of .ensures in (
       lp ∙ i .0,
       lq ∙ i .1,
-      c .before .before .before .before .before .before .before .before .before .before .before .before .before .before .before .before .before .out4 .given ∙ i .2,
-      record { inside = omega (arith, k .inside); few-steps = omega (arith, i .3, k .forward); few-commits = omega (arith, i .3, k .forward, commits-few (f .answer) _ nc); few-refusals = omega (arith, i .3, k .forward, refusals-few (f .answer) _ nr) },
-      made-turn (i .4) x _ _ d _ e h _ ec _ el _ ef _ _ _ _ _ _ (c .before .before .before .before .before .before .move-bytes .ensures) lp lq (ap (λ (m : ℕ). l .commits + m) nc) (ap (λ (m : ℕ). l .refusals + m) nr) (rw (c .before .before .before .before .before .before .before .before .before .before .before .before .before .before .e2 .given .1) at (c .before .before .before .before .before .before .before .before .before .before .before .before .before .before .before .before .before .before .put-answer .ensures)),
+      record { inside = omega (arith, k .inside); few-steps = omega (arith, i .2, k .forward); few-commits = omega (arith, i .2, k .forward, commits-few (f .answer) _ nc); few-refusals = omega (arith, i .2, k .forward, refusals-few (f .answer) _ nr) },
+      made-turn (i .3) x _ _ d _ e h _ ec _ el _ ef _ _ _ _ _ _ (c .before .before .before .before .before .before .move-bytes .ensures) lp lq (ap (λ (m : ℕ). l .commits + m) nc) (ap (λ (m : ℕ). l .refusals + m) nr) (rw (c .before .before .before .before .before .before .before .before .before .before .before .before .before .before .e2 .given .1) at (c .before .before .before .before .before .before .before .before .before .before .before .before .before .before .before .before .before .before .put-answer .ensures)),
     )
 
 pub play-spec : {M : Type 1} → statement M

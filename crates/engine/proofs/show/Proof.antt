@@ -1,46 +1,69 @@
--- The part that `shown_at` names lies in its buffer.
+-- Nothing under a refusal, else the part of the copy or of the manager's line.
+use mathlib.Core.Path.{sym, _∙_}
 use native.Mathlib.Omega.{arith}
 use borrow.Author.Needs.{needs}
-use Rattle.engine.proofs.Showing.{lies}
+use Rattle.protocol.specs.Buffers.{Placed}
+use Rattle.protocol.proofs.Places.{indices}
+use Rattle.engine.proofs.Showing.{there, shows-nothing, shows-copy, shows-manager}
 use Rattle.engine.proofs.show.Statement.{statement}
 use Rattle.engine.proofs.show.Tie as tie
 
-sub-result : tie.Need-sub-result
-sub-result c = let a = lies _ _ _ _ (c .before .before .shown-at .ensures) in omega arith
-
-part-result-start : tie.Need-part-result-start
-part-result-start c = lies _ _ _ _ (c .before .before .shown-at .ensures) .0
-
-part-result-end : tie.Need-part-result-end
-part-result-end c = rw (c .enum-told .given .1) at (lies _ _ _ _ (c .before .before .shown-at .ensures) .1)
-
-sub-result-2 : tie.Need-sub-result-2
-sub-result-2 c = let a = lies _ _ _ _ (c .before .before .shown-at .ensures) in omega arith
-
-part-result-start-2 : tie.Need-part-result-start-2
-part-result-start-2 c = lies _ _ _ _ (c .before .before .shown-at .ensures) .0
-
-part-result-end-2 : tie.Need-part-result-end-2
-part-result-end-2 c = rw (c .enum-told2 .given .1) at (lies _ _ _ _ (c .before .before .shown-at .ensures) .1)
+-- what `show` is given; `t1` is its state
+abbrev given : (c : tie.After-input-refusal) → tie.Start
+given c = c .before .before .before .before .before .before
 
 returns : tie.Need-returns
-returns c = rw (← c .before .before .before .shown-at .ensures, c .before .enum-told .given .1)
+returns c =
+    let a = given (c .before .before) .args in
+    shows-nothing (a .t1) (a .«private») (a .shared) (a .core) (a .line) _ (c .before .before .input-refusal .ensures) (c .before .if1 .taken) _
+    (c .part .ensures)
+
+placed : (c : tie.Else1) → Placed (given (c .before) .args .t1 .opening) (given (c .before) .args .core) (given (c .before) .args .line)
+placed c =
+    let a = given (c .before) .args in
+    there (a .t1) (a .«private») (a .shared) (a .core) (a .line) _ (c .before .input-refusal .ensures) (c .if1 .left)
+
+mul-i : tie.Need-mul-i
+mul-i c = let a = indices (placed c) in omega arith
+
+add-i : tie.Need-add-i
+add-i c = let a = indices (placed c) in omega arith
+
+mul-e : tie.Need-mul-e
+mul-e c = let a = indices (placed c) in omega arith
+
+element-copy-out-e : tie.Need-element-copy-out-e
+element-copy-out-e c = let a = indices (placed c) in omega arith
 
 returns-2 : tie.Need-returns-2
-returns-2 c = rw (← c .before .before .before .shown-at .ensures, c .before .enum-told2 .given .1)
+returns-2 c =
+    let k = c .before .before .before .before .before in
+    let a = given (k .before) .args in
+    shows-copy (a .t1) (a .«private») (a .shared) (a .core) (a .line) _ (k .before .input-refusal .ensures) (k .if1 .left)
+    (sym (c .before .before .before .is-held .ensures) ∙ c .before .before .if2 .taken) _ (c .before .copy-start .ensures) _ (c .part2 .ensures)
+
+returns-3 : tie.Need-returns-3
+returns-3 c =
+    let k = c .before .before .before .before .before in
+    let a = given (k .before) .args in
+    shows-manager (a .t1) (a .«private») (a .shared) (a .core) (a .line) _ (k .before .input-refusal .ensures) (k .if1 .left)
+    (sym (c .before .before .before .is-held .ensures) ∙ c .before .before .if2 .left) _ (c .before .manager-start .ensures) _ (c .part3 .ensures)
 
 pub show-spec : {M : Type 1} → statement M
 show-spec =
     tie.close
     (tie.spec
     (λ c κs. search needs)
-    (λ c. search needs)
-    sub-result
-    part-result-start
-    part-result-end
-    (λ c. search needs)
-    sub-result-2
-    part-result-start-2
-    part-result-end-2
+    (λ c κs. search needs)
     returns
-    returns-2)
+    mul-i
+    add-i
+    mul-e
+    element-copy-out-e
+    (λ c κs. search needs)
+    (λ c κs. search needs)
+    (λ c κs. search needs)
+    returns-2
+    (λ c κs. search needs)
+    (λ c κs. search needs)
+    returns-3)

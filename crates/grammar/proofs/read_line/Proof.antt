@@ -10,7 +10,7 @@ use Rattle.grammar.proofs.read_line.Statement.{statement}
 use Rattle.grammar.proofs.read_line.Tie as tie
 
 returns : tie.Need-returns
-returns c = tooLong (c .if1 .taken)
+returns c = tooLong (omega (arith, c .if1 .taken))
 
 find-requires : tie.Need-find-requires
 find-requires c κs = search needs

@@ -14,7 +14,7 @@ use Rattle.protocol.specs.Stamps.{later}
 use Rattle.protocol.specs.Clock.{storeTime}
 use Rattle.protocol.specs.Buffers.{Bytes, copyBytes, managerBytes, writebackBytes, answerBytes}
 use Rattle.protocol.specs.Machine.{Machine, Pieces, piecesAt, coreAt, copyAt, lineAt, applied, slotLine}
-use Rattle.protocol.specs.Tables.{row, refusedRow, heldOf, asking, loadOwned, loadShared, loadTable, storeTable, fenceTable, advanceTable, evictTable, sameVersion, leasedTo, serveLoad, serveAsked, serveTable, receiveRenew, receiveGrant, receiveTable, yielded, yieldTable, takeTable, writtenBack, managed, slotted}
+use Rattle.protocol.specs.Tables.{row, refusedRow, heldOf, asking, loadOwned, loadShared, loadTable, earliest, storeTable, fenceTable, advanceTable, evictTable, sameVersion, leasedTo, serveLoad, serveAsked, serveTable, receiveRenew, receiveGrant, receiveTable, yielded, yieldTable, takeTable, writtenBack, managed, slotted}
 use Rattle.protocol.specs.Step.{Op, load, store, fence, Reply, refused, done, commit, meaning, commitBytes, accepted}
 use Rattle.protocol.specs.Run.{place, Commit, commitAt}
 use Rattle.protocol.specs.Order.{TsoKeeps, Stores}
@@ -352,7 +352,7 @@ module _ (z : Bytes) (p : ℕ) {H : List (Commit Bytes)} (call : Call) (given : 
       d = storeTable (CopyOwned b w r) c l ps
 
       t : Stamp
-      t = storeTime (k .clocks) r
+      t = storeTime (k .clocks) (earliest r)
 
       v : Stands g (atCopy c) (w .0) (r .0) bytes
       v = owned-stands w r b e

@@ -1,17 +1,20 @@
 //! Runs generated journals through a program and through the reference and
 //! compares the whole listings byte for byte.
 //!
-//! Usage: compare [--count N] [--first SEED] [PROGRAM]
+//! Usage: compare [--count N] [--first SEED] [--limit SECONDS] PROGRAM
+//!        compare [--count N] [--first SEED] [--fault NAME]
 //!        compare --print SEED
 //!
-//! Without a program it checks the reference itself: demand 3 on the commits of
-//! every journal, and that every answer and every refusal occurs. It then also
-//! says how many journals show each fault by a listing or by demand 3.
+//! Without a program it checks the reference itself, or one with a fault: demand
+//! 3 on the commits of every journal. It then also says how many journals show
+//! each fault by a listing or by demand 3.
+//!
+//! Either way it fails where the journals never meet a row of `coverage::rows`:
+//! few journals prove little.
 
-use std::io::{Read, Write};
-use std::process::{Child, Command, ExitCode, Stdio};
+use std::io::Write;
+use std::process::ExitCode;
 use std::sync::atomic::{AtomicU64, Ordering};
-use std::sync::mpsc;
 use std::sync::Mutex;
 use std::time::{Duration, Instant};
 
@@ -20,41 +23,57 @@ use reference::faults::Fault;
 use reference::generate;
 use reference::listing::{listing, listing_with_fault};
 use reference::order::{self, Ties};
+use reference::program::{self, Failure};
 use reference::run::Run;
 use reference::shrink::shrink;
 
-/// A program that takes longer than this over one journal counts as hung.
-const PATIENCE: Duration = Duration::from_secs(20);
-
-/// How many journals the search for a small one may try.
+/// How many journals the search for a small one may try, and for how long.
 const TRIES: u32 = 4000;
+const TIME_TO_SHRINK: Duration = Duration::from_secs(60);
 
 struct Options {
     count: u64,
     first: u64,
+    patience: Duration,
+    fault: Fault,
     program: Option<String>,
 }
 
 fn main() -> ExitCode {
-    let mut options = Options { count: 5000, first: 1, program: None };
+    let mut options =
+        Options { count: 5000, first: 1, patience: program::PATIENCE, fault: Fault::None, program: None };
     let mut arguments = std::env::args().skip(1);
     while let Some(argument) = arguments.next() {
+        if argument == "--fault" {
+            match arguments.next().as_deref().and_then(Fault::named) {
+                Some(fault) => options.fault = fault,
+                None => return usage(),
+            }
+            continue;
+        }
         let mut number = || arguments.next().and_then(|text| text.parse::<u64>().ok());
         match argument.as_str() {
             "--count" => options.count = number().unwrap_or(0),
             "--first" => options.first = number().unwrap_or(0),
+            "--limit" => options.patience = Duration::from_secs(number().unwrap_or(0)),
             "--print" => return print(number().unwrap_or(0)),
             _ => options.program = Some(argument),
         }
     }
     if options.count == 0 {
-        eprintln!("usage: compare [--count N] [--first SEED] [PROGRAM] | --print SEED");
-        return ExitCode::from(2);
+        return usage();
     }
     match &options.program {
         Some(program) => compare(&options, program),
         None => self_test(&options),
     }
+}
+
+fn usage() -> ExitCode {
+    eprintln!(
+        "usage: compare [--count N] [--first SEED] [--limit SECONDS | --fault NAME] [PROGRAM] | --print SEED"
+    );
+    ExitCode::from(2)
 }
 
 fn print(seed: u64) -> ExitCode {
@@ -85,6 +104,23 @@ fn for_each_seed(options: &Options, work: impl Fn(u64) -> bool + Sync) {
     });
 }
 
+/// Names the rows that were never met; whether there are none.
+fn whole(coverage: &Coverage) -> bool {
+    let missing = coverage.missing();
+    for row in &missing {
+        println!("never met: {row}");
+    }
+    missing.is_empty()
+}
+
+fn exit(success: bool) -> ExitCode {
+    if success {
+        ExitCode::SUCCESS
+    } else {
+        ExitCode::FAILURE
+    }
+}
+
 // ---- Against a program ----
 
 fn compare(options: &Options, program: &str) -> ExitCode {
@@ -92,48 +128,50 @@ fn compare(options: &Options, program: &str) -> ExitCode {
     let done = AtomicU64::new(0);
     let coverage = Mutex::new(Coverage::default());
     let differing: Mutex<Option<u64>> = Mutex::new(None);
+    let run = |journal: &[u8]| program::on_bytes(program, journal, options.patience);
     for_each_seed(options, |seed| {
         let journal = generate::journal(seed);
         let mut own = Coverage::default();
         own.run(&journal);
         coverage.lock().unwrap().add(&own);
-        let same = run_program(program, &journal).as_deref() == Ok(&listing(&journal)[..]);
+        let same = run(&journal).is_ok_and(|text| text == listing(&journal));
         if !same {
             differing.lock().unwrap().get_or_insert(seed);
         }
         done.fetch_add(1, Ordering::Relaxed);
         same
     });
-    let seconds = start.elapsed().as_secs_f64();
     let done = done.into_inner();
-    match differing.into_inner().unwrap() {
-        None => {
-            let missing = coverage.into_inner().unwrap().missing();
-            println!("compare: {done} journals, all listings equal, never seen: {missing:?}, {seconds:.1} s");
-            ExitCode::SUCCESS
-        }
-        Some(seed) => {
-            show_difference(program, seed);
-            println!("compare: a difference at seed {seed}, after {done} journals, {seconds:.1} s");
-            ExitCode::FAILURE
-        }
+    if let Some(seed) = differing.into_inner().unwrap() {
+        show_difference(seed, run);
+        println!("compare: a difference at seed {seed}, after {done} journals");
+        return ExitCode::FAILURE;
     }
+    let whole = whole(&coverage.into_inner().unwrap());
+    let rows = if whole { "every row met" } else { "FAILED: rows never met" };
+    println!("compare: {done} journals, all listings equal, {rows}, {:.1} s", start.elapsed().as_secs_f64());
+    exit(whole)
 }
 
 /// Shrinks the seed's journal and prints it with both listings.
-fn show_difference(program: &str, seed: u64) {
+fn show_difference(seed: u64, run: impl Fn(&[u8]) -> Result<Vec<u8>, Failure>) {
     let journal = generate::journal(seed);
-    let differs =
-        |candidate: &[u8]| run_program(program, candidate).as_deref() != Ok(&listing(candidate)[..]);
-    let small = shrink(&journal, TRIES, differs);
+    let start = Instant::now();
+    let differs = |candidate: &[u8]| {
+        start.elapsed() < TIME_TO_SHRINK && !run(candidate).is_ok_and(|text| text == listing(candidate))
+    };
+    let small = match run(&journal) {
+        Err(Failure::Hangs) => journal,
+        _ => shrink(&journal, TRIES, differs),
+    };
     println!("seed {seed}: the listings differ. The smallest journal found ({} bytes):", small.len());
     print_text(&small);
     println!("the reference's listing:");
     print_text(&listing(&small));
     println!("the program's listing:");
-    match run_program(program, &small) {
+    match run(&small) {
         Ok(text) => print_text(&text),
-        Err(error) => println!("    ({error})"),
+        Err(failure) => println!("    ({failure})"),
     }
 }
 
@@ -148,46 +186,6 @@ fn print_text(text: &[u8]) {
     }
 }
 
-/// The standard output of a program that gets a journal as standard input. A
-/// program that cannot be started, hangs or is ended by a signal is an error.
-fn run_program(program: &str, journal: &[u8]) -> Result<Vec<u8>, String> {
-    let mut child = Command::new(program)
-        .stdin(Stdio::piped())
-        .stdout(Stdio::piped())
-        .stderr(Stdio::null())
-        .spawn()
-        .map_err(|error| format!("{program}: {error}"))?;
-    let mut input = child.stdin.take().ok_or("no standard input")?;
-    let mut output = child.stdout.take().ok_or("no standard output")?;
-    let journal = journal.to_vec();
-    // A program may stop reading early, so an error here is no matter.
-    let writer = std::thread::spawn(move || drop(input.write_all(&journal)));
-    let (send, receive) = mpsc::channel();
-    std::thread::spawn(move || {
-        let mut text = Vec::new();
-        let read = output.read_to_end(&mut text);
-        drop(send.send(read.map(|_| text)));
-    });
-    let text = receive.recv_timeout(PATIENCE);
-    let ended = end(&mut child, text.is_err());
-    drop(writer.join());
-    ended?;
-    text.map_err(|_| "the program hangs".to_string())?.map_err(|error| error.to_string())
-}
-
-/// Waits for a program, after stopping it if it hangs. Only its way of ending
-/// counts: 01 says nothing about its exit status.
-fn end(child: &mut Child, hangs: bool) -> Result<(), String> {
-    if hangs {
-        drop(child.kill());
-    }
-    match child.wait() {
-        Ok(status) if status.code().is_none() => Err(format!("ended by {status}")),
-        Ok(_) => Ok(()),
-        Err(error) => Err(error.to_string()),
-    }
-}
-
 // ---- The reference alone ----
 
 fn self_test(options: &Options) -> ExitCode {
@@ -199,9 +197,13 @@ fn self_test(options: &Options) -> ExitCode {
     for_each_seed(options, |seed| {
         let journal = generate::journal(seed);
         let mut own = Coverage::default();
-        let made = order::commits(&own.run(&journal));
+        let records = own.run(&journal);
         coverage.lock().unwrap().add(&own);
-        if let Err(trouble) = order::check(&made, Ties::ByPlace) {
+        let records = match options.fault {
+            Fault::None => records,
+            fault => Run::with_fault(&journal, fault).collect(),
+        };
+        if let Err(trouble) = order::check(&order::commits(&records), Ties::ByPlace) {
             failed.lock().unwrap().push((seed, trouble));
         }
         // Every tenth short journal is enough to see what faults do.
@@ -224,19 +226,15 @@ fn self_test(options: &Options) -> ExitCode {
     for (seed, trouble) in &failed {
         println!("seed {seed}: demand 3 fails: {trouble:?}");
     }
-    let missing = coverage.missing();
+    let whole = whole(&coverage);
     println!(
-        "self-test: {} journals, demand 3 fails on {}, never seen: {missing:?}, {:.1} s",
+        "self-test: {} journals, demand 3 fails on {}, {}, {:.1} s",
         options.count,
         failed.len(),
+        if whole { "every row met" } else { "FAILED: rows never met" },
         start.elapsed().as_secs_f64()
     );
-    let whole = missing.is_empty() || options.count < 5000;
-    if failed.is_empty() && whole {
-        ExitCode::SUCCESS
-    } else {
-        ExitCode::FAILURE
-    }
+    exit(failed.is_empty() && whole)
 }
 
 /// Whether a fault shows itself on a journal: by the listing, by demand 3.

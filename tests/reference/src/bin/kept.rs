@@ -1,23 +1,30 @@
 //! Checks the kept journals.
 //!
-//! Usage: kept FOLDER [PROGRAM]
+//! Usage: kept [--limit SECONDS] FOLDER [PROGRAM]
 //!
 //! Each kept journal must give its kept listing, in the reference and, if one is
-//! given, in the program; and demand 3 must hold on the reference's commits.
+//! given, in the program, which has to end in time and with exit status 0; and
+//! demand 3 must hold on the reference's commits.
 
-use std::fs::File;
 use std::path::Path;
-use std::process::{Command, ExitCode, Stdio};
+use std::process::ExitCode;
+use std::time::Duration;
 
 use reference::kept::{self, Kept};
 use reference::listing::listing;
 use reference::order::{self, Ties};
+use reference::program::{self, Failure};
 use reference::run::Run;
 
 fn main() -> ExitCode {
-    let arguments: Vec<String> = std::env::args().skip(1).collect();
-    let Some(folder) = arguments.first() else {
-        eprintln!("usage: kept FOLDER [PROGRAM]");
+    let mut arguments: Vec<String> = std::env::args().skip(1).collect();
+    let mut patience = Some(program::PATIENCE);
+    if arguments.first().is_some_and(|first| first == "--limit") {
+        patience = arguments.get(1).and_then(|text| text.parse().ok()).map(Duration::from_secs);
+        arguments.drain(..arguments.len().min(2));
+    }
+    let (Some(patience), Some(folder)) = (patience, arguments.first()) else {
+        eprintln!("usage: kept [--limit SECONDS] FOLDER [PROGRAM]");
         return ExitCode::from(2);
     };
     let folder = Path::new(folder);
@@ -30,11 +37,13 @@ fn main() -> ExitCode {
     };
     let mut failed = 0;
     for kept in &all {
-        let program = arguments.get(1).map(String::as_str);
-        for trouble in troubles(folder, kept, program) {
+        for trouble in troubles(kept) {
             println!("{}: {trouble}", kept.name);
             failed += 1;
         }
+    }
+    if let Some(program) = arguments.get(1) {
+        failed += failures_of(program, folder, &all, patience);
     }
     println!("kept: {} journals, {failed} failures", all.len());
     if failed == 0 && !all.is_empty() {
@@ -44,8 +53,8 @@ fn main() -> ExitCode {
     }
 }
 
-/// Everything that is wrong with one kept journal.
-fn troubles(folder: &Path, kept: &Kept, program: Option<&str>) -> Vec<String> {
+/// What is wrong with one kept journal in the reference.
+fn troubles(kept: &Kept) -> Vec<String> {
     let mut troubles = Vec::new();
     let reference = listing(&kept.journal);
     if reference != kept.listing {
@@ -55,20 +64,27 @@ fn troubles(folder: &Path, kept: &Kept, program: Option<&str>) -> Vec<String> {
     if let Err(trouble) = order::check(&order::commits(&records), Ties::ByPlace) {
         troubles.push(format!("demand 3 fails: {trouble:?}"));
     }
-    if let Some(program) = program {
-        match output(folder, kept, program) {
-            Ok(text) if text == kept.listing => {}
-            Ok(text) => troubles.push(first_difference("the program", &text, &kept.listing)),
-            Err(error) => troubles.push(format!("{program}: {error}")),
-        }
-    }
     troubles
 }
 
-fn output(folder: &Path, kept: &Kept, program: &str) -> std::io::Result<Vec<u8>> {
-    let journal = File::open(folder.join(format!("{}.journal", kept.name)))?;
-    let output = Command::new(program).stdin(journal).stderr(Stdio::null()).output()?;
-    Ok(output.stdout)
+/// Plays all kept journals through a program and counts the failures. It stops
+/// at a journal over which the program hangs.
+fn failures_of(program: &str, folder: &Path, all: &[Kept], patience: Duration) -> u32 {
+    let mut failed = 0;
+    for kept in all {
+        let journal = folder.join(format!("{}.journal", kept.name));
+        let (trouble, hangs) = match program::on_file(program, &journal, patience) {
+            Ok(text) if text == kept.listing => continue,
+            Ok(text) => (first_difference("the program", &text, &kept.listing), false),
+            Err(failure) => (format!("{program}: {failure}"), matches!(failure, Failure::Hangs)),
+        };
+        println!("{}: {trouble}", kept.name);
+        failed += 1;
+        if hangs {
+            break;
+        }
+    }
+    failed
 }
 
 /// Says on which line a listing first differs from the kept one.

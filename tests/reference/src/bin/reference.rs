@@ -68,7 +68,7 @@ fn check_order(journal: &[u8], fault: Fault) -> ExitCode {
 
 fn list_faults() -> ExitCode {
     for fault in Fault::ALL {
-        println!("{:26} {}", fault.name(), fault.meaning());
+        println!("{:29} {}", fault.name(), fault.meaning());
     }
     ExitCode::SUCCESS
 }

@@ -1,12 +1,10 @@
--- The clocks after a store, by what `after` and `later` give.
+-- The clocks after a store, by what `later` gives.
 use borrow.Author.Needs.{needs}
 use Rattle.protocol.proofs.Clocks.store.Statement.{statement}
 use Rattle.protocol.proofs.Clocks.store.Tie as tie
 
 returns : tie.Need-returns
-returns c = rw (c .later2 .ensures, c .before .later .ensures, c .before .before .after .ensures)
+returns c = rw (c .later2 .ensures, c .before .later .ensures)
 
 pub store-spec : {M : Type 1} → statement M
-store-spec =
-    tie.close
-    (tie.spec (λ c κs. search needs) (λ c κs. search needs) (λ c κs. search needs) returns)
+store-spec = tie.close (tie.spec (λ c κs. search needs) (λ c κs. search needs) returns)

@@ -1,21 +1,30 @@
 -- The timestamps decide, and the places where they are equal.
-use native.Mathlib.Omega.{arith}
-use borrow.Author.Tests.{lt-ltb, le-ltb, eq-eqb, ne-eqb}
+use mathlib.Core.Path.{sym, _∙_}
+use borrow.Author.Needs.{needs}
 use Rattle.protocol.proofs.Key.precedes.Statement.{statement}
 use Rattle.protocol.proofs.Key.precedes.Tie as tie
 
+earlier-requires : tie.Need-earlier-requires
+earlier-requires c κs = search needs
+
 returns : tie.Need-returns
-returns c = rw (lt-ltb _ _ (c .if1 .taken))
+returns c = rw (sym (c .before .earlier .ensures) ∙ c .if1 .taken)
+
+same-requires : tie.Need-same-requires
+same-requires c κs = search needs
+
+made-earlier-requires : tie.Need-made-earlier-requires
+made-earlier-requires c κs = search needs
 
 returns-2 : tie.Need-returns-2
 returns-2 c =
-    let a = c .before .before .before .before .before .before .args in
-    rw (le-ltb _ _ (c .before .before .before .if1 .left), ne-eqb (a .self .0 .0) (a .other .0 .0) (λ e. omega arith))
+    let b = c .before .before .before in
+    rw (sym (b .before .earlier .ensures) ∙ b .if1 .left, sym (c .before .before .same .ensures) ∙ c .before .if2 .taken) (c .made-earlier .ensures)
 
 returns-3 : tie.Need-returns-3
 returns-3 c =
-    let a = c .before .before .before .before .before .before .before .before .args in
-    rw (le-ltb _ _ (c .before .before .before .before .before .if1 .left), eq-eqb (a .self .0 .0) (a .other .0 .0) (omega arith))
+    let b = c .before .before in
+    rw (sym (b .before .earlier .ensures) ∙ b .if1 .left, sym (c .before .same .ensures) ∙ c .if2 .left)
 
 pub precedes-spec : {M : Type 1} → statement M
-precedes-spec = tie.close (tie.spec returns returns-2 returns-3)
+precedes-spec = tie.close (tie.spec earlier-requires returns same-requires made-earlier-requires returns-2 returns-3)

@@ -8,6 +8,9 @@ use Rattle.protocol.proofs.Opening.fits.Tie as tie
 cast-lease : tie.Need-cast-lease
 cast-lease c = search needs
 
+cast-longest : tie.Need-cast-longest
+cast-longest c = search needs
+
 within-requires : tie.Need-within-requires
 within-requires c κs = search needs
 
@@ -41,6 +44,7 @@ fits-spec =
     tie.close
     (tie.spec
     cast-lease
+    cast-longest
     within-requires
     returns
     within-requires-2

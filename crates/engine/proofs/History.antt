@@ -1,0 +1,41 @@
+-- The calls made on an engine are a run of `step`, so the order theorem holds of them.
+use Prim.Native.Nat.{ℕ, suc}
+use mathlib.Core.Path.{_≡_, refl, sym, _∙_, ap, ap₂}
+use mathlib.Core.Bool.{Bool, true, false}
+use mathlib.Core.List.{List, [], _∷_}
+use native.Mathlib.Omega.{arith}
+use lib.Dec.{eqb}
+use borrow.Author.Tests.{eqb-true}
+use Rattle.protocol.specs.Pick.{pick}
+use Rattle.protocol.specs.Machine.{Machine, freshMachine}
+use Rattle.protocol.specs.Refusals.{openRefusal}
+use Rattle.protocol.specs.Step.{Reply, refused, done, «open», meaning}
+use Rattle.protocol.specs.Run.{Given, Record, place, run}
+use Rattle.protocol.proofs.Order.Theorem.{open-theorem, order-theorem, sort-theorem}
+use Rattle.engine.specs.History.{Made, MadeFrom, none, next, recordsOf, HistoryTheorem}
+
+-- what the calls were given
+givens : List Made → List Given
+givens [] = []
+givens (e ∷ es) = e .given ∷ givens es
+
+-- the records of the calls are those of the run of what they were given
+records-run : {m : Machine} (es : List Made) (p : ℕ) → MadeFrom m es → recordsOf es p ≡ run (givens es) p m .records
+unfolding recordsOf run givens
+records-run [] p none = refl
+records-run (e ∷ es) p (next h made) =
+    ap₂ (λ (a : Reply) (rs : List Record). record { place = place p; given = e .given; reply = a } ∷ rs) (h .reply)
+    (records-run es (suc p) made ∙ ap (λ (m : Machine). run (givens es) (suc p) m .records) (h .machine))
+
+-- an opening that is answered by its name is not refused
+accepted : (n : ℕ) (b : Bool) → eqb n 0 ≡ b → pick b (done «open») (refused n) ≡ done «open» → n ≡ 0
+accepted n true e h = eqb-true n 0 e
+accepted n false e h = absurd (let z : _≡_ {A = ℕ} 0 1 = cc in omega arith)
+
+pub history-theorem : HistoryTheorem
+unfolding meaning
+history-theorem o r w a es made =
+    let z : openRefusal o ≡ 0 = accepted (openRefusal o) _ refl (sym (w .reply) ∙ ap (λ x. meaning x []) a) in
+    let s : r .state ≡ freshMachine o .state = w .state ∙ open-theorem o z in
+    let d : MadeFrom (freshMachine o) es = rw s at made in
+    rw (records-run es 1 d) (sort-theorem o (givens es), order-theorem o z (givens es))

@@ -1,0 +1,60 @@
+-- Demand 3 of the engine's own functions, by what they promise alone: the answer of `open`, zeroed buffers, and calls made one after the other.
+-- The commits are read off what the calls returned.
+use Prim.Native.Nat.{ℕ, suc}
+use mathlib.Core.Path.{_≡_}
+use mathlib.Core.List.{List, [], _∷_}
+use lib.ListN.{replicate}
+use Rattle.protocol.specs.Buffers.{Bytes, part, privateLength, sharedLength}
+use Rattle.protocol.specs.Machine.{Machine, machine}
+use Rattle.protocol.specs.Step.{Reply, meaning}
+use Rattle.protocol.specs.Run.{Given, Record, place, Commit, commits}
+use Rattle.protocol.specs.Order.{Before, TSO, StrictTotal}
+use Rattle.protocol.specs.declared.Opening.{Opening}
+use Rattle.protocol.specs.declared.Answer.the-variants.{Open}
+use Rattle.engine.specs.declared.Done.{Done}
+use Rattle.engine.specs.declared.Opened.{Opened}
+use Rattle.engine.specs.Calls.{Opens, Performs}
+
+-- a call that was made: the call with the bytes given to it, what it returned, and both buffers as it left them
+pub record Made : Type 0 where
+  pub given : Given
+  pub returned : Done
+  pub private : Bytes
+  pub shared : Bytes
+
+-- the state that it returned and the buffers that it left
+abbrev pub left : Made → Machine
+left e = machine (e .returned .state) (e .private) (e .shared)
+
+-- calls made one after the other, the first on the machine m: "Each call gets the state and both buffers that the call before returned".
+-- `Performs` is what each of the nine functions ensures: of the state and the buffers that it got, its call and the bytes given to it, what it
+-- returned, and the buffers on its return
+pub data MadeFrom : Machine → List Made → Type 0 where
+  none : {m : Machine} → MadeFrom m []
+  next :
+      {m : Machine} {e : Made} {es : List Made}
+      → Performs m (e .given .call) (e .given .bytes) (e .returned) (e .private) (e .shared) → MadeFrom (left e) es → MadeFrom m (e ∷ es)
+
+-- what a call answered, in the scope document's terms; a commit's bytes are read where the call says that they lie, in the private buffer as
+-- it left it
+abbrev pub answered : Made → Reply
+answered e = meaning (e .returned .answer) (part (e .private) (e .returned .start) (e .returned .count))
+
+-- the records of calls made one after the other; the first one's place is p
+unfoldable pub recordsOf : List Made → ℕ → List Record
+recordsOf [] p = []
+recordsOf (e ∷ es) p = record { place = place p; given = e .given; reply = answered e } ∷ recordsOf es (suc p)
+
+-- their commits; the first call's place is 1
+abbrev pub history : List Made → List (Commit Bytes)
+history es = commits (recordsOf es 1)
+
+-- what the first call gets: the state that `open` returned, and zeroed buffers of the opening's lengths
+abbrev pub zeroed : Opening → Opened → Machine
+zeroed o r = machine (r .state) (replicate (privateLength o) 0) (replicate (sharedLength o) 0)
+
+-- demand 3, for every opening that `open` answered with `Open`, and all calls made on it: their commits have one sorted order, and it obeys TSO
+abbrev pub HistoryTheorem : Type 0
+HistoryTheorem =
+    (o : Opening) (r : Opened) → Opens o r → r .answer ≡ Open → (es : List Made) → MadeFrom (zeroed o r) es
+    → StrictTotal Before (history es) × TSO (replicate (o .width) 0) (history es)

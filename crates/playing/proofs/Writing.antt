@@ -1,0 +1,28 @@
+-- A text at the start of an output, and all bytes past it as they were: the text tells how much was written, and the output.
+use Prim.Native.Nat.{ℕ, _+_, _-_, _≤_}
+use mathlib.Core.Path.{_≡_, sym, _∙_, ap, ap₂}
+use mathlib.Core.List.{_++_}
+use native.Mathlib.Omega.{arith}
+use lib.ListN.{length, take, drop, take-append-drop}
+use lib.Seq.{length-take-le}
+use Rattle.protocol.specs.Buffers.{Bytes}
+
+-- n bytes were written to the output `old`, from its start
+pub record Fills (old new : Bytes) (n : ℕ) : Type 0 where
+  pub size : length new ≡ length old
+  pub within : n ≤ length new
+  pub beyond : drop n new ≡ drop n old
+
+module _ {old a b : Bytes} {n m : ℕ} (x : Fills old a n) (y : Fills old b m) where
+  -- the texts and what is left beside them are as long as the output
+  pub room-same : length (take n a) + (length a - n) ≡ length (take m b) + (length b - m)
+  room-same = omega (arith, x .size, y .size, x .within, y .within, length-take-le n a (x .within), length-take-le m b (y .within))
+
+  module _ (t : take n a ≡ take m b) where
+    pub written-same : n ≡ m
+    written-same = omega (arith, length-take-le n a (x .within), length-take-le m b (y .within), ap length t)
+
+    pub output-same : a ≡ b
+    output-same =
+        sym (take-append-drop n a) ∙ ap₂ (λ (u v : Bytes). u ++ v) t (x .beyond ∙ ap (λ (k : ℕ). drop k old) written-same ∙ sym (y .beyond))
+        ∙ take-append-drop m b

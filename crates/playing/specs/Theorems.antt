@@ -1,0 +1,96 @@
+-- The theorems about the driver: what its calls write is the listing, everything has exactly one answer, and with room the calls come on.
+use Prim.Native.Nat.{ℕ, _≤_, _<_}
+use mathlib.Core.Path.{_≡_}
+use mathlib.Core.Bool.{true}
+use mathlib.Core.List.{List}
+use lib.ListN.{length}
+use Rattle.protocol.specs.Buffers.{Bytes}
+use Rattle.protocol.specs.Run.{Given}
+use Rattle.driver.specs.Listing.{Ending}
+use Rattle.driver.specs.Play.{stands, Plays, Starts}
+use Rattle.driver.specs.declared.Standing.{Standing}
+use Rattle.driver.specs.declared.Progress.{Progress}
+use Rattle.driver.specs.declared.Progress.the-variants.{Done, More}
+use Rattle.driver.specs.declared.Played.{Played}
+use Rattle.playing.specs.Listing.{Reads, Listing}
+use Rattle.playing.specs.Calls.{joined, Playing}
+
+-- ---- the listing
+
+-- the steps that a journal spells from a place on and how it ends, and no others
+pub record OneReading (journal : Bytes) (form at : ℕ) : Type 0 where
+  pub steps : List Given
+  pub ending : Ending
+  pub holds : Reads journal form at steps ending
+  pub only : (gs : List Given) (e : Ending) → Reads journal form at gs e → (gs ≡ steps) × (e ≡ ending)
+
+-- a journal whose first line was read reads in exactly one way from each place
+abbrev pub OneReadingTheorem : Type 0
+OneReadingTheorem = (journal : Bytes) (form at : ℕ) → (form ≡ 0 → ⊥) → OneReading journal form at
+
+-- a journal's listing, and no other
+pub record OneListing (journal : Bytes) : Type 0 where
+  pub text : Bytes
+  pub holds : Listing journal text
+  pub only : (t : Bytes) → Listing journal t → t ≡ text
+
+-- every journal has exactly one listing
+abbrev pub OneListingTheorem : Type 0
+OneListingTheorem = (journal : Bytes) → OneListing journal
+
+-- what `start` and `play` write for a journal, put together, is its listing
+abbrev pub WholeTheorem : Type 0
+WholeTheorem = (journal : Bytes) (texts : List Bytes) → Playing journal texts → Listing journal (joined texts)
+
+-- ---- one answer
+
+-- what a call of `start` leaves: the value that it returns, and the output
+pub record Started : Type 0 where
+  pub played : Played
+  pub out : Bytes
+
+-- what a call of `play` leaves: the value that it returns, both buffers and the output
+pub record Left : Type 0 where
+  pub played : Played
+  pub private : Bytes
+  pub shared : Bytes
+  pub out : Bytes
+
+-- for a journal and an output, no two answers of `start` meet its contract
+abbrev pub StartOneTheorem : Type 0
+StartOneTheorem =
+    (journal old : Bytes) (a b : Started) → Starts journal old (a .out) (a .played) → Starts journal old (b .out) (b .played) → a ≡ b
+
+-- for a journal, a standing, the buffers p and q and an output, no two answers of `play` meet its contract
+abbrev pub PlayOneTheorem : Type 0
+PlayOneTheorem =
+    (journal : Bytes) (from : Standing) (p q old : Bytes) (a b : Left)
+    → Plays journal from p q old (a .private) (a .shared) (a .out) (a .played)
+    → Plays journal from p q old (b .private) (b .shared) (b .out) (b .played) → a ≡ b
+
+-- ---- with room the calls come on
+
+-- what is written in one piece has at most so many bytes: a line's numbers have twenty digits at most, and its data are 64 bytes at most
+abbrev pub pieceBytes : ℕ
+pieceBytes = 246
+
+-- the whole listing is written, or a run stands where `play` goes on from
+pub data Begun (journal : Bytes) (there : Standing) : Progress → Type 0 where
+  listed : Begun journal there Done
+  running : stands (length journal) there ≡ true → Begun journal there More
+
+-- a call of `start` with room for a piece comes to one of them
+abbrev pub StartComesOnTheorem : Type 0
+StartComesOnTheorem =
+    (journal old new : Bytes) (r : Played) → Starts journal old new r → pieceBytes ≤ length old → Begun journal (r .standing) (r .progress)
+
+-- the listing's last line is written, or the run stands further on in the journal, where `play` goes on from
+pub data Onward (journal : Bytes) (from there : Standing) : Progress → Type 0 where
+  finished : Onward journal from there Done
+  further : from .at < there .at → stands (length journal) there ≡ true → Onward journal from there More
+
+-- a call of `play` from where a run may stand, with room for a piece, comes to one of them: so the calls come to the listing's end
+abbrev pub PlayComesOnTheorem : Type 0
+PlayComesOnTheorem =
+    (journal : Bytes) (from : Standing) (p q old p' q' new : Bytes) (r : Played) → Plays journal from p q old p' q' new r
+    → stands (length journal) from ≡ true → pieceBytes ≤ length old → Onward journal from (r .standing) (r .progress)

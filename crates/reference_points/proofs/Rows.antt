@@ -1,0 +1,67 @@
+-- The rows hold: antt computes what `step` gives on each machine, and both sides are the same.
+use mathlib.Core.Path.{refl}
+use Rattle.protocol.specs.Pick.{every, first}
+use Rattle.protocol.specs.Limits.{openingFits}
+use Rattle.protocol.specs.Buffers.{splice, movedPrivate, movedShared}
+use Rattle.protocol.specs.Machine.{applied}
+use Rattle.protocol.specs.Refusals.{openRefusal, ownersFit, slotsFit, stateFits, buffersFit, machineRefusal, callRules, callRefusal, stateRules}
+use Rattle.protocol.specs.Refusals.{stateRefusal, refusal}
+use Rattle.protocol.specs.Tables.{loadOwned, loadTable, storeTable, fenceTable, advanceTable, evictTable, serveLoad, serveAsked, serveTable}
+use Rattle.protocol.specs.Tables.{receiveRenew, receiveGrant, receiveTable, yieldTable, takeTable, tableOf}
+use Rattle.protocol.specs.Step.{meaning, accepted, step, shown}
+use Rattle.reference_points.specs.Rows.{got, told}
+use Rattle.reference_points.specs.Points.{points, PointsTheorem}
+use Rattle.reference_points.specs.Steps.{askRows, loadRows, advanceRows, evictRows, serveRows, receiveRows, writebackRows, StepsTheorem}
+use Rattle.reference_points.specs.Numbers.{called, turnedAway, refusals, NumbersTheorem, opens, accepted as isAccepted, refusedWithSeven}
+use Rattle.reference_points.specs.Numbers.{inside, outside, OpeningsTheorem}
+use Rattle.reference_points.specs.Show.{isShown, isTold, looks, ShowTheorem}
+use Rattle.reference_points.proofs.Each.{agree}
+
+-- ---- the definitions that a call computes by
+
+unfoldable pub refusing : Unit {0}
+unfolding every first openingFits openRefusal ownersFit slotsFit stateFits buffersFit machineRefusal callRules callRefusal stateRules stateRefusal refusal
+refusing = tt
+
+unfoldable pub coreTables : Unit {0}
+unfolding loadOwned loadTable storeTable fenceTable advanceTable evictTable
+coreTables = tt
+
+unfoldable pub flightTables : Unit {0}
+unfolding serveLoad serveAsked serveTable receiveRenew receiveGrant receiveTable yieldTable takeTable
+flightTables = tt
+
+unfoldable pub calling : Unit {0}
+unfolding refusing coreTables flightTables tableOf splice movedPrivate movedShared applied meaning accepted step shown
+calling = tt
+
+-- ---- the theorems
+
+pub points-theorem : PointsTheorem
+unfolding calling
+points-theorem = agree got told points refl
+
+pub steps-theorem : StepsTheorem
+unfolding calling
+steps-theorem =
+    record {
+      ask = agree got told askRows refl;
+      load = agree got told loadRows refl;
+      advance = agree got told advanceRows refl;
+      evict = agree got told evictRows refl;
+      serve = agree got told serveRows refl;
+      receive = agree got told receiveRows refl;
+      writeback = agree got told writebackRows refl;
+    }
+
+pub numbers-theorem : NumbersTheorem
+unfolding calling
+numbers-theorem = agree called turnedAway refusals refl
+
+pub openings-theorem : OpeningsTheorem
+unfolding calling
+openings-theorem = record { inside = agree opens isAccepted inside refl; outside = agree opens refusedWithSeven outside refl }
+
+pub show-theorem : ShowTheorem
+unfolding calling
+show-theorem = agree isShown isTold looks refl

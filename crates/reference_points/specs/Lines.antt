@@ -1,0 +1,73 @@
+-- Which call each line of the journal's grammar says, and lines that are refused with 10 or 11 (01, "Journal and driver").
+use Prim.Native.Nat.{ℕ}
+use mathlib.Core.List.{List, [], _∷_}
+use lib.ListN.{replicate}
+use Rattle.protocol.specs.declared.Call.the-variants.{Load, Store, Fence, Evict, Advance, Serve, Receive, Yield, Take}
+use Rattle.spelling.specs.Text.{text}
+use Rattle.grammar.specs.Table.{rowsOf}
+use Rattle.grammar.specs.Line.{LineOf}
+use Rattle.grammar.specs.declared.Line.{Line}
+use Rattle.grammar.specs.declared.Line.the-variants.{Opening, Step, Refused}
+use Rattle.reference_points.specs.Rows.{Each}
+use Rattle.reference_points.specs.Numbers.{opening}
+
+-- a line of a journal, where the first line is due (form 0) or after `fabric=1` (form 1)
+pub record Written : Type 0 where
+  pub form : ℕ
+  pub line : List ℕ
+
+abbrev pub written : ℕ → List ℕ → Written
+written form s = record { form = form; line = s }
+
+-- what a line says. A step's data stand from one place of the line up to another; a step without data has none at the line's end
+pub record Spoken : Type 0 where
+  pub line : Written
+  pub says : Line
+
+abbrev pub spoken : ℕ → List ℕ → Line → Spoken
+spoken form s a = record { line = written form s; says = a }
+
+-- the line says so
+abbrev pub Says : Written → Line → Type 0
+Says w a = LineOf (rowsOf (w .form)) (w .line) a
+
+-- "First line `fabric=1 cores=N lines=N width=N lease=N`, then one step a line, single blanks: `op=` load, evict: `core=N line=N`; store:
+-- `core=N line=N data=H`; fence, serve, receive: `core=N`; advance: `core=N by=N`; yield, take: `line=N`."
+abbrev pub readLines : List Spoken
+readLines =
+    spoken 0 (text "fabric=1 cores=2 lines=3 width=4 lease=5") (Opening 1 (opening 2 3 4 5))
+    ∷ spoken 1 (text "op=load core=3 line=4") (Step (Load 3 4) 21 21)
+    ∷ spoken 1 (text "op=evict core=3 line=4") (Step (Evict 3 4) 22 22)
+    ∷ spoken 1 (text "op=store core=3 line=4 data=07ff") (Step (Store 3 4) 28 32)
+    ∷ spoken 1 (text "op=fence core=3") (Step (Fence 3) 15 15)
+    ∷ spoken 1 (text "op=serve core=3") (Step (Serve 3) 15 15)
+    ∷ spoken 1 (text "op=receive core=3") (Step (Receive 3) 17 17)
+    ∷ spoken 1 (text "op=advance core=3 by=4294967295") (Step (Advance 3 4294967295) 31 31)
+    ∷ spoken 1 (text "op=yield line=3") (Step (Yield 3) 15 15)
+    ∷ spoken 1 (text "op=take line=3") (Step (Take 3) 14 14)
+    ∷ []
+
+-- "`fabric=1` and the step kind are fixed text, so anything else there is 11"; so are an empty line, another key and a step where the first
+-- line is due
+abbrev pub formless : List Written
+formless =
+    written 1 (text "op=jump core=3")
+    ∷ written 1 (text "op=fetch core=3")
+    ∷ written 1 (text "op= core=3")
+    ∷ written 1 (text "op=yield core=3")
+    ∷ written 1 (text "op=take")
+    ∷ written 1 (text "fabric=1 cores=2 lines=3 width=4 lease=5")
+    ∷ written 1 []
+    ∷ written 1 (replicate 200 97)
+    ∷ written 0 (text "fabric=2 cores=2 lines=3 width=4 lease=5")
+    ∷ written 0 (text "op=load core=3 line=4")
+    ∷ []
+
+-- "10 line over 200 bytes"
+abbrev pub overlong : Written
+overlong = written 1 (replicate 201 97)
+
+pub record LinesTheorem : Type 0 where
+  pub read : Each (λ (k : Spoken). Says (k .line) (k .says)) readLines
+  pub formless : Each (λ (w : Written). Says w (Refused 11)) formless
+  pub overlong : Says overlong (Refused 10)

@@ -1,0 +1,241 @@
+-- The refusals 1 to 7 and 20 to 27 of 01: each alone, and each two that can apply to one call at once, where the smaller comes first.
+--
+-- Two numbers of which one speaks of another call (21 and 22, say) never meet. Nor do 6 and 27 (lts + 0 passes nothing), 20 and 27 (a store asks
+-- only where its copy is not owned), 21 and 27 (only an asked slot has an asked lts). 7 is an opening's alone.
+use Prim.Native.Nat.{ℕ}
+use mathlib.Core.List.{List, [], _∷_, _++_, map}
+use lib.ListN.{drop, set, replicate}
+use Rattle.protocol.specs.Stamps.{stamp}
+use Rattle.protocol.specs.Buffers.{Bytes}
+use Rattle.protocol.specs.Machine.{Machine, machine, freshMachine, Pieces}
+use Rattle.protocol.specs.Step.{Reply, refused, done, «open», Outcome, step, openReply, opened}
+use Rattle.protocol.specs.declared.Copy.the-variants.{None as NoCopy}
+use Rattle.protocol.specs.declared.Want.the-variants.{Load as WantLoad, Store as WantStore}
+use Rattle.protocol.specs.declared.Held.the-variants.{None as NothingHeld}
+use Rattle.protocol.specs.declared.Grant.the-variants.{Share as GrantShare, Own as GrantOwn}
+use Rattle.protocol.specs.declared.Slot.the-variants.{Empty, Asked, Answered}
+use Rattle.protocol.specs.declared.Recall.the-variants.{None as NoRecall, Downgrade, Flush}
+use Rattle.protocol.specs.declared.Core.{Core}
+use Rattle.protocol.specs.declared.Line.{Line}
+use Rattle.protocol.specs.declared.Opening.{Opening}
+use Rattle.protocol.specs.declared.State.{State}
+use Rattle.protocol.specs.declared.Call.{Call}
+use Rattle.protocol.specs.declared.Call.the-variants.{Load, Store, Fence, Evict, Advance, Serve, Receive, Yield, Take}
+use Rattle.reference_points.specs.Rows.{core, asked, answered, sharedCopy, dirtyCopy, sharedLine, ownedLine, pieces, unmoved, counting, given}
+use Rattle.reference_points.specs.Rows.{private, shared, greatest, cell, stateOf, Agree}
+
+-- the state of the rows, with a lease of 10
+abbrev pub usual : Pieces → State
+usual p = stateOf 10 p
+
+-- a call on a machine, and its number
+pub record Refusal : Type 0 where
+  pub number : ℕ
+  pub machine : Machine
+  pub call : Call
+  pub bytes : Bytes
+
+abbrev pub called : Refusal → Outcome
+called r = step (r .machine) (r .call) (r .bytes)
+
+-- "A refused call returns its number, the state it got, both buffers byte for byte."
+abbrev pub turnedAway : Refusal → Outcome
+turnedAway r = record { reply = refused (r .number); machine = r .machine }
+
+-- ---- 3 to 6 and 20 to 27, by what a call is given and the pieces that it finds
+
+pub record Cause : Type 0 where
+  pub number : ℕ
+  pub before : Pieces
+  pub call : Call
+  pub bytes : Bytes
+
+abbrev pub cause : ℕ → Pieces → Call → Cause
+cause n p call = record { number = n; before = p; call = call; bytes = given }
+
+-- a store of too few or too many bytes
+abbrev pub storing : ℕ → Pieces → ℕ → ℕ → Bytes → Cause
+storing n p c l bs = record { number = n; before = p; call = Store c l; bytes = bs }
+
+-- nothing asked and no copy; a request under way, asked or answered, and no copy
+abbrev pub idle : Pieces
+idle = pieces (core 7 9 Empty) NoCopy (sharedLine 4 9)
+
+abbrev pub waiting : Pieces
+waiting = pieces (core 7 9 (asked WantLoad 7 NothingHeld)) NoCopy (sharedLine 4 9)
+
+abbrev pub granted : Pieces
+granted = pieces (core 7 9 (answered GrantOwn 4 9)) NoCopy (sharedLine 4 9)
+
+-- an owned copy at the greatest timestamp
+abbrev pub full : Pieces
+full = pieces (core 7 9 Empty) (dirtyCopy 6 greatest) (ownedLine 1 NoRecall)
+
+abbrev pub causes : List Cause
+causes =
+    -- 3 core ≥ cores. Cores 2 and 3 would be refused for their slots, copies and clocks too: with 20, 20, 26, 27, 21, 27, 22
+    cause 3 idle (Load 2 0)
+    ∷ cause 3 idle (Store 2 0)
+    ∷ cause 3 idle (Fence 2)
+    ∷ cause 3 idle (Evict 2 0)
+    ∷ cause 3 idle (Advance 2 5)
+    ∷ cause 3 idle (Serve 2)
+    ∷ cause 3 idle (Serve 3)
+    ∷ cause 3 idle (Receive 3)
+    -- 3 and 27 of a store; 3 and 4; 3 and 5; 3 and 6
+    ∷ cause 3 idle (Store 2 1)
+    ∷ cause 3 idle (Load 2 3)
+    ∷ cause 3 idle (Store 2 3)
+    ∷ cause 3 idle (Evict 2 3)
+    ∷ storing 3 idle 2 1 (counting 3 80)
+    ∷ cause 3 idle (Advance 2 0)
+    -- 4 line ≥ lines. Lines 3 and 4 would be refused for what they hold too: with 20, 20, 26, 23, 24, 25
+    ∷ cause 4 waiting (Load 1 4)
+    ∷ cause 4 waiting (Store 1 4)
+    ∷ cause 4 idle (Evict 1 4)
+    ∷ cause 4 idle (Yield 3)
+    ∷ cause 4 idle (Yield 4)
+    ∷ cause 4 idle (Take 3)
+    -- 4 and 27 of a store; 4 and 5
+    ∷ cause 4 idle (Store 1 3)
+    ∷ storing 4 idle 1 3 (counting 3 80)
+    -- 5 store bytes not width in count; 5 and 20; 5 and 27
+    ∷ storing 5 idle 1 1 []
+    ∷ storing 5 idle 1 1 (counting 3 80)
+    ∷ storing 5 idle 1 1 (counting 5 80)
+    ∷ storing 5 waiting 1 1 (counting 3 80)
+    ∷ storing 5 full 1 1 (counting 5 80)
+    -- 6 advance by 0
+    ∷ cause 6 idle (Advance 1 0)
+    ∷ cause 6 (pieces (core greatest 9 Empty) NoCopy (sharedLine 4 9)) (Advance 1 0)
+    -- 20 load or store must ask, slot not empty
+    ∷ cause 20 waiting (Load 1 1)
+    ∷ cause 20 granted (Load 1 1)
+    ∷ cause 20 (pieces (core 10 9 (asked WantStore 7 NothingHeld)) (sharedCopy 4 9) (sharedLine 4 9)) (Load 1 1)
+    ∷ cause 20 waiting (Store 1 1)
+    ∷ cause 20 granted (Store 1 1)
+    ∷ cause 20 (pieces (core 7 9 (asked WantLoad 7 NothingHeld)) (sharedCopy 4 9) (sharedLine 4 9)) (Store 1 1)
+    -- 21 serve, slot not asked
+    ∷ cause 21 idle (Serve 1)
+    ∷ cause 21 granted (Serve 1)
+    -- 22 receive, slot not answered
+    ∷ cause 22 idle (Receive 1)
+    ∷ cause 22 waiting (Receive 1)
+    -- 23 yield, line not owned or no recall; 23 and 24
+    ∷ cause 23 (pieces (core 7 9 Empty) (dirtyCopy 6 8) (ownedLine 1 NoRecall)) (Yield 1)
+    ∷ cause 23 (pieces (core 7 9 Empty) NoCopy (ownedLine 1 NoRecall)) (Yield 1)
+    ∷ cause 23 idle (Yield 1)
+    -- 24 yield, owner's copy not owned
+    ∷ cause 24 (pieces (core 7 9 Empty) NoCopy (ownedLine 1 Downgrade)) (Yield 1)
+    ∷ cause 24 (pieces (core 7 9 Empty) (sharedCopy 4 9) (ownedLine 1 Flush)) (Yield 1)
+    ∷ cause 24 (pieces (core 7 9 Empty) (dirtyCopy 6 8) (ownedLine 0 Flush)) (Yield 1)
+    -- 25 take, no writeback
+    ∷ cause 25 idle (Take 1)
+    ∷ cause 25 (pieces (core 7 9 Empty) (dirtyCopy 6 8) (ownedLine 1 Flush)) (Take 1)
+    -- 26 evict, no copy
+    ∷ cause 26 idle (Evict 1 1)
+    -- 27 rts + 1 (store to an owned line), lts + by (advance) or asked lts + lease (serve of a load on a shared line) passes 4,294,967,295
+    ∷ cause 27 full (Store 1 1)
+    ∷ cause 27 (pieces (core 7 9 Empty) NoCopy (sharedLine 4 9)) (Advance 1 4294967289)
+    ∷ cause 27 (pieces (core 7 9 (asked WantLoad 4294967286 NothingHeld)) NoCopy (sharedLine 4 greatest)) (Serve 1)
+    ∷ []
+
+-- the cause on a machine with nothing else amiss
+abbrev pub alone : Cause → Refusal
+alone k = record { number = k .number; machine = machine (usual (k .before)) (private unmoved) (shared unmoved); call = k .call; bytes = k .bytes }
+
+-- with 2 as well: the private buffer is a byte short
+abbrev pub withTwo : Cause → Refusal
+withTwo k = record { number = 2; machine = machine (usual (k .before)) (drop 1 (private unmoved)) (shared unmoved); call = k .call; bytes = k .bytes }
+
+-- a state with other cores, or with other lines
+abbrev pub withCores : State → List Core → State
+withCores s ks = record { opening = s .opening; core = ks; cell = s .cell; line = s .line }
+
+abbrev pub withLines : State → List Line → State
+withLines s ls = record { opening = s .opening; core = s .core; cell = s .cell; line = ls }
+
+-- with 1 as well: line 0 has an owner ≥ cores
+abbrev pub misowned : Pieces → State
+misowned p = withLines (usual p) (set (usual p .line) 0 (ownedLine 2 NoRecall))
+
+abbrev pub withOne : Cause → Refusal
+withOne k = record { number = 1; machine = machine (misowned (k .before)) (private unmoved) (shared unmoved); call = k .call; bytes = k .bytes }
+
+-- ---- 1 and 2
+
+-- a fence of core 0, which nothing but 1 and 2 refuses here
+abbrev pub fencing : ℕ → Machine → Refusal
+fencing n m = record { number = n; machine = m; call = Fence 0; bytes = [] }
+
+-- openings with one value outside the limits
+abbrev pub opening : ℕ → ℕ → ℕ → ℕ → Opening
+opening cores lines width lease = record { cores = cores; lines = lines; width = width; lease = lease }
+
+abbrev pub outside : List Opening
+outside =
+    opening 0 1 1 1 ∷ opening 17 1 1 1 ∷ opening 1 0 1 1 ∷ opening 1 65 1 1 ∷ opening 1 1 0 1 ∷ opening 1 1 65 1 ∷ opening 1 1 1 0 ∷ opening 1 1 1 1001 ∷ []
+
+-- 1 "state whose sizes or lease lie outside the limits"
+abbrev pub missized : Opening → Refusal
+missized o = fencing 1 (freshMachine o)
+
+-- 1 ".. or with an owner ≥ cores, or a slot's line ≥ lines"
+abbrev pub unfit : State → Refusal
+unfit s = fencing 1 (machine s (private unmoved) (shared unmoved))
+
+-- 2 "a buffer not of its exact length"
+abbrev pub mislaid : ℕ → State → Bytes → Bytes → Refusal
+mislaid n s p q = fencing n (machine s p q)
+
+abbrev pub machineRows : List Refusal
+machineRows =
+    unfit (misowned idle)
+    ∷ unfit (withCores (usual idle) (set (usual idle .core) 1 (core 7 9 (Asked WantLoad 3 (stamp 7) NothingHeld))))
+    ∷ unfit (withCores (usual idle) (set (usual idle .core) 0 (core 7 9 (Answered GrantShare 3 (stamp 4) (stamp 9)))))
+    ∷ mislaid 2 (usual idle) (drop 1 (private unmoved)) (shared unmoved)
+    ∷ mislaid 2 (usual idle) (9 ∷ private unmoved) (shared unmoved)
+    ∷ mislaid 2 (usual idle) (private unmoved) (drop 1 (shared unmoved))
+    ∷ mislaid 2 (usual idle) (private unmoved) (9 ∷ shared unmoved)
+    ∷ mislaid 2 (usual idle) (shared unmoved) (private unmoved)
+    -- 1 and 2
+    ∷ mislaid 1 (misowned idle) (drop 1 (private unmoved)) (shared unmoved)
+    ∷ mislaid 1 (misowned idle) (private unmoved) (9 ∷ shared unmoved)
+    ∷ map missized outside
+
+-- ---- the theorems
+
+-- each number alone, and each two together
+abbrev pub refusals : List Refusal
+refusals = machineRows ++ map alone causes ++ map withTwo causes ++ map withOne causes
+
+abbrev pub NumbersTheorem : Type 0
+NumbersTheorem = Agree called turnedAway refusals
+
+-- an opening's answer and state
+pub record Opened : Type 0 where
+  pub reply : Reply
+  pub state : State
+
+abbrev pub opens : Opening → Opened
+opens o = record { reply = openReply o; state = opened o }
+
+-- "Fresh, for given sizes and lease: every timestamp 0, slots empty, no copies, manager lines shared, no recall, no writeback"
+abbrev pub fresh : Opening → State
+fresh o = record { opening = o; core = replicate 16 (core 0 0 Empty); cell = replicate 1024 (cell NoCopy); line = replicate 64 (sharedLine 0 0) }
+
+-- openings at the limits, and one between them
+abbrev pub inside : List Opening
+inside = opening 1 1 1 1 ∷ opening 16 64 64 1000 ∷ opening 2 3 4 5 ∷ []
+
+abbrev pub accepted : Opening → Opened
+accepted o = record { reply = done «open»; state = fresh o }
+
+-- "a refused opening, which gets none, the fresh state of 1 core, 1 line, width 1, lease 1"
+abbrev pub refusedWithSeven : Opening → Opened
+refusedWithSeven o = record { reply = refused 7; state = fresh (opening 1 1 1 1) }
+
+-- which openings are accepted, and which are refused; the answer and the state of each
+pub record OpeningsTheorem : Type 0 where
+  pub inside : Agree opens accepted inside
+  pub outside : Agree opens refusedWithSeven outside

@@ -1,0 +1,181 @@
+-- A worked example is a row: a small machine, a call on it, what the call answers and the machine after it, as 01 says them.
+--
+-- The machine has 2 cores, 3 lines and a width of 4, and a row is about core 1 and line 1. The other core, lines and copies hold something of
+-- their own, and so do cores and lines outside the sizes, so that a step which looks or writes elsewhere shows. No two bytes are equal.
+use Prim.Native.Nat.{ℕ, zero, suc}
+use mathlib.Core.Path.{_≡_}
+use mathlib.Core.Bool.{true, false}
+use mathlib.Core.List.{List, [], _∷_, _++_}
+use lib.ListN.{replicate}
+use Rattle.protocol.specs.Stamps.{stamp}
+use Rattle.protocol.specs.Fresh.{freshCore, freshCell, freshLine}
+use Rattle.protocol.specs.Buffers.{Bytes}
+use Rattle.protocol.specs.Machine.{Machine, machine, Pieces}
+use Rattle.protocol.specs.Step.{Reply, Outcome, step}
+use Rattle.protocol.specs.declared.Copy.{Copy}
+use Rattle.protocol.specs.declared.Copy.the-variants.{None as NoCopy, Shared as CopyShared, Owned as CopyOwned}
+use Rattle.protocol.specs.declared.Want.{Want}
+use Rattle.protocol.specs.declared.Want.the-variants.{Load as WantLoad, Store as WantStore}
+use Rattle.protocol.specs.declared.Held.{Held}
+use Rattle.protocol.specs.declared.Held.the-variants.{None as NothingHeld}
+use Rattle.protocol.specs.declared.Grant.{Grant}
+use Rattle.protocol.specs.declared.Grant.the-variants.{Share as GrantShare}
+use Rattle.protocol.specs.declared.Slot.{Slot}
+use Rattle.protocol.specs.declared.Slot.the-variants.{Asked, Answered}
+use Rattle.protocol.specs.declared.Core.{Core}
+use Rattle.protocol.specs.declared.Cell.{Cell}
+use Rattle.protocol.specs.declared.Manager.the-variants.{Shared, Owned}
+use Rattle.protocol.specs.declared.Recall.{Recall}
+use Rattle.protocol.specs.declared.Recall.the-variants.{None as NoRecall, Downgrade, Flush}
+use Rattle.protocol.specs.declared.Writeback.the-variants.{None as NoWriteback, Flight}
+use Rattle.protocol.specs.declared.Line.{Line}
+use Rattle.protocol.specs.declared.State.{State}
+use Rattle.protocol.specs.declared.Call.{Call}
+
+-- ---- parts of a machine
+
+-- a core: lts, sts and slot
+abbrev pub core : ℕ → ℕ → Slot → Core
+core lts sts s = record { clocks = record { lts = stamp lts; sts = stamp sts }; slot = s }
+
+-- its slot: asked for line 1, at an lts; or answered for line 1, with wts and rts
+abbrev pub asked : Want → ℕ → Held → Slot
+asked a lts h = Asked a 1 (stamp lts) h
+
+abbrev pub answered : Grant → ℕ → ℕ → Slot
+answered g wts rts = Answered g 1 (stamp wts) (stamp rts)
+
+-- a copy: shared; owned, not dirty; owned, dirty; each with wts and rts
+abbrev pub sharedCopy : ℕ → ℕ → Copy
+sharedCopy wts rts = CopyShared (stamp wts) (stamp rts)
+
+abbrev pub cleanCopy : ℕ → ℕ → Copy
+cleanCopy wts rts = CopyOwned false (stamp wts) (stamp rts)
+
+abbrev pub dirtyCopy : ℕ → ℕ → Copy
+dirtyCopy wts rts = CopyOwned true (stamp wts) (stamp rts)
+
+-- a manager line without a writeback: shared, with wts and rts; or owned by a core, with a recall
+abbrev pub sharedLine : ℕ → ℕ → Line
+sharedLine wts rts = record { manager = Shared (stamp wts) (stamp rts); recall = NoRecall; writeback = NoWriteback }
+
+abbrev pub ownedLine : ℕ → Recall → Line
+ownedLine c k = record { manager = Owned c; recall = k; writeback = NoWriteback }
+
+-- the same with a recall; with a writeback in flight, with wts and rts
+abbrev pub withRecall : Recall → Line → Line
+withRecall k m = record { manager = m .manager; recall = k; writeback = m .writeback }
+
+abbrev pub withWriteback : ℕ → ℕ → Line → Line
+withWriteback wts rts m = record { manager = m .manager; recall = m .recall; writeback = Flight (stamp wts) (stamp rts) }
+
+-- core 1, its copy of line 1, and the manager's line 1
+abbrev pub pieces : Core → Copy → Line → Pieces
+pieces k x m = record { core = k; copy = x; line = m }
+
+-- ---- the bytes
+
+-- the bytes of line 1 at its four places: core 1's copy, the manager's line, the writeback, the answer to core 1
+pub record Places : Type 0 where
+  pub copy : Bytes
+  pub manager : Bytes
+  pub writeback : Bytes
+  pub answer : Bytes
+
+abbrev pub places : Bytes → Bytes → Bytes → Bytes → Places
+places x m w a = record { copy = x; manager = m; writeback = w; answer = a }
+
+-- n bytes that count from a
+abbrev pub counting : ℕ → ℕ → Bytes
+counting zero a = []
+counting (suc n) a = a ∷ counting n (suc a)
+
+-- what stands at each of them before the call
+abbrev pub copyBytes : Bytes
+copyBytes = counting 4 26
+
+abbrev pub managerBytes : Bytes
+managerBytes = counting 4 44
+
+abbrev pub writebackBytes : Bytes
+writebackBytes = counting 4 56
+
+abbrev pub answerBytes : Bytes
+answerBytes = counting 4 68
+
+abbrev pub unmoved : Places
+unmoved = places copyBytes managerBytes writebackBytes answerBytes
+
+-- the bytes given to a store
+abbrev pub given : Bytes
+given = counting 4 80
+
+-- the private buffer: core 0's copies of the three lines, then core 1's
+abbrev pub private : Places → Bytes
+private b = counting 16 10 ++ b .copy ++ counting 4 30
+
+-- the shared buffer: the three lines, their writebacks, the answers to the two cores
+abbrev pub shared : Places → Bytes
+shared b = counting 4 40 ++ b .manager ++ counting 8 48 ++ b .writeback ++ counting 8 60 ++ b .answer
+
+-- ---- the machine
+
+-- the greatest timestamp
+abbrev pub greatest : ℕ
+greatest = 4294967295
+
+abbrev pub cell : Copy → Cell
+cell x = record { copy = x }
+
+-- the state with this lease and these pieces. Cores 2 and 3 and lines 3 and 4 lie outside the sizes: core 2 has lts at the greatest timestamp, an
+-- answered slot and an owned copy of line 1 at the greatest rts; core 3 asked at the greatest timestamp; core 1 has such a copy of line 3 too;
+-- line 3 has an owner, and line 4 an owner who holds no copy, and a recall
+abbrev pub stateOf : ℕ → Pieces → State
+stateOf lease p =
+    record {
+      opening = record { cores = 2; lines = 3; width = 4; lease = lease };
+      core =
+          core 3 5 (Asked WantStore 0 (stamp 2) NothingHeld) ∷ p .core ∷ core greatest 1 (Answered GrantShare 3 (stamp 1) (stamp 1))
+          ∷ core 1 1 (asked WantLoad greatest NothingHeld) ∷ replicate 12 freshCore;
+      cell =
+          cell (dirtyCopy 6 8) ∷ cell (sharedCopy 1 2) ∷ cell (sharedCopy 2 3) ∷ replicate 61 freshCell
+          ++ cell (sharedCopy 3 4) ∷ cell (p .copy) ∷ cell (cleanCopy 5 9) ∷ cell (dirtyCopy 6 greatest) ∷ replicate 60 freshCell
+          ++ cell NoCopy ∷ cell (dirtyCopy 6 greatest) ∷ replicate 894 freshCell;
+      line =
+          withWriteback 5 7 (ownedLine 0 Downgrade) ∷ p .line ∷ ownedLine 1 NoRecall ∷ ownedLine 2 NoRecall ∷ ownedLine 1 Flush
+          ∷ replicate 59 freshLine;
+    }
+
+abbrev pub machineOf : ℕ → Pieces → Places → Machine
+machineOf lease p b = machine (stateOf lease p) (private b) (shared b)
+
+-- ---- rows
+
+-- a row: the lease and the pieces before the call; the call; its answer, the pieces and the bytes after it
+pub record Row : Type 0 where
+  pub lease : ℕ
+  pub before : Pieces
+  pub call : Call
+  pub reply : Reply
+  pub after : Pieces
+  pub bytes : Places
+
+-- what `step` gives on a row's machine, and what the row says: the answer, the whole state and both buffers
+abbrev pub got : Row → Outcome
+got r = step (machineOf (r .lease) (r .before) unmoved) (r .call) given
+
+abbrev pub told : Row → Outcome
+told r = record { reply = r .reply; machine = machineOf (r .lease) (r .after) (r .bytes) }
+
+-- P holds of each entry of a list
+abbrev pub Each : {A : Type 0} → (A → Type 0) → List A → Type 0
+Each P [] = Unit
+Each P (x ∷ xs) = P x × Each P xs
+
+-- two functions give the same of each entry
+abbrev pub Agree : {A B : Type 0} → (A → B) → (A → B) → List A → Type 0
+Agree {A} f g = Each (λ (x : A). f x ≡ g x)
+
+-- every row of a table holds
+abbrev pub AllHold : List Row → Type 0
+AllHold = Agree got told

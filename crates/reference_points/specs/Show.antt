@@ -1,0 +1,53 @@
+-- What `show` gives, by 01: "the line's bytes as a part of the private buffer if that core holds a copy, else as a part of the shared buffer, the
+-- manager line's place. .. under 1 to 4 it gives the empty part at the start of the shared buffer."
+use Prim.Native.Nat.{ℕ}
+use mathlib.Core.List.{List, [], _∷_}
+use lib.ListN.{drop}
+use Rattle.protocol.specs.Machine.{Machine, machine}
+use Rattle.protocol.specs.Step.{Buffer, inPrivate, inShared, Shown, shown}
+use Rattle.protocol.specs.declared.Copy.{Copy}
+use Rattle.protocol.specs.declared.Copy.the-variants.{None as NoCopy}
+use Rattle.protocol.specs.declared.Slot.the-variants.{Empty}
+use Rattle.reference_points.specs.Rows.{core, sharedCopy, cleanCopy, dirtyCopy, sharedLine, pieces, unmoved, private, shared, Agree}
+use Rattle.reference_points.specs.Numbers.{usual, idle, misowned}
+
+-- a machine, a core and a line, and the part that is shown: its buffer, start and end
+pub record Look : Type 0 where
+  pub machine : Machine
+  pub core : ℕ
+  pub line : ℕ
+  pub part : Shown
+
+abbrev pub look : Machine → ℕ → ℕ → Buffer → ℕ → ℕ → Look
+look m c l b start end = record { machine = m; core = c; line = l; part = record { buffer = b; start = start; end = end } }
+
+-- the machine of the rows, where core 1 has this copy of line 1
+abbrev pub holding : Copy → Machine
+holding x = machine (usual (pieces (core 7 9 Empty) x (sharedLine 4 9))) (private unmoved) (shared unmoved)
+
+abbrev pub looks : List Look
+looks =
+    -- a copy is held: "the copy of core c, line l starts at (c × lines + l) × width"
+    look (holding (sharedCopy 4 9)) 1 1 inPrivate 16 20
+    ∷ look (holding (cleanCopy 4 9)) 1 1 inPrivate 16 20
+    ∷ look (holding (dirtyCopy 4 9)) 1 1 inPrivate 16 20
+    ∷ look (holding NoCopy) 1 0 inPrivate 12 16
+    ∷ look (holding NoCopy) 0 1 inPrivate 4 8
+    -- none is held: "manager line l at l × width"
+    ∷ look (holding NoCopy) 1 1 inShared 4 8
+    -- 3, 4, 2 and 1
+    ∷ look (holding NoCopy) 2 1 inShared 0 0
+    ∷ look (holding NoCopy) 1 3 inShared 0 0
+    ∷ look (machine (usual idle) (drop 1 (private unmoved)) (shared unmoved)) 1 1 inShared 0 0
+    ∷ look (machine (usual idle) (private unmoved) (drop 1 (shared unmoved))) 0 1 inShared 0 0
+    ∷ look (machine (misowned idle) (private unmoved) (shared unmoved)) 0 1 inShared 0 0
+    ∷ []
+
+abbrev pub isShown : Look → Shown
+isShown k = shown (k .machine) (k .core) (k .line)
+
+abbrev pub isTold : Look → Shown
+isTold k = k .part
+
+abbrev pub ShowTheorem : Type 0
+ShowTheorem = Agree isShown isTold looks

@@ -1,0 +1,96 @@
+-- The theorems of specs/Theorems: reading numbers and data leaves no freedom, and what is printed is read back. Assumes nothing.
+use Prim.Native.Nat.{ℕ, _≤_, _<_}
+use mathlib.Core.Path.{_≡_, refl, sym, _∙_, ap, ap₂}
+use mathlib.Core.List.{List}
+use mathlib.Core.Logic.{_⊎_, inl, inr}
+use native.Mathlib.Omega.{arith}
+use lib.ListN.{length, take}
+use Rattle.spelling.specs.One.{One}
+use Rattle.spelling.specs.Decimal.{decimal, IsNumber, NumberOf}
+use Rattle.spelling.specs.Hex.{hex, Spells, IsData}
+use Rattle.spelling.specs.Over.{over, DecodedOf, decoded, noRoom, noData}
+use Rattle.spelling.specs.Theorems.{NumberOneTheorem, DecodedOneTheorem, DecimalRoundTripTheorem, HexPrinted, HexDecoded, HexRoundTripTheorem}
+use Rattle.spelling.specs.declared.Number.{Number}
+use Rattle.spelling.specs.declared.Number.the-variants.{Value, Wrong}
+use Rattle.spelling.specs.declared.Decoded.{Decoded}
+use Rattle.spelling.specs.declared.Decoded.the-variants.{Bytes, NoRoom, Wrong as NoData}
+use Rattle.spelling.proofs.Lists.{le-or-lt}
+use Rattle.spelling.proofs.Decide.{Told, number-told, data-told}
+use Rattle.spelling.proofs.DecimalLaws.{decimal-injective}
+use Rattle.spelling.proofs.HexLaws.{hex-injective}
+use Rattle.spelling.proofs.OverLaws.{over-part}
+
+-- ---- numbers
+
+number-same : (v : List ℕ) (q r : Number) → NumberOf v q → NumberOf v r → q ≡ r
+number-same v (Value n) (Value m) x y = ap Value (decimal-injective n m (omega (arith, x .0)) (omega (arith, y .0)) (sym (x .1) ∙ y .1))
+number-same v (Value n) Wrong x y = absurd (y (n, omega (arith, x .0), x .1))
+number-same v Wrong (Value m) x y = absurd (x (m, omega (arith, y .0), y .1))
+number-same v Wrong Wrong x y = refl
+
+pub number-one-theorem : NumberOneTheorem
+number-one-theorem v = go (number-told v)
+  where
+    go : Told (IsNumber v) → One (NumberOf v)
+    go (inl (n, h, e)) = record { answer = Value n; holds = (omega (arith, h), e); only = λ r x. number-same v r (Value n) x (omega (arith, h), e) }
+    go (inr n) = record { answer = Wrong; holds = n; only = λ r x. number-same v r Wrong x n }
+
+pub decimal-round-trip-theorem : DecimalRoundTripTheorem
+decimal-round-trip-theorem = ((λ n r h x. number-same (decimal n) r (Value n) x (omega (arith, h), refl)), (λ s n x. sym (x .1)))
+
+-- ---- data
+
+spelt-once : (s bs cs : List ℕ) → Spells s bs → Spells s cs → bs ≡ cs
+spelt-once s bs cs p q = hex-injective bs cs (p .bytes) (q .bytes) (sym (p .same) ∙ q .same)
+
+decoded-same : (s old a b : List ℕ) (q r : Decoded) → DecodedOf s old a q → DecodedOf s old b r → (q ≡ r) × (a ≡ b)
+decoded-same s old a b q r x y = by x y
+  where
+    by : {q r : Decoded} → DecodedOf s old a q → DecodedOf s old b r → (q ≡ r) × (a ≡ b)
+    by (decoded bs p l e) (decoded cs o m f) = let u = spelt-once s bs cs p o in (ap (λ (t : List ℕ). Bytes (length t)) u, e ∙ ap (over old 0) u ∙ sym f)
+    by (decoded bs p l e) (noRoom cs o m f) = absurd (omega (arith, ap length (spelt-once s bs cs p o)))
+    by (decoded bs p l e) (noData n f) = absurd (n (bs, p))
+    by (noRoom bs p l e) (decoded cs o m f) = absurd (omega (arith, ap length (spelt-once s bs cs p o)))
+    by (noRoom bs p l e) (noRoom cs o m f) = (refl, e ∙ sym f)
+    by (noRoom bs p l e) (noData n f) = absurd (n (bs, p))
+    by (noData n e) (decoded cs o m f) = absurd (n (cs, o))
+    by (noData n e) (noRoom cs o m f) = absurd (n (cs, o))
+    by (noData n e) (noData m f) = (refl, e ∙ sym f)
+
+decoded-some : (s old : List ℕ) → (x : List ℕ × Decoded) × DecodedOf s old (x .0) (x .1)
+decoded-some s old = go (data-told s)
+  where
+    by : (d : IsData s) → (length (d .0) ≤ length old) ⊎ (length old < length (d .0)) → (x : List ℕ × Decoded) × DecodedOf s old (x .0) (x .1)
+    by (bs, p) (inl l) = ((over old 0 bs, Bytes (length bs)), decoded bs p l refl)
+    by (bs, p) (inr l) = ((old, NoRoom), noRoom bs p (omega (arith, l)) refl)
+
+    go : Told (IsData s) → (x : List ℕ × Decoded) × DecodedOf s old (x .0) (x .1)
+    go (inl d) = by d (le-or-lt (length (d .0)) (length old))
+    go (inr n) = ((old, NoData), noData n refl)
+
+pub decoded-one-theorem : DecodedOneTheorem
+decoded-one-theorem s old =
+    let d = decoded-some s old in
+    record {
+      answer = d .0;
+      holds = d .1;
+      only = λ b x. let e = decoded-same s old (b .0) (d .0 .0) (b .1) (d .0 .1) x (d .1) in ap₂ (λ (l : List ℕ) (r : Decoded). (l, r)) (e .1) (e .0);
+    }
+
+hex-printed : HexPrinted
+hex-printed bs old new r some bytes h x =
+    let e = decoded-same (hex bs) old new (over old 0 bs) r (Bytes (length bs)) x (decoded bs (record { some = some; bytes = bytes; same = refl }) (omega (arith, h)) refl) in
+    (e .0, ap (take (length bs)) (e .1) ∙ over-part old 0 bs (omega (arith, h)))
+
+hex-decoded : HexDecoded
+hex-decoded s old new n x = by refl x
+  where
+    by : {r : Decoded} → r ≡ Bytes n → DecodedOf s old new r → hex (take n new) ≡ s
+    by e (decoded bs p l w) =
+        let m : n ≡ length bs = cc in
+        ap hex (ap₂ (λ (k : ℕ) (x : List ℕ). take k x) m w ∙ over-part old 0 bs (omega (arith, l))) ∙ sym (p .same)
+    by e (noRoom bs p l w) = absurd (let z : _≡_ {A = ℕ} 0 1 = cc in omega arith)
+    by e (noData x w) = absurd (let z : _≡_ {A = ℕ} 0 1 = cc in omega arith)
+
+pub hex-round-trip-theorem : HexRoundTripTheorem
+hex-round-trip-theorem = (hex-printed, hex-decoded)
