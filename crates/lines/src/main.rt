@@ -1,5 +1,6 @@
 // How far a journal reads: the journal of standard input is read, line by line, to its end or to the first line that is refused.
-// One line is printed: how many lines were read, and the number of the refusal if there is one.
+// One line is printed: how many lines were read, and the number of the refusal if there is one. It is an example of a walk with
+// the reader; unlike `steps` it takes a read that fails for the end of the input.
 ghost use mathlib.Core.Path.{_≡_};
 ghost use Rattle.journal.specs.Journal.{goesOn};
 ghost use Rattle.lines.specs.Count.{CountsLines};
