@@ -1,7 +1,7 @@
 # make run [JOURNAL=path]      play a journal (default: examples/sample.journal); standard output is just the listing
 # make build                   prove and build the program target/bin/steps and the library target/staticlib/libhost.a
 # make test                    prove every crate, try the must-fail edits, run the programs and the project's other tests
-# make selftest                the tests of the tests alone (part of make test)
+# make selftest                the tests of the tests alone, after make build (part of make test)
 # make bench                   speed of the engine, the line check and steps (not part of make test)
 # make wrong-programs          try further wrong programs, which the prover must refuse (not part of make test)
 # make memcheck                the C test of the line check under valgrind
@@ -72,8 +72,9 @@ build: need-rt
 test: need-rt need-gcc need-python3 need-cargo
 	@tests/run
 
-selftest: need-gcc need-cargo
+selftest: need-gcc need-python3 need-cargo
 	@tests/selftest
+	@tests/edges/selftest
 
 bench: need-rt need-gcc need-cargo need-valgrind build
 	@tests/bench

@@ -11,7 +11,7 @@ use Rattle.protocol.specs.Machine.{Machine, machine, freshMachine, Pieces}
 use Rattle.protocol.specs.Step.{Reply, refused, done, «open», Outcome, step, openReply, opened}
 use Rattle.protocol.specs.declared.Copy.the-variants.{None as NoCopy}
 use Rattle.protocol.specs.declared.Want.the-variants.{Load as WantLoad, Store as WantStore}
-use Rattle.protocol.specs.declared.Held.the-variants.{None as NothingHeld}
+use Rattle.protocol.specs.declared.Held.the-variants.{None as NothingHeld, Version}
 use Rattle.protocol.specs.declared.Grant.the-variants.{Share as GrantShare, Own as GrantOwn}
 use Rattle.protocol.specs.declared.Slot.the-variants.{Empty, Asked, Answered}
 use Rattle.protocol.specs.declared.Recall.the-variants.{None as NoRecall, Downgrade, Flush}
@@ -21,7 +21,8 @@ use Rattle.protocol.specs.declared.Opening.{Opening}
 use Rattle.protocol.specs.declared.State.{State}
 use Rattle.protocol.specs.declared.Call.{Call}
 use Rattle.protocol.specs.declared.Call.the-variants.{Load, Store, Fence, Evict, Advance, Serve, Receive, Yield, Take}
-use Rattle.reference_points.specs.Rows.{core, asked, answered, sharedCopy, dirtyCopy, sharedLine, ownedLine, pieces, unmoved, counting, given}
+use Rattle.reference_points.specs.Rows.{core, asked, answered, askedElsewhere, answeredElsewhere, sharedCopy, cleanCopy, dirtyCopy, pieces}
+use Rattle.reference_points.specs.Rows.{sharedLine, ownedLine, withWriteback, busy, unmoved, counting, given}
 use Rattle.reference_points.specs.Rows.{private, shared, greatest, cell, stateOf, Agree}
 
 -- the state of the rows, with a lease of 10
@@ -112,9 +113,11 @@ causes =
     ∷ cause 20 waiting (Load 1 1)
     ∷ cause 20 granted (Load 1 1)
     ∷ cause 20 (pieces (core 10 9 (asked WantStore 7 NothingHeld)) (sharedCopy 4 9) (sharedLine 4 9)) (Load 1 1)
+    ∷ cause 20 (pieces (core 7 9 askedElsewhere) NoCopy (busy (ownedLine 1 NoRecall))) (Load 1 1)
     ∷ cause 20 waiting (Store 1 1)
     ∷ cause 20 granted (Store 1 1)
     ∷ cause 20 (pieces (core 7 9 (asked WantLoad 7 NothingHeld)) (sharedCopy 4 9) (sharedLine 4 9)) (Store 1 1)
+    ∷ cause 20 (pieces (core 7 9 answeredElsewhere) (sharedCopy 4 greatest) (busy (ownedLine 1 NoRecall))) (Store 1 1)
     -- 21 serve, slot not asked
     ∷ cause 21 idle (Serve 1)
     ∷ cause 21 granted (Serve 1)
@@ -124,6 +127,8 @@ causes =
     -- 23 yield, line not owned or no recall; 23 and 24
     ∷ cause 23 (pieces (core 7 9 Empty) (dirtyCopy 6 8) (ownedLine 1 NoRecall)) (Yield 1)
     ∷ cause 23 (pieces (core 7 9 Empty) NoCopy (ownedLine 1 NoRecall)) (Yield 1)
+    ∷ cause 23 (pieces (core 7 9 Empty) NoCopy (withWriteback 5 6 (ownedLine 1 NoRecall))) (Yield 1)
+    ∷ cause 23 (pieces (core 7 9 Empty) (dirtyCopy 6 8) (busy (sharedLine 4 9))) (Yield 1)
     ∷ cause 23 idle (Yield 1)
     -- 24 yield, owner's copy not owned
     ∷ cause 24 (pieces (core 7 9 Empty) NoCopy (ownedLine 1 Downgrade)) (Yield 1)
@@ -134,10 +139,14 @@ causes =
     ∷ cause 25 (pieces (core 7 9 Empty) (dirtyCopy 6 8) (ownedLine 1 Flush)) (Take 1)
     -- 26 evict, no copy
     ∷ cause 26 idle (Evict 1 1)
+    ∷ cause 26 (pieces (core 7 9 (answered GrantOwn 4 9)) NoCopy (busy (ownedLine 1 NoRecall))) (Evict 1 1)
     -- 27 rts + 1 (store to an owned line), lts + by (advance) or asked lts + lease (serve of a load on a shared line) passes 4,294,967,295
     ∷ cause 27 full (Store 1 1)
+    ∷ cause 27 (pieces (core 7 9 askedElsewhere) (cleanCopy 6 greatest) (busy (ownedLine 1 NoRecall))) (Store 1 1)
     ∷ cause 27 (pieces (core 7 9 Empty) NoCopy (sharedLine 4 9)) (Advance 1 4294967289)
+    ∷ cause 27 (pieces (core 1 9 askedElsewhere) (sharedCopy 4 9) (sharedLine 4 9)) (Advance 1 greatest)
     ∷ cause 27 (pieces (core 7 9 (asked WantLoad 4294967286 NothingHeld)) NoCopy (sharedLine 4 greatest)) (Serve 1)
+    ∷ cause 27 (pieces (core 7 9 (asked WantLoad greatest (Version (stamp 4)))) (sharedCopy 4 9) (busy (sharedLine 4 9))) (Serve 1)
     ∷ []
 
 -- the cause on a machine with nothing else amiss

@@ -1,4 +1,7 @@
 -- The reference points W1 to W12 of 01, one row each (a point that names two leases has two).
+--
+-- What a point does not name is set so that a step which looks at it or changes it shows: where nothing is asked, the slot is in use for another
+-- line, and the manager's line has a recall and a writeback; a load finds sts later than all the rest.
 use Prim.Native.Nat.{ℕ}
 use mathlib.Core.List.{List, [], _∷_}
 use Rattle.protocol.specs.Stamps.{stamp}
@@ -12,7 +15,7 @@ use Rattle.protocol.specs.declared.Slot.the-variants.{Empty}
 use Rattle.protocol.specs.declared.Recall.the-variants.{None as NoRecall}
 use Rattle.protocol.specs.declared.Line.{Line}
 use Rattle.protocol.specs.declared.Call.the-variants.{Load, Store, Fence, Serve}
-use Rattle.reference_points.specs.Rows.{core, asked, answered, sharedCopy, cleanCopy, dirtyCopy, sharedLine, ownedLine, pieces, places}
+use Rattle.reference_points.specs.Rows.{core, asked, answered, askedElsewhere, sharedCopy, cleanCopy, dirtyCopy, sharedLine, ownedLine, busy, pieces, places}
 use Rattle.reference_points.specs.Rows.{copyBytes, managerBytes, writebackBytes, answerBytes, unmoved, given, Row, AllHold}
 
 -- a store to an owned line, not dirty: lts, sts and rts before it, and its ts
@@ -20,10 +23,10 @@ abbrev pub storeRow : ℕ → ℕ → ℕ → ℕ → Row
 storeRow lts sts rts ts =
     record {
       lease = 10;
-      before = pieces (core lts sts Empty) (cleanCopy 0 rts) (ownedLine 1 NoRecall);
+      before = pieces (core lts sts askedElsewhere) (cleanCopy 0 rts) (busy (ownedLine 1 NoRecall));
       call = Store 1 1;
       reply = commit 1 (stamp ts) (store 1 given);
-      after = pieces (core lts ts Empty) (dirtyCopy ts ts) (ownedLine 1 NoRecall);
+      after = pieces (core lts ts askedElsewhere) (dirtyCopy ts ts) (busy (ownedLine 1 NoRecall));
       bytes = places given managerBytes writebackBytes answerBytes;
     }
 
@@ -32,10 +35,10 @@ abbrev pub loadRow : Line → ℕ → Copy → ℕ → Copy → Row
 loadRow m lts x ts y =
     record {
       lease = 10;
-      before = pieces (core lts 0 Empty) x m;
+      before = pieces (core lts 40 askedElsewhere) x (busy m);
       call = Load 1 1;
       reply = commit 1 (stamp ts) (load 1 copyBytes);
-      after = pieces (core ts 0 Empty) y m;
+      after = pieces (core ts 40 askedElsewhere) y (busy m);
       bytes = unmoved;
     }
 
@@ -44,10 +47,10 @@ abbrev pub askRow : ℕ → Row
 askRow lts =
     record {
       lease = 10;
-      before = pieces (core lts 0 Empty) (sharedCopy 4 9) (sharedLine 4 9);
+      before = pieces (core lts 40 Empty) (sharedCopy 4 9) (busy (sharedLine 4 9));
       call = Load 1 1;
       reply = done ask;
-      after = pieces (core lts 0 (asked WantLoad lts (Version (stamp 4)))) (sharedCopy 4 9) (sharedLine 4 9);
+      after = pieces (core lts 40 (asked WantLoad lts (Version (stamp 4)))) (sharedCopy 4 9) (busy (sharedLine 4 9));
       bytes = unmoved;
     }
 
@@ -80,10 +83,10 @@ abbrev pub fenceRow : ℕ → ℕ → ℕ → Row
 fenceRow lts sts ts =
     record {
       lease = 10;
-      before = pieces (core lts sts Empty) NoCopy (sharedLine 4 9);
+      before = pieces (core lts sts askedElsewhere) (sharedCopy 4 9) (busy (sharedLine 4 9));
       call = Fence 1;
       reply = commit 1 (stamp ts) fence;
-      after = pieces (core ts sts Empty) NoCopy (sharedLine 4 9);
+      after = pieces (core ts sts askedElsewhere) (sharedCopy 4 9) (busy (sharedLine 4 9));
       bytes = unmoved;
     }
 

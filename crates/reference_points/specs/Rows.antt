@@ -17,7 +17,7 @@ use Rattle.protocol.specs.declared.Copy.the-variants.{None as NoCopy, Shared as
 use Rattle.protocol.specs.declared.Want.{Want}
 use Rattle.protocol.specs.declared.Want.the-variants.{Load as WantLoad, Store as WantStore}
 use Rattle.protocol.specs.declared.Held.{Held}
-use Rattle.protocol.specs.declared.Held.the-variants.{None as NothingHeld}
+use Rattle.protocol.specs.declared.Held.the-variants.{None as NothingHeld, Version}
 use Rattle.protocol.specs.declared.Grant.{Grant}
 use Rattle.protocol.specs.declared.Grant.the-variants.{Share as GrantShare}
 use Rattle.protocol.specs.declared.Slot.{Slot}
@@ -45,6 +45,13 @@ asked a lts h = Asked a 1 (stamp lts) h
 abbrev pub answered : Grant → ℕ → ℕ → Slot
 answered g wts rts = Answered g 1 (stamp wts) (stamp rts)
 
+-- a slot in use for another line: line 2 asked for, or answered
+abbrev pub askedElsewhere : Slot
+askedElsewhere = Asked WantLoad 2 (stamp 1) (Version (stamp 2))
+
+abbrev pub answeredElsewhere : Slot
+answeredElsewhere = Answered GrantShare 2 (stamp 2) (stamp 3)
+
 -- a copy: shared; owned, not dirty; owned, dirty; each with wts and rts
 abbrev pub sharedCopy : ℕ → ℕ → Copy
 sharedCopy wts rts = CopyShared (stamp wts) (stamp rts)
@@ -68,6 +75,10 @@ withRecall k m = record { manager = m .manager; recall = k; writeback = m .write
 
 abbrev pub withWriteback : ℕ → ℕ → Line → Line
 withWriteback wts rts m = record { manager = m .manager; recall = m .recall; writeback = Flight (stamp wts) (stamp rts) }
+
+-- the same with both
+abbrev pub busy : Line → Line
+busy m = withRecall Downgrade (withWriteback 5 6 m)
 
 -- core 1, its copy of line 1, and the manager's line 1
 abbrev pub pieces : Core → Copy → Line → Pieces

@@ -3,7 +3,7 @@ use Prim.Native.Nat.{ℕ}
 use mathlib.Core.List.{List, [], _∷_}
 use Rattle.protocol.specs.Stamps.{stamp}
 use Rattle.protocol.specs.Machine.{Pieces}
-use Rattle.protocol.specs.Step.{Done, done, ask, recall, share, renew, own, dropped, evict, advance, yield, taken, commit, load}
+use Rattle.protocol.specs.Step.{Done, done, ask, recall, share, renew, own, dropped, evict, advance, yield, taken, commit, load, store, fence}
 use Rattle.protocol.specs.declared.Copy.{Copy}
 use Rattle.protocol.specs.declared.Copy.the-variants.{None as NoCopy}
 use Rattle.protocol.specs.declared.Want.{Want}
@@ -17,89 +17,165 @@ use Rattle.protocol.specs.declared.Recall.{Recall}
 use Rattle.protocol.specs.declared.Recall.the-variants.{None as NoRecall, Downgrade, Flush}
 use Rattle.protocol.specs.declared.Line.{Line}
 use Rattle.protocol.specs.declared.Call.{Call}
-use Rattle.protocol.specs.declared.Call.the-variants.{Load, Store, Evict, Advance, Serve, Receive, Yield, Take}
-use Rattle.reference_points.specs.Rows.{core, asked, answered, sharedCopy, cleanCopy, dirtyCopy, sharedLine, ownedLine, withRecall, withWriteback, pieces}
-use Rattle.reference_points.specs.Rows.{Places, places, copyBytes, managerBytes, writebackBytes, answerBytes, unmoved, greatest, Row, AllHold}
+use Rattle.protocol.specs.declared.Call.the-variants.{Load, Store, Fence, Evict, Advance, Serve, Receive, Yield, Take}
+use Rattle.reference_points.specs.Rows.{core, asked, answered, askedElsewhere, answeredElsewhere, sharedCopy, cleanCopy, dirtyCopy, pieces}
+use Rattle.reference_points.specs.Rows.{sharedLine, ownedLine, withRecall, withWriteback, busy, greatest, Row, AllHold}
+use Rattle.reference_points.specs.Rows.{Places, places, copyBytes, managerBytes, writebackBytes, answerBytes, unmoved, given}
 
 -- a call that is done: what it answers, the pieces and the bytes after it
 abbrev pub doing : Pieces → Call → Done → Pieces → Places → Row
 doing p call d q b = record { lease = 10; before = p; call = call; reply = done d; after = q; bytes = b }
 
--- ---- load, store and advance
+-- ---- load, store, fence and advance
 
--- "ask. The slot becomes asked" with "load or store, line, the lts when asked, the wts of the shared copy held, or none"
-abbrev pub asking : Call → Want → Copy → Held → Row
-asking call a x h =
-    doing (pieces (core 12 9 Empty) x (sharedLine 4 9)) call ask (pieces (core 12 9 (asked a 12 h)) x (sharedLine 4 9)) unmoved
+-- "ask. The slot becomes asked" with "load or store, line, the lts when asked, the wts of the shared copy held, or none": the copy and the manager's
+-- line, which stay
+abbrev pub asking : Call → Want → Copy → Held → Line → Row
+asking call a x h m = doing (pieces (core 12 40 Empty) x m) call ask (pieces (core 12 40 (asked a 12 h)) x m) unmoved
 
 abbrev pub askRows : List Row
 askRows =
     -- load: "shared, lts > rts, or none: ask"; store: "owned: .. Else: ask"
-    asking (Load 1 1) WantLoad NoCopy NothingHeld
-    ∷ asking (Load 1 1) WantLoad (sharedCopy 4 11) (Version (stamp 4))
-    ∷ asking (Store 1 1) WantStore NoCopy NothingHeld
-    ∷ asking (Store 1 1) WantStore (sharedCopy 4 20) (Version (stamp 4))
+    asking (Load 1 1) WantLoad NoCopy NothingHeld (sharedLine 4 9)
+    ∷ asking (Load 1 1) WantLoad NoCopy NothingHeld (busy (ownedLine 1 NoRecall))
+    ∷ asking (Load 1 1) WantLoad (sharedCopy 4 11) (Version (stamp 4)) (busy (ownedLine 0 NoRecall))
+    ∷ asking (Store 1 1) WantStore NoCopy NothingHeld (sharedLine 4 9)
+    ∷ asking (Store 1 1) WantStore NoCopy NothingHeld (busy (ownedLine 1 NoRecall))
+    ∷ asking (Store 1 1) WantStore (sharedCopy 4 20) (Version (stamp 4)) (busy (sharedLine 4 20))
+    -- 27 speaks of an owned line
+    ∷ asking (Store 1 1) WantStore (sharedCopy 4 greatest) (Version (stamp 4)) (sharedLine 4 greatest)
     ∷ []
 
--- an owner's load: lts and the copy before it, its ts, and the copy after it
-abbrev pub ownersLoad : ℕ → Copy → ℕ → Copy → Row
-ownersLoad lts x ts y =
+-- a load that commits: the slot and the manager's line, which stay; lts and the copy before it, its ts, and the copy after it. sts is not looked at
+abbrev pub loading : Slot → Line → ℕ → Copy → ℕ → Copy → Row
+loading s m lts x ts y =
     record {
       lease = 10;
-      before = pieces (core lts 9 Empty) x (ownedLine 1 NoRecall);
+      before = pieces (core lts 40 s) x m;
       call = Load 1 1;
       reply = commit 1 (stamp ts) (load 1 copyBytes);
-      after = pieces (core ts 9 Empty) y (ownedLine 1 NoRecall);
+      after = pieces (core ts 40 s) y m;
       bytes = unmoved;
     }
 
 abbrev pub loadRows : List Row
 loadRows =
     -- "owned, dirty: commit at lts; copy's rts becomes max(rts, lts)"
-    ownersLoad 15 (dirtyCopy 11 11) 15 (dirtyCopy 11 15)
+    loading Empty (ownedLine 1 NoRecall) 15 (dirtyCopy 11 11) 15 (dirtyCopy 11 15)
+    ∷ loading answeredElsewhere (busy (ownedLine 1 NoRecall)) 12 (dirtyCopy 11 13) 12 (dirtyCopy 11 13)
+    ∷ loading askedElsewhere (ownedLine 1 Flush) 7 (dirtyCopy 6 greatest) 7 (dirtyCopy 6 greatest)
     -- "owned, not dirty: lts becomes max(lts, wts), commit there; rts becomes max(rts, lts)"
-    ∷ ownersLoad 2 (cleanCopy 3 7) 3 (cleanCopy 3 7)
+    ∷ loading Empty (ownedLine 1 NoRecall) 2 (cleanCopy 3 7) 3 (cleanCopy 3 7)
+    ∷ loading answeredElsewhere (busy (ownedLine 1 NoRecall)) 2 (cleanCopy 8 7) 8 (cleanCopy 8 8)
+    ∷ loading askedElsewhere (ownedLine 1 Flush) greatest (cleanCopy 3 7) greatest (cleanCopy 3 greatest)
+    -- "shared, lts ≤ rts: lts becomes max(lts, wts), commit there"; this line asked for to store to it, or answered
+    ∷ loading Empty (sharedLine 4 9) 7 (sharedCopy 4 9) 7 (sharedCopy 4 9)
+    ∷ loading (asked WantStore 3 (Version (stamp 4))) (busy (ownedLine 0 NoRecall)) 9 (sharedCopy 4 9) 9 (sharedCopy 4 9)
+    ∷ loading (answered GrantOwn 4 20) (ownedLine 1 Flush) 3 (sharedCopy 4 9) 4 (sharedCopy 4 9)
     ∷ []
+
+-- a store that commits: the slot and the manager's line, which stay; lts, sts and the copy before it, and its ts
+abbrev pub storing : Slot → Line → ℕ → ℕ → Copy → ℕ → Row
+storing s m lts sts x ts =
+    record {
+      lease = 10;
+      before = pieces (core lts sts s) x m;
+      call = Store 1 1;
+      reply = commit 1 (stamp ts) (store 1 given);
+      after = pieces (core lts ts s) (dirtyCopy ts ts) m;
+      bytes = places given managerBytes writebackBytes answerBytes;
+    }
+
+abbrev pub storeRows : List Row
+storeRows =
+    -- "owned: ts = max(lts, sts, rts + 1); sts, wts and rts become ts, bytes replaced, dirty; commit at ts"
+    storing Empty (ownedLine 1 NoRecall) 7 9 (dirtyCopy 11 13) 14
+    ∷ storing askedElsewhere (ownedLine 1 Flush) 7 9 (dirtyCopy 6 6) 9
+    ∷ storing answeredElsewhere (busy (ownedLine 1 NoRecall)) 12 9 (cleanCopy 6 8) 12
+    ∷ storing (answered GrantRenew 4 15) (busy (ownedLine 1 NoRecall)) 7 9 (cleanCopy 6 20) 21
+    -- up to the greatest timestamp: rts + 1 reaches it; lts stands there; sts does
+    ∷ storing Empty (ownedLine 1 NoRecall) 7 9 (cleanCopy 6 4294967294) greatest
+    ∷ storing Empty (ownedLine 1 NoRecall) greatest 9 (dirtyCopy 6 8) greatest
+    ∷ storing Empty (ownedLine 1 NoRecall) 7 greatest (dirtyCopy 6 8) greatest
+    ∷ []
+
+-- a fence: the slot, which stays; lts and sts before it, and its ts
+abbrev pub fencing : Slot → ℕ → ℕ → ℕ → Row
+fencing s lts sts ts =
+    record {
+      lease = 10;
+      before = pieces (core lts sts s) (dirtyCopy 6 8) (busy (ownedLine 1 NoRecall));
+      call = Fence 1;
+      reply = commit 1 (stamp ts) fence;
+      after = pieces (core ts sts s) (dirtyCopy 6 8) (busy (ownedLine 1 NoRecall));
+      bytes = unmoved;
+    }
+
+abbrev pub fenceRows : List Row
+fenceRows =
+    -- "lts becomes max(lts, sts); commit there"
+    fencing Empty 9 6 9
+    ∷ fencing (asked WantLoad 1 NothingHeld) 3 6 6
+    ∷ fencing answeredElsewhere 3 greatest greatest
+    ∷ fencing askedElsewhere greatest 6 greatest
+    ∷ []
+
+-- an advance: the slot, which stays; lts and sts before it, by how much, and lts after it
+abbrev pub advancing : Slot → ℕ → ℕ → ℕ → ℕ → Row
+advancing s lts sts by lts′ =
+    doing (pieces (core lts sts s) (dirtyCopy 6 8) (busy (ownedLine 1 NoRecall))) (Advance 1 by) advance
+    (pieces (core lts′ sts s) (dirtyCopy 6 8) (busy (ownedLine 1 NoRecall))) unmoved
 
 abbrev pub advanceRows : List Row
 advanceRows =
     -- "lts grows by that amount. No commit."
-    doing (pieces (core 7 9 Empty) (sharedCopy 4 9) (sharedLine 4 9)) (Advance 1 5) advance (pieces (core 12 9 Empty) (sharedCopy 4 9) (sharedLine 4 9)) unmoved
-    ∷ doing (pieces (core 7 9 Empty) NoCopy (sharedLine 4 9)) (Advance 1 4294967288) advance (pieces (core greatest 9 Empty) NoCopy (sharedLine 4 9)) unmoved
+    advancing Empty 7 9 5 12
+    ∷ advancing (asked WantLoad 1 NothingHeld) 7 40 1 8
+    ∷ advancing answeredElsewhere 7 greatest 5 12
+    -- up to the greatest timestamp
+    ∷ advancing askedElsewhere 7 9 4294967288 greatest
     ∷ []
 
 -- ---- evict
 
--- the copy and the manager's line before it; the line and the bytes after it
-abbrev pub evicting : Copy → Line → Line → Places → Row
-evicting x m m′ b = doing (pieces (core 7 9 Empty) x m) (Evict 1 1) evict (pieces (core 7 9 Empty) NoCopy m′) b
+-- the slot, which stays; the copy and the manager's line before it; the line and the bytes after it
+abbrev pub evicting : Slot → Copy → Line → Line → Places → Row
+evicting s x m m′ b = doing (pieces (core 7 9 s) x m) (Evict 1 1) evict (pieces (core 7 9 s) NoCopy m′) b
+
+-- the copy's bytes as the writeback
+abbrev pub writtenBack : Places
+writtenBack = places copyBytes managerBytes copyBytes answerBytes
 
 abbrev pub evictRows : List Row
 evictRows =
     -- "shared: copy becomes none"
-    evicting (sharedCopy 4 9) (sharedLine 4 9) (sharedLine 4 9) unmoved
-    ∷ evicting (sharedCopy 4 9) (withWriteback 5 6 (ownedLine 0 Flush)) (withWriteback 5 6 (ownedLine 0 Flush)) unmoved
+    evicting Empty (sharedCopy 4 9) (sharedLine 4 9) (sharedLine 4 9) unmoved
+    ∷ evicting (asked WantStore 3 (Version (stamp 4))) (sharedCopy 4 9) (busy (ownedLine 0 NoRecall)) (busy (ownedLine 0 NoRecall)) unmoved
+    ∷ evicting (answered GrantRenew 4 15) (sharedCopy 4 9) (busy (sharedLine 4 15)) (busy (sharedLine 4 15)) unmoved
     -- "Owned: its wts, rts and bytes become the writeback, copy none."
-    ∷ evicting (cleanCopy 3 7) (ownedLine 1 NoRecall) (withWriteback 3 7 (ownedLine 1 NoRecall)) (places copyBytes managerBytes copyBytes answerBytes)
-    ∷ evicting (dirtyCopy 6 8) (ownedLine 1 Flush) (withWriteback 6 8 (ownedLine 1 Flush)) (places copyBytes managerBytes copyBytes answerBytes)
+    ∷ evicting Empty (cleanCopy 3 7) (ownedLine 1 NoRecall) (withWriteback 3 7 (ownedLine 1 NoRecall)) writtenBack
+    ∷ evicting askedElsewhere (dirtyCopy 6 8) (ownedLine 1 Flush) (withWriteback 6 8 (ownedLine 1 Flush)) writtenBack
+    ∷ evicting answeredElsewhere (cleanCopy 3 7) (busy (ownedLine 1 NoRecall)) (withWriteback 3 7 (ownedLine 1 Downgrade)) writtenBack
     ∷ []
 
 -- ---- serve
 
--- "line owned: answer recall; .. Slot stays.": what is asked for, the recall before it and after it
+-- "line owned: answer recall; .. Slot stays.": the slot and the copy, which stay; the manager's line before it and after it
+abbrev pub recallingLine : Slot → Copy → Line → Line → Row
+recallingLine s x m m′ = doing (pieces (core 7 9 s) x m) (Serve 1) recall (pieces (core 7 9 s) x m′) unmoved
+
+-- a line of core 0: what is asked for, the recall before it and after it
 abbrev pub recalling : Want → Recall → Recall → Row
 recalling a k k′ =
-    doing (pieces (core 7 9 (asked a greatest NothingHeld)) NoCopy (ownedLine 0 k)) (Serve 1) recall
-    (pieces (core 7 9 (asked a greatest NothingHeld)) NoCopy (ownedLine 0 k′)) unmoved
+    recallingLine (asked a greatest (Version (stamp 3))) (sharedCopy 3 8) (withWriteback 5 6 (ownedLine 0 k)) (withWriteback 5 6 (ownedLine 0 k′))
 
--- a request for the shared line: the asked lts, what is asked for, the version held; the manager's line; its answer, the slot, the line and the
--- bytes after it
+-- a request for the shared line, by a core with this copy, which stays: the asked lts, what is asked for, the version held; the manager's line; its
+-- answer, the slot, the line and the bytes after it
+abbrev pub servingOver : Copy → ℕ → Want → Held → Line → Done → Slot → Line → Places → Row
+servingOver x lts a h m d s m′ b = doing (pieces (core 7 9 (asked a lts h)) x m) (Serve 1) d (pieces (core 7 9 s) x m′) b
+
 abbrev pub serving : ℕ → Want → Held → Line → Done → Slot → Line → Places → Row
-serving lts a h m d s m′ b = doing (pieces (core 7 9 (asked a lts h)) NoCopy m) (Serve 1) d (pieces (core 7 9 s) NoCopy m′) b
-
--- a line with a recall and a writeback
-abbrev pub busy : Line → Line
-busy m = withRecall Downgrade (withWriteback 5 6 m)
+serving = servingOver (sharedCopy 3 8)
 
 -- the manager's bytes as the answer
 abbrev pub withBytes : Places
@@ -114,6 +190,9 @@ serveRows =
     ∷ recalling WantStore NoRecall Flush
     ∷ recalling WantStore Downgrade Flush
     ∷ recalling WantStore Flush Flush
+    -- the owner's own request
+    ∷ recallingLine (asked WantLoad 5 NothingHeld) NoCopy (ownedLine 1 NoRecall) (ownedLine 1 Downgrade)
+    ∷ recallingLine (asked WantStore 5 NothingHeld) (dirtyCopy 6 8) (ownedLine 1 NoRecall) (ownedLine 1 Flush)
     -- "shared, load: rts becomes max(rts, asked lts + lease). If the asked wts equals the manager's, the slot becomes renew, no bytes move"
     ∷ serving 5 WantLoad (Version (stamp 4)) (sharedLine 4 9) renew (answered GrantRenew 4 15) (sharedLine 4 15) unmoved
     ∷ serving 5 WantLoad (Version (stamp 0)) (sharedLine 0 0) renew (answered GrantRenew 0 15) (sharedLine 0 15) unmoved
@@ -132,13 +211,27 @@ serveRows =
     ∷ serving 5 WantLoad (Version (stamp 4)) (busy (sharedLine 4 9)) renew (answered GrantRenew 4 15) (busy (sharedLine 4 15)) unmoved
     ∷ serving 5 WantLoad NothingHeld (busy (sharedLine 4 9)) share (answered GrantShare 4 15) (busy (sharedLine 4 15)) withBytes
     ∷ serving 5 WantStore NothingHeld (busy (sharedLine 4 9)) own (answered GrantOwn 4 9) (busy (ownedLine 1 NoRecall)) withBytes
+    -- the copy held by now is not looked at: one evicted since it asked; one of the manager's version; an owned one
+    ∷ servingOver NoCopy 5 WantLoad (Version (stamp 4)) (sharedLine 4 9) renew (answered GrantRenew 4 15) (sharedLine 4 15) unmoved
+    ∷ servingOver (sharedCopy 4 9) 5 WantLoad NothingHeld (sharedLine 4 9) share (answered GrantShare 4 15) (sharedLine 4 15) withBytes
+    ∷ servingOver (dirtyCopy 6 8) 5 WantLoad NothingHeld (sharedLine 4 9) share (answered GrantShare 4 15) (sharedLine 4 15) withBytes
+    ∷ servingOver NoCopy 5 WantStore NothingHeld (sharedLine 4 9) own (answered GrantOwn 4 9) (ownedLine 1 NoRecall) withBytes
+    -- up to the greatest timestamp
+    ∷ serving 4294967285 WantLoad (Version (stamp 4)) (sharedLine 4 9) renew (answered GrantRenew 4 greatest) (sharedLine 4 greatest) unmoved
     ∷ []
 
 -- ---- receive
 
--- the slot and the copy before it; its answer, the copy and the bytes after it. "Slot becomes empty."
+-- the manager's line, which stays; the slot and the copy before it; its answer, the copy and the bytes after it. "Slot becomes empty."
+abbrev pub receivingOf : Line → Slot → Copy → Done → Copy → Places → Row
+receivingOf m s x d y b = doing (pieces (core 7 9 s) x m) (Receive 1) d (pieces (core 7 9 Empty) y m) b
+
+-- of a shared line; of one's own
 abbrev pub receiving : Slot → Copy → Done → Copy → Places → Row
-receiving s x d y b = doing (pieces (core 7 9 s) x (sharedLine 4 30)) (Receive 1) d (pieces (core 7 9 Empty) y (sharedLine 4 30)) b
+receiving = receivingOf (busy (sharedLine 4 30))
+
+abbrev pub receivingOwn : Slot → Copy → Done → Copy → Places → Row
+receivingOwn = receivingOf (busy (ownedLine 1 NoRecall))
 
 -- the answer's bytes as the copy
 abbrev pub received : Places
@@ -149,40 +242,45 @@ receiveRows =
     -- "share or own: copy becomes shared or owned with the slot's wts, rts and bytes, not dirty; answer share or own"
     receiving (answered GrantShare 4 15) NoCopy share (sharedCopy 4 15) received
     ∷ receiving (answered GrantShare 4 15) (sharedCopy 2 3) share (sharedCopy 4 15) received
-    ∷ receiving (answered GrantOwn 4 15) NoCopy own (cleanCopy 4 15) received
-    ∷ receiving (answered GrantOwn 4 15) (sharedCopy 4 9) own (cleanCopy 4 15) received
+    ∷ receiving (answered GrantShare 4 15) (dirtyCopy 6 8) share (sharedCopy 4 15) received
+    ∷ receivingOwn (answered GrantOwn 4 15) NoCopy own (cleanCopy 4 15) received
+    ∷ receivingOwn (answered GrantOwn 4 15) (sharedCopy 4 9) own (cleanCopy 4 15) received
+    ∷ receivingOwn (answered GrantOwn 4 greatest) (dirtyCopy 6 8) own (cleanCopy 4 greatest) received
     -- "Renew: a shared copy takes the slot's rts, answer renew"
     ∷ receiving (answered GrantRenew 4 15) (sharedCopy 4 9) renew (sharedCopy 4 15) unmoved
+    ∷ receiving (answered GrantRenew 4 15) (sharedCopy 6 20) renew (sharedCopy 6 15) unmoved
     -- "no copy, or an owned one: no copy changes, answer drop"
     ∷ receiving (answered GrantRenew 4 15) NoCopy dropped NoCopy unmoved
-    ∷ receiving (answered GrantRenew 4 15) (cleanCopy 4 9) dropped (cleanCopy 4 9) unmoved
-    ∷ receiving (answered GrantRenew 4 15) (dirtyCopy 6 8) dropped (dirtyCopy 6 8) unmoved
+    ∷ receivingOwn (answered GrantRenew 4 15) (cleanCopy 4 9) dropped (cleanCopy 4 9) unmoved
+    ∷ receivingOwn (answered GrantRenew 4 15) (dirtyCopy 6 8) dropped (dirtyCopy 6 8) unmoved
     ∷ []
 
 -- ---- yield and take
 
--- "the owner's wts, rts and bytes become the writeback": the recall and the owner's copy before it, and the copy after it
-abbrev pub yielding : Recall → Copy → Copy → Row
-yielding k x y =
-    doing (pieces (core 7 9 Empty) x (ownedLine 1 k)) (Yield 1) yield (pieces (core 7 9 Empty) y (withWriteback 6 8 (ownedLine 1 k)))
-    (places copyBytes managerBytes copyBytes answerBytes)
+-- "the owner's wts, rts and bytes become the writeback": the owner's slot, which stays; the manager's line and the owner's copy before it, and the
+-- copy after it
+abbrev pub yielding : Slot → Line → Copy → Copy → Row
+yielding s m x y = doing (pieces (core 7 9 s) x m) (Yield 1) yield (pieces (core 7 9 s) y (withWriteback 6 8 m)) writtenBack
 
 -- "manager takes the writeback, becomes shared; recall none, writeback none": the manager's line before it
 abbrev pub taking : Line → Row
 taking m =
-    doing (pieces (core 7 9 Empty) (sharedCopy 1 2) (withWriteback 6 8 m)) (Take 1) taken (pieces (core 7 9 Empty) (sharedCopy 1 2) (sharedLine 6 8))
-    (places copyBytes writebackBytes writebackBytes answerBytes)
+    doing (pieces (core 7 9 (answered GrantRenew 4 15)) (sharedCopy 3 8) (withWriteback 6 8 m)) (Take 1) taken
+    (pieces (core 7 9 (answered GrantRenew 4 15)) (sharedCopy 3 8) (sharedLine 6 8)) (places copyBytes writebackBytes writebackBytes answerBytes)
 
 abbrev pub writebackRows : List Row
 writebackRows =
     -- "Downgrade: its copy becomes shared, not dirty. Flush: none."
-    yielding Downgrade (dirtyCopy 6 8) (sharedCopy 6 8)
-    ∷ yielding Downgrade (cleanCopy 6 8) (sharedCopy 6 8)
-    ∷ yielding Flush (dirtyCopy 6 8) NoCopy
-    ∷ yielding Flush (cleanCopy 6 8) NoCopy
+    yielding Empty (ownedLine 1 Downgrade) (dirtyCopy 6 8) (sharedCopy 6 8)
+    ∷ yielding askedElsewhere (ownedLine 1 Downgrade) (cleanCopy 6 8) (sharedCopy 6 8)
+    ∷ yielding answeredElsewhere (ownedLine 1 Flush) (dirtyCopy 6 8) NoCopy
+    ∷ yielding Empty (ownedLine 1 Flush) (cleanCopy 6 8) NoCopy
+    ∷ yielding (answered GrantRenew 4 15) (busy (ownedLine 1 NoRecall)) (dirtyCopy 6 8) (sharedCopy 6 8)
     ∷ taking (ownedLine 0 NoRecall)
     ∷ taking (ownedLine 1 Downgrade)
     ∷ taking (ownedLine 1 Flush)
+    ∷ taking (sharedLine 9 30)
+    ∷ taking (withRecall Flush (sharedLine 4 5))
     ∷ []
 
 -- ---- the theorem
@@ -191,6 +289,8 @@ writebackRows =
 pub record StepsTheorem : Type 0 where
   pub ask : AllHold askRows
   pub load : AllHold loadRows
+  pub store : AllHold storeRows
+  pub fence : AllHold fenceRows
   pub advance : AllHold advanceRows
   pub evict : AllHold evictRows
   pub serve : AllHold serveRows

@@ -81,6 +81,9 @@ faults! {
     TakeKeepsRecall "take-keeps-recall" "a take keeps the recall"
     LoadWeakensFlush "load-weakens-flush" "serving a load turns a standing flush into a downgrade"
     StoreLeavesDowngrade "store-leaves-downgrade" "serving a store leaves a standing downgrade"
+    StoreClearsRecall "store-clears-recall" "an owner's store clears the recall"
+    LoadClearsRecall "load-clears-recall" "an owner's load clears the recall"
+    ReceiveClearsRecall "receive-clears-recall" "the receive of an owned line clears the recall"
     StretchAtDowngrade "stretch-at-downgrade" "a downgrade also stretches the former owner's lease, as in Figure 1 of 002"
     AskOverAnswer "ask-over-answer" "20 is left out where the slot has an answer, which a new request then overwrites"
     RenewalLeavesRts "renewal-leaves-rts" "a renewal leaves the copy's rts"
@@ -258,6 +261,18 @@ impl Faulty {
             Fault::TakeKeepsRecall => self.take_keeps_recall(step, before, answer),
             Fault::LoadWeakensFlush => self.load_weakens_flush(step, before, answer),
             Fault::StoreLeavesDowngrade => self.store_leaves_downgrade(step, before, answer),
+            Fault::StoreClearsRecall => self.clears_recall(
+                matches!(answer, Answer::Commit(Commit::Store { .. })),
+                step.line(),
+                answer,
+            ),
+            Fault::LoadClearsRecall => {
+                self.clears_recall(matches!(answer, Answer::Commit(Commit::Load { .. })), step.line(), answer)
+            }
+            Fault::ReceiveClearsRecall => {
+                let line = Self::received(step, before).map(|(_, line)| line);
+                self.clears_recall(answer == Answer::Own, line, answer)
+            }
             Fault::StretchAtDowngrade => self.stretch_at_downgrade(step, answer),
             Fault::AskOverAnswer => self.ask_over_answer(step, before, answer),
             Fault::RenewalLeavesRts => self.renewal_leaves_rts(step, before, answer),
@@ -577,6 +592,14 @@ impl Faulty {
             if standing == Recall::Downgrade {
                 self.machine.state.lines[line as usize].recall = standing;
             }
+        }
+        answer
+    }
+
+    /// The step ends the recall of its line, if it has one.
+    fn clears_recall(&mut self, clears: bool, line: Option<u32>, answer: Answer) -> Answer {
+        if let (true, Some(line)) = (clears, line) {
+            self.machine.state.lines[line as usize].recall = Recall::None;
         }
         answer
     }
