@@ -6,6 +6,7 @@
 use engine::Done;
 use libc::STDERR_FILENO;
 use libc::STDOUT_FILENO;
+use protocol::Call;
 use protocol::Opening;
 use spelling::Number;
 
@@ -22,6 +23,35 @@ fn below(x: u64, n: usize) -> usize {
         return 0;
     }
     x as usize % n
+}
+
+// The call of a kind below 20.
+fn call_of(kind: u64, core: usize, line: usize) -> Call {
+    if kind < 5 {
+        return Call::Load { core, line };
+    }
+    if kind < 9 {
+        return Call::Store { core, line };
+    }
+    if kind < 12 {
+        return Call::Serve { core };
+    }
+    if kind < 15 {
+        return Call::Receive { core };
+    }
+    if kind < 16 {
+        return Call::Evict { core, line };
+    }
+    if kind < 17 {
+        return Call::Yield { line };
+    }
+    if kind < 18 {
+        return Call::Take { line };
+    }
+    if kind < 19 {
+        return Call::Fence { core };
+    }
+    Call::Advance { core, by: 1 }
 }
 
 // Makes `count` calls on a fresh engine: 25 in 100 loads, 20 stores, 15 serves, 15 receives, and 5
@@ -49,39 +79,7 @@ fn calls(count: u64, opening: Opening, private: &mut [u8], shared: &mut [u8], gi
         let kind = (x % 4294967296) % 20;
         let core = below(x >> 32, cores);
         let line = below(x >> 40, lines);
-        if kind < 5 {
-            d = engine::load(d.state, private, shared, core, line);
-            continue;
-        }
-        if kind < 9 {
-            d = engine::store(d.state, private, shared, core, line, given);
-            continue;
-        }
-        if kind < 12 {
-            d = engine::serve(d.state, private, shared, core);
-            continue;
-        }
-        if kind < 15 {
-            d = engine::receive(d.state, private, shared, core);
-            continue;
-        }
-        if kind < 16 {
-            d = engine::evict(d.state, private, shared, core, line);
-            continue;
-        }
-        if kind < 17 {
-            d = engine::yield_line(d.state, private, shared, line);
-            continue;
-        }
-        if kind < 18 {
-            d = engine::take(d.state, private, shared, line);
-            continue;
-        }
-        if kind < 19 {
-            d = engine::fence(d.state, private, shared, core);
-            continue;
-        }
-        d = engine::advance(d.state, private, shared, core, 1);
+        d = engine::step(d.state, private, shared, call_of(kind, core, line), given);
     }
     let a = d.answer;
     std::num::wrapping_add_u64(refused, answers::refusals_of(a))
