@@ -1,4 +1,5 @@
 -- The step tables of 01, row by row: beside the reference points, what each step does to the core, its copy, the manager's line and the bytes.
+-- What it leaves shows where there is something to leave: a slot in use, a copy held, a recall and a writeback. So does a number that comes early.
 use Prim.Native.Nat.{ℕ}
 use mathlib.Core.List.{List, [], _∷_}
 use Rattle.protocol.specs.Stamps.{stamp}
