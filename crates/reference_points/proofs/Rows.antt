@@ -11,7 +11,8 @@ use Rattle.protocol.specs.Tables.{receiveRenew, receiveGrant, receiveTable, yie
 use Rattle.protocol.specs.Step.{meaning, accepted, step, shown}
 use Rattle.reference_points.specs.Rows.{got, told}
 use Rattle.reference_points.specs.Points.{points, PointsTheorem}
-use Rattle.reference_points.specs.Steps.{askRows, loadRows, storeRows, fenceRows, advanceRows, evictRows, serveRows, receiveRows, writebackRows, StepsTheorem}
+use Rattle.reference_points.specs.Steps.{alsoAt, askRows, loadRows, storeRows, fenceRows, advanceRows, evictRows, serveRows}
+use Rattle.reference_points.specs.Steps.{receiveRows, writebackRows, StepsTheorem}
 use Rattle.reference_points.specs.Numbers.{called, turnedAway, refusals, NumbersTheorem, opens, accepted as isAccepted, refusedWithSeven}
 use Rattle.reference_points.specs.Numbers.{inside, outside, OpeningsTheorem}
 use Rattle.reference_points.specs.Show.{isShown, isTold, looks, ShowTheorem}
@@ -45,15 +46,15 @@ pub steps-theorem : StepsTheorem
 unfolding calling
 steps-theorem =
     record {
-      ask = agree got told askRows refl;
+      ask = agree got told (alsoAt 12 9 askRows) refl;
       load = agree got told loadRows refl;
       store = agree got told storeRows refl;
       fence = agree got told fenceRows refl;
       advance = agree got told advanceRows refl;
-      evict = agree got told evictRows refl;
-      serve = agree got told serveRows refl;
-      receive = agree got told receiveRows refl;
-      writeback = agree got told writebackRows refl;
+      evict = agree got told (alsoAt 9 7 evictRows) refl;
+      serve = agree got told (alsoAt 9 7 serveRows) refl;
+      receive = agree got told (alsoAt 9 7 receiveRows) refl;
+      writeback = agree got told (alsoAt 9 7 writebackRows) refl;
     }
 
 pub numbers-theorem : NumbersTheorem

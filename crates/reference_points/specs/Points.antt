@@ -15,8 +15,8 @@ use Rattle.protocol.specs.declared.Slot.the-variants.{Empty}
 use Rattle.protocol.specs.declared.Recall.the-variants.{None as NoRecall}
 use Rattle.protocol.specs.declared.Line.{Line}
 use Rattle.protocol.specs.declared.Call.the-variants.{Load, Store, Fence, Serve}
-use Rattle.reference_points.specs.Rows.{core, asked, answered, askedElsewhere, sharedCopy, cleanCopy, dirtyCopy, sharedLine, ownedLine, busy, pieces, places}
-use Rattle.reference_points.specs.Rows.{copyBytes, managerBytes, writebackBytes, answerBytes, unmoved, given, Row, AllHold}
+use Rattle.reference_points.specs.Rows.{core, asked, answered, askedElsewhere, sharedCopy, cleanCopy, dirtyCopy, sharedLine, ownedLine, pieces}
+use Rattle.reference_points.specs.Rows.{busy, places, copyBytes, managerBytes, writebackBytes, answerBytes, unmoved, given, Row, AllHold}
 
 -- a store to an owned line, not dirty: lts, sts and rts before it, and its ts
 abbrev pub storeRow : ℕ → ℕ → ℕ → ℕ → Row

@@ -1,6 +1,7 @@
 -- The step tables of 01, row by row: beside the reference points, what each step does to the core, its copy, the manager's line and the bytes.
+-- What it leaves shows where there is something to leave: a slot in use, a copy held, a recall and a writeback. So does a number that comes early.
 use Prim.Native.Nat.{ℕ}
-use mathlib.Core.List.{List, [], _∷_}
+use mathlib.Core.List.{List, [], _∷_, _++_, map}
 use Rattle.protocol.specs.Stamps.{stamp}
 use Rattle.protocol.specs.Machine.{Pieces}
 use Rattle.protocol.specs.Step.{Done, done, ask, recall, share, renew, own, dropped, evict, advance, yield, taken, commit, load, store, fence}
@@ -26,6 +27,24 @@ use Rattle.reference_points.specs.Rows.{Places, places, copyBytes, manag
 abbrev pub doing : Pieces → Call → Done → Pieces → Places → Row
 doing p call d q b = record { lease = 10; before = p; call = call; reply = done d; after = q; bytes = b }
 
+-- rows of a step that leaves the clocks, as they stand and with other clocks
+abbrev pub withClocks : ℕ → ℕ → Pieces → Pieces
+withClocks lts sts p = pieces (core lts sts (p .core .slot)) (p .copy) (p .line)
+
+abbrev pub atClocks : ℕ → ℕ → Row → Row
+atClocks lts sts r =
+    record {
+      lease = r .lease;
+      before = withClocks lts sts (r .before);
+      call = r .call;
+      reply = r .reply;
+      after = withClocks lts sts (r .after);
+      bytes = r .bytes;
+    }
+
+abbrev pub alsoAt : ℕ → ℕ → List Row → List Row
+alsoAt lts sts rs = rs ++ map (atClocks lts sts) rs
+
 -- ---- load, store, fence and advance
 
 -- "ask. The slot becomes asked" with "load or store, line, the lts when asked, the wts of the shared copy held, or none": the copy and the manager's
@@ -46,15 +65,15 @@ askRows =
     ∷ asking (Store 1 1) WantStore (sharedCopy 4 greatest) (Version (stamp 4)) (sharedLine 4 greatest)
     ∷ []
 
--- a load that commits: the slot and the manager's line, which stay; lts and the copy before it, its ts, and the copy after it. sts is not looked at
+-- a load that commits: the slot and the manager's line, which stay; lts and the copy before it, its ts, and the copy after it
 abbrev pub loading : Slot → Line → ℕ → Copy → ℕ → Copy → Row
 loading s m lts x ts y =
     record {
       lease = 10;
-      before = pieces (core lts 40 s) x m;
+      before = pieces (core lts 1 s) x m;
       call = Load 1 1;
       reply = commit 1 (stamp ts) (load 1 copyBytes);
-      after = pieces (core ts 40 s) y m;
+      after = pieces (core ts 1 s) y m;
       bytes = unmoved;
     }
 
@@ -285,14 +304,14 @@ writebackRows =
 
 -- ---- the theorem
 
--- every row of every table holds
+-- every row of every table holds; where the clocks stay, with either of them the later one
 pub record StepsTheorem : Type 0 where
-  pub ask : AllHold askRows
+  pub ask : AllHold (alsoAt 12 9 askRows)
   pub load : AllHold loadRows
   pub store : AllHold storeRows
   pub fence : AllHold fenceRows
   pub advance : AllHold advanceRows
-  pub evict : AllHold evictRows
-  pub serve : AllHold serveRows
-  pub receive : AllHold receiveRows
-  pub writeback : AllHold writebackRows
+  pub evict : AllHold (alsoAt 9 7 evictRows)
+  pub serve : AllHold (alsoAt 9 7 serveRows)
+  pub receive : AllHold (alsoAt 9 7 receiveRows)
+  pub writeback : AllHold (alsoAt 9 7 writebackRows)
