@@ -1,7 +1,9 @@
 -- By the copy, its lease and whether it is dirty: the row, asked, or 20.
-use mathlib.Core.Path.{refl, sym, _∙_}
+use mathlib.Core.Path.{_≡_, refl, sym, _∙_}
+use mathlib.Core.Bool.{true}
 use borrow.Author.Needs.{needs}
 use Rattle.protocol.specs.Pick.{fails, first}
+use Rattle.protocol.specs.Stamps.{atMost}
 use Rattle.protocol.specs.Refusals.{isEmpty, stateRules, stateRefusal}
 use Rattle.protocol.specs.Tables.{loadTable, loadOwned, tableOf, effectOf}
 use Rattle.protocol.proofs.Stamps.{not-earlier, then-earlier}
@@ -17,8 +19,9 @@ returns-2 : tie.Need-returns-2
 unfolding effectOf tableOf loadTable stateRefusal stateRules first
 returns-2 c o =
     let b = c .before .before .before in
-    let t = sym (b .at-most .ensures) ∙ c .before .before .if1 .taken in
-    rw (b .before .before .copy .given .1, t, not-earlier _ _ t, c .before .load .ensures)
+    let x = b .before .before in
+    let t : atMost (x .before .before .before .args .core .clocks .lts) (x .copy .given .0 .1 .0) ≡ true = sym (b .at-most .ensures) ∙ c .before .before .if1 .taken in
+    rw (x .copy .given .1, t, not-earlier _ _ t, c .before .load .ensures)
 
 returns-3 : tie.Need-returns-3
 unfolding effectOf tableOf loadTable stateRefusal stateRules first

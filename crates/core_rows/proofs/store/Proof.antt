@@ -21,7 +21,8 @@ returns-3 : tie.Need-returns-3
 unfolding effectOf stateRefusal stateRules first
 returns-3 c o =
     let b = c .before .before .before in
-    rw (c .refused .ensures, b .before .before .copy .given .1, sum-passes _ 1 (sym (b .after .ensures) ∙ c .before .enum-told3 .given .1))
+    let x = b .before .before in
+    rw (c .refused .ensures, x .copy .given .1, sum-passes (x .copy .given .0 .1 .1 .0) 1 (sym (b .after .ensures) ∙ c .before .enum-told3 .given .1))
 
 returns-4 : tie.Need-returns-4
 unfolding effectOf tableOf storeTable stateRefusal stateRules first
