@@ -5,3 +5,4 @@ pub mod Lines
 pub mod Sample
 pub mod Decides
 pub mod Logs
+pub mod Chain

@@ -7,3 +7,4 @@ pub mod Show
 pub mod Lines
 pub mod Sample
 pub mod Logs
+pub mod Chain
