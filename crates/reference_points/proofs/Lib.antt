@@ -2,6 +2,7 @@
 pub mod Each
 pub mod Rows
 pub mod Lines
+pub mod Records
 pub mod Sample
 pub mod Decides
 pub mod Logs

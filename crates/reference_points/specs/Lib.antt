@@ -5,5 +5,6 @@ pub mod Steps
 pub mod Numbers
 pub mod Show
 pub mod Lines
+pub mod Records
 pub mod Sample
 pub mod Logs
