@@ -6,5 +6,6 @@ pub mod Numbers
 pub mod Show
 pub mod Lines
 pub mod Records
+pub mod Commits
 pub mod Sample
 pub mod Logs
