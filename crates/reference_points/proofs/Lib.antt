@@ -2,6 +2,8 @@
 pub mod Each
 pub mod Rows
 pub mod Lines
+pub mod Records
+pub mod Commits
 pub mod Sample
 pub mod Decides
 pub mod Logs

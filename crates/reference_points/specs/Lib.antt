@@ -5,6 +5,8 @@ pub mod Steps
 pub mod Numbers
 pub mod Show
 pub mod Lines
+pub mod Records
+pub mod Commits
 pub mod Sample
 pub mod Logs
 pub mod Chain

@@ -1,4 +1,4 @@
--- Which call each line of the journal's grammar says, and lines that are refused with 10 or 11 (01, "Journal and driver").
+-- Which call each line of the journal's grammar says, and lines that are refused with 10 to 13 (01, "Journal and driver").
 use Prim.Native.Nat.{ℕ}
 use mathlib.Core.List.{List, [], _∷_}
 use lib.ListN.{replicate}
@@ -67,7 +67,35 @@ formless =
 abbrev pub overlong : Written
 overlong = written 1 (replicate 201 97)
 
+-- "12 number without digits, with another byte, with a leading zero (0 itself is fine) or above 4,294,967,295"; it goes before 13
+abbrev pub misnumbered : List Written
+misnumbered =
+    written 1 (text "op=load core= line=0")
+    ∷ written 1 (text "op=load core=1x line=0")
+    ∷ written 1 (text "op=load core=x1 line=0")
+    ∷ written 1 (text "op=load core=01 line=0")
+    ∷ written 1 (text "op=load core=0 line=00")
+    ∷ written 1 (text "op=load core=4294967296 line=0")
+    ∷ written 1 (text "op=advance core=0 by=10000000000")
+    ∷ written 1 (text "op=store core=0 line=f data=0A")
+    ∷ written 0 (text "fabric=1 cores=2 lines=3 width=4 lease=")
+    ∷ []
+
+-- "13 data empty, odd in count, or not 0-9 a-f"
+abbrev pub misspelt : List Written
+misspelt =
+    written 1 (text "op=store core=3 line=4 data=")
+    ∷ written 1 (text "op=store core=3 line=4 data=0")
+    ∷ written 1 (text "op=store core=3 line=4 data=000")
+    ∷ written 1 (text "op=store core=3 line=4 data=0A")
+    ∷ written 1 (text "op=store core=3 line=4 data=g0")
+    ∷ written 1 (text "op=store core=3 line=4 data=0g")
+    ∷ written 1 (text "op=store core=3 line=4 data=0/")
+    ∷ []
+
 pub record LinesTheorem : Type 0 where
   pub read : Each (λ (k : Spoken). Says (k .line) (k .says)) readLines
   pub formless : Each (λ (w : Written). Says w (Refused 11)) formless
   pub overlong : Says overlong (Refused 10)
+  pub misnumbered : Each (λ (w : Written). Says w (Refused 12)) misnumbered
+  pub misspelt : Each (λ (w : Written). Says w (Refused 13)) misspelt

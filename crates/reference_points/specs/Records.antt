@@ -1,0 +1,67 @@
+-- The lines that the program prints, byte for byte (01, "Journal and driver").
+use Prim.Native.Nat.{ℕ}
+use mathlib.Core.Path.{_≡_}
+use mathlib.Core.List.{List, [], _∷_, _++_}
+use Rattle.protocol.specs.Stamps.{stamp}
+use Rattle.protocol.specs.Buffers.{Bytes}
+use Rattle.protocol.specs.Step.{«open», ask, recall, share, renew, own, dropped, evict, advance, yield, taken, load, store, fence, Reply, refused, done, commit}
+use Rattle.protocol.specs.Run.{place}
+use Rattle.spelling.specs.Text.{text}
+use Rattle.listing.specs.Record.{recordText, endText}
+use Rattle.driver.specs.Listing.{Counts, ended, stopped, lastLines, notOpened}
+use Rattle.reference_points.specs.Rows.{Agree}
+
+-- the record of a call: its place, its answer, the line printed for it
+pub record Printed : Type 0 where
+  pub place : ℕ
+  pub reply : Reply
+  pub line : Bytes
+
+abbrev pub printed : ℕ → Reply → Bytes → Printed
+printed n r s = record { place = n; reply = r; line = s }
+
+-- what the definition gives for it, and what 01 prints
+abbrev pub recorded : Printed → Bytes
+recorded k = recordText (place (k .place)) (k .reply)
+
+abbrev pub lineOf : Printed → Bytes
+lineOf k = k .line
+
+-- "n is the place; done is open, ask, recall, share, renew, own, drop, evict, advance, yield or take; a fence prints core and ts"
+abbrev pub records : List Printed
+records =
+    printed 7 (commit 3 (stamp 45) (load 6 (171 ∷ 205 ∷ []))) (text "n=7 commit=load core=3 line=6 ts=45 data=abcd\n")
+    ∷ printed 7 (commit 3 (stamp 45) (store 6 (171 ∷ 205 ∷ []))) (text "n=7 commit=store core=3 line=6 ts=45 data=abcd\n")
+    ∷ printed 4294967295 (commit 15 (stamp 4294967295) (load 63 (1 ∷ 35 ∷ 69 ∷ 103 ∷ 137 ∷ 171 ∷ 205 ∷ 239 ∷ [])))
+    (text "n=4294967295 commit=load core=15 line=63 ts=4294967295 data=0123456789abcdef\n")
+    ∷ printed 10 (commit 0 (stamp 0) (store 0 (0 ∷ 16 ∷ 255 ∷ []))) (text "n=10 commit=store core=0 line=0 ts=0 data=0010ff\n")
+    ∷ printed 8 (commit 3 (stamp 45) fence) (text "n=8 commit=fence core=3 ts=45\n")
+    ∷ printed 0 (done «open») (text "n=0 done=open\n")
+    ∷ printed 1 (done ask) (text "n=1 done=ask\n")
+    ∷ printed 2 (done recall) (text "n=2 done=recall\n")
+    ∷ printed 3 (done share) (text "n=3 done=share\n")
+    ∷ printed 4 (done renew) (text "n=4 done=renew\n")
+    ∷ printed 5 (done own) (text "n=5 done=own\n")
+    ∷ printed 6 (done dropped) (text "n=6 done=drop\n")
+    ∷ printed 7 (done evict) (text "n=7 done=evict\n")
+    ∷ printed 8 (done advance) (text "n=8 done=advance\n")
+    ∷ printed 9 (done yield) (text "n=9 done=yield\n")
+    ∷ printed 10 (done taken) (text "n=10 done=take\n")
+    ∷ printed 9 (refused 27) (text "n=9 refused=27\n")
+    ∷ []
+
+-- 12 steps were met, of which 3 committed and 4 were refused
+abbrev pub met : Counts
+met = record { steps = 12; commits = 3; refusals = 4 }
+
+pub record RecordsTheorem : Type 0 where
+  -- a text is its bytes in ASCII, and `\n` is the newline, 10
+  pub bytes : text "n=0 az\n" ≡ 110 ∷ 61 ∷ 48 ∷ 32 ∷ 97 ∷ 122 ∷ 10 ∷ []
+  pub records : Agree recorded lineOf records
+  -- "The end line counts step lines met, the one that ends the run too, commits, and `refused=` lines above it."
+  pub end : endText 12 3 4 ≡ text "end=12 commits=3 refused=4\n"
+  pub ended : lastLines met ended ≡ text "end=12 commits=3 refused=4\n"
+  -- "Numbers 7 and 10 to 14 end the run, after `refused=` and the end line"
+  pub stopped : lastLines met (stopped 11) ≡ text "n=13 refused=11\n" ++ text "end=13 commits=3 refused=5\n"
+  -- "(a bad opening or 14: n=0, end=0; empty input: 11)"
+  pub notOpened : notOpened 7 ≡ text "n=0 refused=7\n" ++ text "end=0 commits=0 refused=1\n"
