@@ -55,14 +55,14 @@ asking call a x h m = doing (pieces (core 12 40 Empty) x m) call ask (pieces (co
 abbrev pub askRows : List Row
 askRows =
     -- load: "shared, lts > rts, or none: ask"; store: "owned: .. Else: ask"
-    asking (Load 1 1) WantLoad NoCopy NothingHeld (sharedLine 4 9)
-    ∷ asking (Load 1 1) WantLoad NoCopy NothingHeld (busy (ownedLine 1 NoRecall))
-    ∷ asking (Load 1 1) WantLoad (sharedCopy 4 11) (Version (stamp 4)) (busy (ownedLine 0 NoRecall))
-    ∷ asking (Store 1 1) WantStore NoCopy NothingHeld (sharedLine 4 9)
-    ∷ asking (Store 1 1) WantStore NoCopy NothingHeld (busy (ownedLine 1 NoRecall))
-    ∷ asking (Store 1 1) WantStore (sharedCopy 4 20) (Version (stamp 4)) (busy (sharedLine 4 20))
+    asking (Load 1 2) WantLoad NoCopy NothingHeld (sharedLine 4 9)
+    ∷ asking (Load 1 2) WantLoad NoCopy NothingHeld (busy (ownedLine 1 NoRecall))
+    ∷ asking (Load 1 2) WantLoad (sharedCopy 4 11) (Version (stamp 4)) (busy (ownedLine 0 NoRecall))
+    ∷ asking (Store 1 2) WantStore NoCopy NothingHeld (sharedLine 4 9)
+    ∷ asking (Store 1 2) WantStore NoCopy NothingHeld (busy (ownedLine 1 NoRecall))
+    ∷ asking (Store 1 2) WantStore (sharedCopy 4 20) (Version (stamp 4)) (busy (sharedLine 4 20))
     -- 27 speaks of an owned line
-    ∷ asking (Store 1 1) WantStore (sharedCopy 4 greatest) (Version (stamp 4)) (sharedLine 4 greatest)
+    ∷ asking (Store 1 2) WantStore (sharedCopy 4 greatest) (Version (stamp 4)) (sharedLine 4 greatest)
     ∷ []
 
 -- a load that commits: the slot and the manager's line, which stay; lts and the copy before it, its ts, and the copy after it
@@ -71,8 +71,8 @@ loading s m lts x ts y =
     record {
       lease = 10;
       before = pieces (core lts 1 s) x m;
-      call = Load 1 1;
-      reply = commit 1 (stamp ts) (load 1 copyBytes);
+      call = Load 1 2;
+      reply = commit 1 (stamp ts) (load 2 copyBytes);
       after = pieces (core ts 1 s) y m;
       bytes = unmoved;
     }
@@ -99,8 +99,8 @@ storing s m lts sts x ts =
     record {
       lease = 10;
       before = pieces (core lts sts s) x m;
-      call = Store 1 1;
-      reply = commit 1 (stamp ts) (store 1 given);
+      call = Store 1 2;
+      reply = commit 1 (stamp ts) (store 2 given);
       after = pieces (core lts ts s) (dirtyCopy ts ts) m;
       bytes = places given managerBytes writebackBytes answerBytes;
     }
@@ -159,7 +159,7 @@ advanceRows =
 
 -- the slot, which stays; the copy and the manager's line before it; the line and the bytes after it
 abbrev pub evicting : Slot → Copy → Line → Line → Places → Row
-evicting s x m m′ b = doing (pieces (core 7 9 s) x m) (Evict 1 1) evict (pieces (core 7 9 s) NoCopy m′) b
+evicting s x m m′ b = doing (pieces (core 7 9 s) x m) (Evict 1 2) evict (pieces (core 7 9 s) NoCopy m′) b
 
 -- the copy's bytes as the writeback
 abbrev pub writtenBack : Places
@@ -279,12 +279,12 @@ receiveRows =
 -- "the owner's wts, rts and bytes become the writeback": the owner's slot, which stays; the manager's line and the owner's copy before it, and the
 -- copy after it
 abbrev pub yielding : Slot → Line → Copy → Copy → Row
-yielding s m x y = doing (pieces (core 7 9 s) x m) (Yield 1) yield (pieces (core 7 9 s) y (withWriteback 6 8 m)) writtenBack
+yielding s m x y = doing (pieces (core 7 9 s) x m) (Yield 2) yield (pieces (core 7 9 s) y (withWriteback 6 8 m)) writtenBack
 
 -- "manager takes the writeback, becomes shared; recall none, writeback none": the manager's line before it
 abbrev pub taking : Line → Row
 taking m =
-    doing (pieces (core 7 9 (answered GrantRenew 4 15)) (sharedCopy 3 8) (withWriteback 6 8 m)) (Take 1) taken
+    doing (pieces (core 7 9 (answered GrantRenew 4 15)) (sharedCopy 3 8) (withWriteback 6 8 m)) (Take 2) taken
     (pieces (core 7 9 (answered GrantRenew 4 15)) (sharedCopy 3 8) (sharedLine 6 8)) (places copyBytes writebackBytes writebackBytes answerBytes)
 
 abbrev pub writebackRows : List Row
