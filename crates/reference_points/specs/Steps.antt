@@ -1,10 +1,12 @@
 -- The step tables of 01, row by row: beside the reference points, what each step does to the core, its copy, the manager's line and the bytes.
 -- What it leaves shows where there is something to leave: a slot in use, a copy held, a recall and a writeback. So does a number that comes early.
 use Prim.Native.Nat.{ℕ}
+use mathlib.Core.Path.{_≡_}
 use mathlib.Core.List.{List, [], _∷_, _++_, map}
 use Rattle.protocol.specs.Stamps.{stamp}
-use Rattle.protocol.specs.Machine.{Pieces}
+use Rattle.protocol.specs.Machine.{machine, Pieces}
 use Rattle.protocol.specs.Step.{Done, done, ask, recall, share, renew, own, dropped, evict, advance, yield, taken, commit, load, store, fence}
+use Rattle.protocol.specs.Step.{Outcome, step}
 use Rattle.protocol.specs.declared.Copy.{Copy}
 use Rattle.protocol.specs.declared.Copy.the-variants.{None as NoCopy}
 use Rattle.protocol.specs.declared.Want.{Want}
@@ -13,15 +15,17 @@ use Rattle.protocol.specs.declared.Held.{Held}
 use Rattle.protocol.specs.declared.Held.the-variants.{None as NothingHeld, Version}
 use Rattle.protocol.specs.declared.Grant.the-variants.{Share as GrantShare, Renew as GrantRenew, Own as GrantOwn}
 use Rattle.protocol.specs.declared.Slot.{Slot}
-use Rattle.protocol.specs.declared.Slot.the-variants.{Empty}
+use Rattle.protocol.specs.declared.Slot.the-variants.{Empty, Answered}
 use Rattle.protocol.specs.declared.Recall.{Recall}
 use Rattle.protocol.specs.declared.Recall.the-variants.{None as NoRecall, Downgrade, Flush}
 use Rattle.protocol.specs.declared.Line.{Line}
+use Rattle.protocol.specs.declared.State.{State}
 use Rattle.protocol.specs.declared.Call.{Call}
 use Rattle.protocol.specs.declared.Call.the-variants.{Load, Store, Fence, Evict, Advance, Serve, Receive, Yield, Take}
 use Rattle.reference_points.specs.Rows.{core, asked, answered, askedElsewhere, answeredElsewhere, sharedCopy, cleanCopy, dirtyCopy, pieces}
 use Rattle.reference_points.specs.Rows.{sharedLine, ownedLine, withRecall, withWriteback, busy, greatest, Row, AllHold}
 use Rattle.reference_points.specs.Rows.{Places, places, copyBytes, managerBytes, writebackBytes, answerBytes, unmoved, given}
+use Rattle.reference_points.specs.Rows.{counting, private, shared, stateOf, withCore, withLine}
 
 -- a call that is done: what it answers, the pieces and the bytes after it
 abbrev pub doing : Pieces → Call → Done → Pieces → Places → Row
@@ -302,6 +306,21 @@ writebackRows =
     ∷ taking (withRecall Flush (sharedLine 4 5))
     ∷ []
 
+-- ---- another core and another line
+
+-- core 2, which asked to store to line 1, is served: line 1 is its own from then on, and the line's bytes are its answer
+abbrev pub otherBefore : State
+otherBefore = stateOf 10 (pieces (core 7 9 Empty) NoCopy (sharedLine 4 9))
+
+abbrev pub otherAfter : State
+otherAfter = withCore 2 (core 4 2 (Answered GrantOwn 1 (stamp 8) (stamp 7))) (withLine 1 (ownedLine 2 NoRecall) otherBefore)
+
+abbrev pub otherGot : Outcome
+otherGot = step (machine otherBefore (private unmoved) (shared unmoved)) (Serve 2) []
+
+abbrev pub otherTold : Outcome
+otherTold = record { reply = done own; machine = machine otherAfter (private unmoved) (counting 50 100 ++ counting 5 105) }
+
 -- ---- the theorem
 
 -- every row of every table holds; where the clocks stay, with either of them the later one
@@ -315,3 +334,4 @@ pub record StepsTheorem : Type 0 where
   pub serve : AllHold (alsoAt 9 7 serveRows)
   pub receive : AllHold (alsoAt 9 7 receiveRows)
   pub writeback : AllHold (alsoAt 9 7 writebackRows)
+  pub other : otherGot ≡ otherTold
