@@ -55,6 +55,7 @@ steps-theorem =
       serve = agree got told (alsoAt 9 7 serveRows) refl;
       receive = agree got told (alsoAt 9 7 receiveRows) refl;
       writeback = agree got told (alsoAt 9 7 writebackRows) refl;
+      other = refl;
     }
 
 pub numbers-theorem : NumbersTheorem

@@ -4,7 +4,7 @@
 -- only where its copy is not owned), 21 and 27 (only an asked slot has an asked lts). 7 is an opening's alone.
 use Prim.Native.Nat.{ℕ}
 use mathlib.Core.List.{List, [], _∷_, _++_, map}
-use lib.ListN.{drop, set, replicate}
+use lib.ListN.{drop, replicate}
 use Rattle.protocol.specs.Stamps.{stamp}
 use Rattle.protocol.specs.Buffers.{Bytes}
 use Rattle.protocol.specs.Machine.{Machine, machine, freshMachine, Pieces}
@@ -15,15 +15,13 @@ use Rattle.protocol.specs.declared.Held.the-variants.{None as NothingHeld, Vers
 use Rattle.protocol.specs.declared.Grant.the-variants.{Share as GrantShare, Own as GrantOwn}
 use Rattle.protocol.specs.declared.Slot.the-variants.{Empty, Asked, Answered}
 use Rattle.protocol.specs.declared.Recall.the-variants.{None as NoRecall, Downgrade, Flush}
-use Rattle.protocol.specs.declared.Core.{Core}
-use Rattle.protocol.specs.declared.Line.{Line}
 use Rattle.protocol.specs.declared.Opening.{Opening}
 use Rattle.protocol.specs.declared.State.{State}
 use Rattle.protocol.specs.declared.Call.{Call}
 use Rattle.protocol.specs.declared.Call.the-variants.{Load, Store, Fence, Evict, Advance, Serve, Receive, Yield, Take}
 use Rattle.reference_points.specs.Rows.{core, asked, answered, askedElsewhere, answeredElsewhere, sharedCopy, cleanCopy, dirtyCopy, pieces}
 use Rattle.reference_points.specs.Rows.{sharedLine, ownedLine, withWriteback, busy, unmoved, counting, given}
-use Rattle.reference_points.specs.Rows.{private, shared, greatest, cell, stateOf, Agree}
+use Rattle.reference_points.specs.Rows.{private, shared, greatest, cell, stateOf, withCore, withLine, Agree}
 
 -- the state of the rows, with a lease of 10
 abbrev pub usual : Pieces → State
@@ -74,50 +72,50 @@ full = pieces (core 7 9 Empty) (dirtyCopy 6 greatest) (ownedLine 1 NoRecall)
 
 abbrev pub causes : List Cause
 causes =
-    -- 3 core ≥ cores. Cores 2 and 3 would be refused for their slots, copies and clocks too: with 20, 20, 26, 27, 21, 27, 22
-    cause 3 idle (Load 2 0)
-    ∷ cause 3 idle (Store 2 0)
-    ∷ cause 3 idle (Fence 2)
-    ∷ cause 3 idle (Evict 2 0)
-    ∷ cause 3 idle (Advance 2 5)
-    ∷ cause 3 idle (Serve 2)
+    -- 3 core ≥ cores. Cores 3 and 4 would be refused for their slots, copies and clocks too: with 20, 20, 26, 27, 21, 27, 22
+    cause 3 idle (Load 3 0)
+    ∷ cause 3 idle (Store 3 0)
+    ∷ cause 3 idle (Fence 3)
+    ∷ cause 3 idle (Evict 3 0)
+    ∷ cause 3 idle (Advance 3 5)
     ∷ cause 3 idle (Serve 3)
-    ∷ cause 3 idle (Receive 3)
+    ∷ cause 3 idle (Serve 4)
+    ∷ cause 3 idle (Receive 4)
     -- 3 and 27 of a store; 3 and 4; 3 and 5; 3 and 6
-    ∷ cause 3 idle (Store 2 1)
-    ∷ cause 3 idle (Load 2 3)
-    ∷ cause 3 idle (Store 2 3)
-    ∷ cause 3 idle (Evict 2 3)
-    ∷ storing 3 idle 2 1 (counting 3 80)
-    ∷ cause 3 idle (Advance 2 0)
-    -- 4 line ≥ lines. Lines 3 and 4 would be refused for what they hold too: with 20, 20, 26, 23, 24, 25
-    ∷ cause 4 waiting (Load 1 4)
-    ∷ cause 4 waiting (Store 1 4)
-    ∷ cause 4 idle (Evict 1 4)
-    ∷ cause 4 idle (Yield 3)
+    ∷ cause 3 idle (Store 3 2)
+    ∷ cause 3 idle (Load 3 4)
+    ∷ cause 3 idle (Store 3 4)
+    ∷ cause 3 idle (Evict 3 4)
+    ∷ storing 3 idle 3 2 (counting 4 200)
+    ∷ cause 3 idle (Advance 3 0)
+    -- 4 line ≥ lines. Lines 4 and 5 would be refused for what they hold too: with 20, 20, 26, 23, 24, 25
+    ∷ cause 4 waiting (Load 1 5)
+    ∷ cause 4 waiting (Store 1 5)
+    ∷ cause 4 idle (Evict 1 5)
     ∷ cause 4 idle (Yield 4)
-    ∷ cause 4 idle (Take 3)
+    ∷ cause 4 idle (Yield 5)
+    ∷ cause 4 idle (Take 4)
     -- 4 and 27 of a store; 4 and 5
-    ∷ cause 4 idle (Store 1 3)
-    ∷ storing 4 idle 1 3 (counting 3 80)
+    ∷ cause 4 idle (Store 1 4)
+    ∷ storing 4 idle 1 4 (counting 4 200)
     -- 5 store bytes not width in count; 5 and 20; 5 and 27
-    ∷ storing 5 idle 1 1 []
-    ∷ storing 5 idle 1 1 (counting 3 80)
-    ∷ storing 5 idle 1 1 (counting 5 80)
-    ∷ storing 5 waiting 1 1 (counting 3 80)
-    ∷ storing 5 full 1 1 (counting 5 80)
+    ∷ storing 5 idle 1 2 []
+    ∷ storing 5 idle 1 2 (counting 4 200)
+    ∷ storing 5 idle 1 2 (counting 6 200)
+    ∷ storing 5 waiting 1 2 (counting 4 200)
+    ∷ storing 5 full 1 2 (counting 6 200)
     -- 6 advance by 0
     ∷ cause 6 idle (Advance 1 0)
     ∷ cause 6 (pieces (core greatest 9 Empty) NoCopy (sharedLine 4 9)) (Advance 1 0)
     -- 20 load or store must ask, slot not empty
-    ∷ cause 20 waiting (Load 1 1)
-    ∷ cause 20 granted (Load 1 1)
-    ∷ cause 20 (pieces (core 10 9 (asked WantStore 7 NothingHeld)) (sharedCopy 4 9) (sharedLine 4 9)) (Load 1 1)
-    ∷ cause 20 (pieces (core 7 9 askedElsewhere) NoCopy (busy (ownedLine 1 NoRecall))) (Load 1 1)
-    ∷ cause 20 waiting (Store 1 1)
-    ∷ cause 20 granted (Store 1 1)
-    ∷ cause 20 (pieces (core 7 9 (asked WantLoad 7 NothingHeld)) (sharedCopy 4 9) (sharedLine 4 9)) (Store 1 1)
-    ∷ cause 20 (pieces (core 7 9 answeredElsewhere) (sharedCopy 4 greatest) (busy (ownedLine 1 NoRecall))) (Store 1 1)
+    ∷ cause 20 waiting (Load 1 2)
+    ∷ cause 20 granted (Load 1 2)
+    ∷ cause 20 (pieces (core 10 9 (asked WantStore 7 NothingHeld)) (sharedCopy 4 9) (sharedLine 4 9)) (Load 1 2)
+    ∷ cause 20 (pieces (core 7 9 askedElsewhere) NoCopy (busy (ownedLine 1 NoRecall))) (Load 1 2)
+    ∷ cause 20 waiting (Store 1 2)
+    ∷ cause 20 granted (Store 1 2)
+    ∷ cause 20 (pieces (core 7 9 (asked WantLoad 7 NothingHeld)) (sharedCopy 4 9) (sharedLine 4 9)) (Store 1 2)
+    ∷ cause 20 (pieces (core 7 9 answeredElsewhere) (sharedCopy 4 greatest) (busy (ownedLine 1 NoRecall))) (Store 1 2)
     -- 21 serve, slot not asked
     ∷ cause 21 idle (Serve 1)
     ∷ cause 21 granted (Serve 1)
@@ -125,24 +123,24 @@ causes =
     ∷ cause 22 idle (Receive 1)
     ∷ cause 22 waiting (Receive 1)
     -- 23 yield, line not owned or no recall; 23 and 24
-    ∷ cause 23 (pieces (core 7 9 Empty) (dirtyCopy 6 8) (ownedLine 1 NoRecall)) (Yield 1)
-    ∷ cause 23 (pieces (core 7 9 Empty) NoCopy (ownedLine 1 NoRecall)) (Yield 1)
-    ∷ cause 23 (pieces (core 7 9 Empty) NoCopy (withWriteback 5 6 (ownedLine 1 NoRecall))) (Yield 1)
-    ∷ cause 23 (pieces (core 7 9 Empty) (dirtyCopy 6 8) (busy (sharedLine 4 9))) (Yield 1)
-    ∷ cause 23 idle (Yield 1)
+    ∷ cause 23 (pieces (core 7 9 Empty) (dirtyCopy 6 8) (ownedLine 1 NoRecall)) (Yield 2)
+    ∷ cause 23 (pieces (core 7 9 Empty) NoCopy (ownedLine 1 NoRecall)) (Yield 2)
+    ∷ cause 23 (pieces (core 7 9 Empty) NoCopy (withWriteback 5 6 (ownedLine 1 NoRecall))) (Yield 2)
+    ∷ cause 23 (pieces (core 7 9 Empty) (dirtyCopy 6 8) (busy (sharedLine 4 9))) (Yield 2)
+    ∷ cause 23 idle (Yield 2)
     -- 24 yield, owner's copy not owned
-    ∷ cause 24 (pieces (core 7 9 Empty) NoCopy (ownedLine 1 Downgrade)) (Yield 1)
-    ∷ cause 24 (pieces (core 7 9 Empty) (sharedCopy 4 9) (ownedLine 1 Flush)) (Yield 1)
-    ∷ cause 24 (pieces (core 7 9 Empty) (dirtyCopy 6 8) (ownedLine 0 Flush)) (Yield 1)
+    ∷ cause 24 (pieces (core 7 9 Empty) NoCopy (ownedLine 1 Downgrade)) (Yield 2)
+    ∷ cause 24 (pieces (core 7 9 Empty) (sharedCopy 4 9) (ownedLine 1 Flush)) (Yield 2)
+    ∷ cause 24 (pieces (core 7 9 Empty) (dirtyCopy 6 8) (ownedLine 0 Flush)) (Yield 2)
     -- 25 take, no writeback
-    ∷ cause 25 idle (Take 1)
-    ∷ cause 25 (pieces (core 7 9 Empty) (dirtyCopy 6 8) (ownedLine 1 Flush)) (Take 1)
+    ∷ cause 25 idle (Take 2)
+    ∷ cause 25 (pieces (core 7 9 Empty) (dirtyCopy 6 8) (ownedLine 1 Flush)) (Take 2)
     -- 26 evict, no copy
-    ∷ cause 26 idle (Evict 1 1)
-    ∷ cause 26 (pieces (core 7 9 (answered GrantOwn 4 9)) NoCopy (busy (ownedLine 1 NoRecall))) (Evict 1 1)
+    ∷ cause 26 idle (Evict 1 2)
+    ∷ cause 26 (pieces (core 7 9 (answered GrantOwn 4 9)) NoCopy (busy (ownedLine 1 NoRecall))) (Evict 1 2)
     -- 27 rts + 1 (store to an owned line), lts + by (advance) or asked lts + lease (serve of a load on a shared line) passes 4,294,967,295
-    ∷ cause 27 full (Store 1 1)
-    ∷ cause 27 (pieces (core 7 9 askedElsewhere) (cleanCopy 6 greatest) (busy (ownedLine 1 NoRecall))) (Store 1 1)
+    ∷ cause 27 full (Store 1 2)
+    ∷ cause 27 (pieces (core 7 9 askedElsewhere) (cleanCopy 6 greatest) (busy (ownedLine 1 NoRecall))) (Store 1 2)
     ∷ cause 27 (pieces (core 7 9 Empty) NoCopy (sharedLine 4 9)) (Advance 1 4294967289)
     ∷ cause 27 (pieces (core 1 9 askedElsewhere) (sharedCopy 4 9) (sharedLine 4 9)) (Advance 1 greatest)
     ∷ cause 27 (pieces (core 7 9 (asked WantLoad 4294967286 NothingHeld)) NoCopy (sharedLine 4 greatest)) (Serve 1)
@@ -157,16 +155,9 @@ alone k = record { number = k .number; machine = machine (usual (k .before)) (pr
 abbrev pub withTwo : Cause → Refusal
 withTwo k = record { number = 2; machine = machine (usual (k .before)) (drop 1 (private unmoved)) (shared unmoved); call = k .call; bytes = k .bytes }
 
--- a state with other cores, or with other lines
-abbrev pub withCores : State → List Core → State
-withCores s ks = record { opening = s .opening; core = ks; cell = s .cell; line = s .line }
-
-abbrev pub withLines : State → List Line → State
-withLines s ls = record { opening = s .opening; core = s .core; cell = s .cell; line = ls }
-
--- with 1 as well: line 0 has an owner ≥ cores
+-- with 1 as well: the last line has an owner ≥ cores
 abbrev pub misowned : Pieces → State
-misowned p = withLines (usual p) (set (usual p .line) 0 (ownedLine 2 NoRecall))
+misowned p = withLine 3 (ownedLine 3 NoRecall) (usual p)
 
 abbrev pub withOne : Cause → Refusal
 withOne k = record { number = 1; machine = machine (misowned (k .before)) (private unmoved) (shared unmoved); call = k .call; bytes = k .bytes }
@@ -200,8 +191,9 @@ mislaid n s p q = fencing n (machine s p q)
 abbrev pub machineRows : List Refusal
 machineRows =
     unfit (misowned idle)
-    ∷ unfit (withCores (usual idle) (set (usual idle .core) 1 (core 7 9 (Asked WantLoad 3 (stamp 7) NothingHeld))))
-    ∷ unfit (withCores (usual idle) (set (usual idle .core) 0 (core 7 9 (Answered GrantShare 3 (stamp 4) (stamp 9)))))
+    ∷ unfit (withLine 0 (ownedLine 3 NoRecall) (usual idle))
+    ∷ unfit (withCore 2 (core 7 9 (Asked WantLoad 4 (stamp 7) NothingHeld)) (usual idle))
+    ∷ unfit (withCore 0 (core 7 9 (Answered GrantShare 4 (stamp 4) (stamp 9))) (usual idle))
     ∷ mislaid 2 (usual idle) (drop 1 (private unmoved)) (shared unmoved)
     ∷ mislaid 2 (usual idle) (9 ∷ private unmoved) (shared unmoved)
     ∷ mislaid 2 (usual idle) (private unmoved) (drop 1 (shared unmoved))

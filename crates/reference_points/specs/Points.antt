@@ -24,8 +24,8 @@ storeRow lts sts rts ts =
     record {
       lease = 10;
       before = pieces (core lts sts askedElsewhere) (cleanCopy 0 rts) (busy (ownedLine 1 NoRecall));
-      call = Store 1 1;
-      reply = commit 1 (stamp ts) (store 1 given);
+      call = Store 1 2;
+      reply = commit 1 (stamp ts) (store 2 given);
       after = pieces (core lts ts askedElsewhere) (dirtyCopy ts ts) (busy (ownedLine 1 NoRecall));
       bytes = places given managerBytes writebackBytes answerBytes;
     }
@@ -36,8 +36,8 @@ loadRow m lts x ts y =
     record {
       lease = 10;
       before = pieces (core lts 40 askedElsewhere) x (busy m);
-      call = Load 1 1;
-      reply = commit 1 (stamp ts) (load 1 copyBytes);
+      call = Load 1 2;
+      reply = commit 1 (stamp ts) (load 2 copyBytes);
       after = pieces (core ts 40 askedElsewhere) y (busy m);
       bytes = unmoved;
     }
@@ -48,7 +48,7 @@ askRow lts =
     record {
       lease = 10;
       before = pieces (core lts 40 Empty) (sharedCopy 4 9) (busy (sharedLine 4 9));
-      call = Load 1 1;
+      call = Load 1 2;
       reply = done ask;
       after = pieces (core lts 40 (asked WantLoad lts (Version (stamp 4)))) (sharedCopy 4 9) (busy (sharedLine 4 9));
       bytes = unmoved;

@@ -1,12 +1,12 @@
 -- A worked example is a row: a small machine, a call on it, what the call answers and the machine after it, as 01 says them.
 --
--- The machine has 2 cores, 3 lines and a width of 4, and a row is about core 1 and line 1. The other core, lines and copies hold something of
+-- The machine has 3 cores, 4 lines and a width of 5, and a row is about core 1 and line 2. The other cores, lines and copies hold something of
 -- their own, and so do cores and lines outside the sizes, so that a step which looks or writes elsewhere shows. No two bytes are equal.
 use Prim.Native.Nat.{ℕ, zero, suc}
 use mathlib.Core.Path.{_≡_}
 use mathlib.Core.Bool.{true, false}
 use mathlib.Core.List.{List, [], _∷_, _++_}
-use lib.ListN.{replicate}
+use lib.ListN.{set, replicate}
 use Rattle.protocol.specs.Stamps.{stamp}
 use Rattle.protocol.specs.Fresh.{freshCore, freshCell, freshLine}
 use Rattle.protocol.specs.Buffers.{Bytes}
@@ -38,19 +38,19 @@ use Rattle.protocol.specs.declared.Call.{Call}
 abbrev pub core : ℕ → ℕ → Slot → Core
 core lts sts s = record { clocks = record { lts = stamp lts; sts = stamp sts }; slot = s }
 
--- its slot: asked for line 1, at an lts; or answered for line 1, with wts and rts
+-- its slot: asked for line 2, at an lts; or answered for line 2, with wts and rts
 abbrev pub asked : Want → ℕ → Held → Slot
-asked a lts h = Asked a 1 (stamp lts) h
+asked a lts h = Asked a 2 (stamp lts) h
 
 abbrev pub answered : Grant → ℕ → ℕ → Slot
-answered g wts rts = Answered g 1 (stamp wts) (stamp rts)
+answered g wts rts = Answered g 2 (stamp wts) (stamp rts)
 
--- a slot in use for another line: line 2 asked for, or answered
+-- a slot in use for another line: line 3 asked for, or answered
 abbrev pub askedElsewhere : Slot
-askedElsewhere = Asked WantLoad 2 (stamp 1) (Version (stamp 2))
+askedElsewhere = Asked WantLoad 3 (stamp 1) (Version (stamp 2))
 
 abbrev pub answeredElsewhere : Slot
-answeredElsewhere = Answered GrantShare 2 (stamp 2) (stamp 3)
+answeredElsewhere = Answered GrantShare 3 (stamp 2) (stamp 3)
 
 -- a copy: shared; owned, not dirty; owned, dirty; each with wts and rts
 abbrev pub sharedCopy : ℕ → ℕ → Copy
@@ -80,13 +80,13 @@ withWriteback wts rts m = record { manager = m .manager; recall = m .recall; wri
 abbrev pub busy : Line → Line
 busy m = withRecall Downgrade (withWriteback 5 6 m)
 
--- core 1, its copy of line 1, and the manager's line 1
+-- core 1, its copy of line 2, and the manager's line 2
 abbrev pub pieces : Core → Copy → Line → Pieces
 pieces k x m = record { core = k; copy = x; line = m }
 
 -- ---- the bytes
 
--- the bytes of line 1 at its four places: core 1's copy, the manager's line, the writeback, the answer to core 1
+-- the bytes of line 2 at its four places: core 1's copy, the manager's line, the writeback, the answer to core 1
 pub record Places : Type 0 where
   pub copy : Bytes
   pub manager : Bytes
@@ -103,31 +103,31 @@ counting (suc n) a = a ∷ counting n (suc a)
 
 -- what stands at each of them before the call
 abbrev pub copyBytes : Bytes
-copyBytes = counting 4 26
+copyBytes = counting 5 40
 
 abbrev pub managerBytes : Bytes
-managerBytes = counting 4 44
+managerBytes = counting 5 110
 
 abbrev pub writebackBytes : Bytes
-writebackBytes = counting 4 56
+writebackBytes = counting 5 130
 
 abbrev pub answerBytes : Bytes
-answerBytes = counting 4 68
+answerBytes = counting 5 145
 
 abbrev pub unmoved : Places
 unmoved = places copyBytes managerBytes writebackBytes answerBytes
 
 -- the bytes given to a store
 abbrev pub given : Bytes
-given = counting 4 80
+given = counting 5 200
 
--- the private buffer: core 0's copies of the three lines, then core 1's
+-- the private buffer: core 0's copies of the four lines, then core 1's, then core 2's
 abbrev pub private : Places → Bytes
-private b = counting 16 10 ++ b .copy ++ counting 4 30
+private b = counting 30 10 ++ b .copy ++ counting 25 45
 
--- the shared buffer: the three lines, their writebacks, the answers to the two cores
+-- the shared buffer: the four lines, their writebacks, the answers to the three cores
 abbrev pub shared : Places → Bytes
-shared b = counting 4 40 ++ b .manager ++ counting 8 48 ++ b .writeback ++ counting 8 60 ++ b .answer
+shared b = counting 10 100 ++ b .manager ++ counting 15 115 ++ b .writeback ++ counting 10 135 ++ b .answer ++ counting 5 150
 
 -- ---- the machine
 
@@ -138,27 +138,36 @@ greatest = 4294967295
 abbrev pub cell : Copy → Cell
 cell x = record { copy = x }
 
--- the state with this lease and these pieces. Cores 2 and 3 and lines 3 and 4 lie outside the sizes: core 2 has lts at the greatest timestamp, an
--- answered slot and an owned copy of line 1 at the greatest rts; core 3 asked at the greatest timestamp; core 1 has such a copy of line 3 too;
--- line 3 has an owner, and line 4 an owner who holds no copy, and a recall
+-- the state with this lease and these pieces. Core 2 asks to store to line 1, which is shared, with wts later than rts. Cores 3 and 4 and lines 4
+-- and 5 lie outside the sizes: core 3 has lts at the greatest timestamp, an answered slot and an owned copy of line 2 at the greatest rts; core 4
+-- asked at the greatest timestamp; core 1 has such a copy of line 4 too; line 4 has an owner, and line 5 an owner who holds no copy, and a recall
 abbrev pub stateOf : ℕ → Pieces → State
 stateOf lease p =
     record {
-      opening = record { cores = 2; lines = 3; width = 4; lease = lease };
+      opening = record { cores = 3; lines = 4; width = 5; lease = lease };
       core =
-          core 3 5 (Asked WantStore 0 (stamp 2) NothingHeld) ∷ p .core ∷ core greatest 1 (Answered GrantShare 3 (stamp 1) (stamp 1))
-          ∷ core 1 1 (asked WantLoad greatest NothingHeld) ∷ replicate 12 freshCore;
+          core 3 5 (Asked WantStore 0 (stamp 2) NothingHeld) ∷ p .core ∷ core 4 2 (Asked WantStore 1 (stamp 4) (Version (stamp 8)))
+          ∷ core greatest 1 (Answered GrantShare 4 (stamp 1) (stamp 1)) ∷ core 1 1 (asked WantLoad greatest NothingHeld) ∷ replicate 11 freshCore;
       cell =
           cell (dirtyCopy 6 8) ∷ cell (sharedCopy 1 2) ∷ cell (sharedCopy 2 3) ∷ replicate 61 freshCell
-          ++ cell (sharedCopy 3 4) ∷ cell (p .copy) ∷ cell (cleanCopy 5 9) ∷ cell (dirtyCopy 6 greatest) ∷ replicate 60 freshCell
-          ++ cell NoCopy ∷ cell (dirtyCopy 6 greatest) ∷ replicate 894 freshCell;
+          ++ cell (sharedCopy 3 4) ∷ cell (sharedCopy 8 12) ∷ cell (p .copy) ∷ cell (cleanCopy 5 9) ∷ cell (dirtyCopy 6 greatest)
+          ∷ replicate 59 freshCell
+          ++ cell NoCopy ∷ cell (sharedCopy 8 9) ∷ cell (sharedCopy 1 3) ∷ replicate 61 freshCell
+          ++ cell NoCopy ∷ cell NoCopy ∷ cell (dirtyCopy 6 greatest) ∷ replicate 829 freshCell;
       line =
-          withWriteback 5 7 (ownedLine 0 Downgrade) ∷ p .line ∷ ownedLine 1 NoRecall ∷ ownedLine 2 NoRecall ∷ ownedLine 1 Flush
-          ∷ replicate 59 freshLine;
+          withWriteback 5 7 (ownedLine 0 Downgrade) ∷ sharedLine 8 7 ∷ p .line ∷ ownedLine 1 NoRecall ∷ ownedLine 3 NoRecall ∷ ownedLine 1 Flush
+          ∷ replicate 58 freshLine;
     }
 
 abbrev pub machineOf : ℕ → Pieces → Places → Machine
 machineOf lease p b = machine (stateOf lease p) (private b) (shared b)
+
+-- a state with another core c, or with another line l
+abbrev pub withCore : ℕ → Core → State → State
+withCore c k s = record { opening = s .opening; core = set (s .core) c k; cell = s .cell; line = s .line }
+
+abbrev pub withLine : ℕ → Line → State → State
+withLine l m s = record { opening = s .opening; core = s .core; cell = s .cell; line = set (s .line) l m }
 
 -- ---- rows
 

@@ -21,24 +21,27 @@ pub record Look : Type 0 where
 abbrev pub look : Machine → ℕ → ℕ → Buffer → ℕ → ℕ → Look
 look m c l b start end = record { machine = m; core = c; line = l; part = record { buffer = b; start = start; end = end } }
 
--- the machine of the rows, where core 1 has this copy of line 1
+-- the machine of the rows, where core 1 has this copy of line 2
 abbrev pub holding : Copy → Machine
 holding x = machine (usual (pieces (core 7 9 Empty) x (sharedLine 4 9))) (private unmoved) (shared unmoved)
 
 abbrev pub looks : List Look
 looks =
     -- a copy is held: "the copy of core c, line l starts at (c × lines + l) × width"
-    look (holding (sharedCopy 4 9)) 1 1 inPrivate 16 20
-    ∷ look (holding (cleanCopy 4 9)) 1 1 inPrivate 16 20
-    ∷ look (holding (dirtyCopy 4 9)) 1 1 inPrivate 16 20
-    ∷ look (holding NoCopy) 1 0 inPrivate 12 16
-    ∷ look (holding NoCopy) 0 1 inPrivate 4 8
+    look (holding (sharedCopy 4 9)) 1 2 inPrivate 30 35
+    ∷ look (holding (cleanCopy 4 9)) 1 2 inPrivate 30 35
+    ∷ look (holding (dirtyCopy 4 9)) 1 2 inPrivate 30 35
+    ∷ look (holding NoCopy) 1 0 inPrivate 20 25
+    ∷ look (holding NoCopy) 0 1 inPrivate 5 10
+    ∷ look (holding NoCopy) 2 1 inPrivate 45 50
     -- none is held: "manager line l at l × width"
-    ∷ look (holding NoCopy) 1 1 inShared 4 8
+    ∷ look (holding NoCopy) 1 2 inShared 10 15
+    ∷ look (holding (sharedCopy 4 9)) 2 0 inShared 0 5
+    ∷ look (holding (sharedCopy 4 9)) 0 3 inShared 15 20
     -- 3, 4, 2 and 1
-    ∷ look (holding NoCopy) 2 1 inShared 0 0
-    ∷ look (holding NoCopy) 1 3 inShared 0 0
-    ∷ look (machine (usual idle) (drop 1 (private unmoved)) (shared unmoved)) 1 1 inShared 0 0
+    ∷ look (holding NoCopy) 3 2 inShared 0 0
+    ∷ look (holding NoCopy) 1 4 inShared 0 0
+    ∷ look (machine (usual idle) (drop 1 (private unmoved)) (shared unmoved)) 1 2 inShared 0 0
     ∷ look (machine (usual idle) (private unmoved) (drop 1 (shared unmoved))) 0 1 inShared 0 0
     ∷ look (machine (misowned idle) (private unmoved) (shared unmoved)) 0 1 inShared 0 0
     ∷ []

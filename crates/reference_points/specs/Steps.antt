@@ -1,10 +1,12 @@
 -- The step tables of 01, row by row: beside the reference points, what each step does to the core, its copy, the manager's line and the bytes.
 -- What it leaves shows where there is something to leave: a slot in use, a copy held, a recall and a writeback. So does a number that comes early.
 use Prim.Native.Nat.{ℕ}
+use mathlib.Core.Path.{_≡_}
 use mathlib.Core.List.{List, [], _∷_, _++_, map}
 use Rattle.protocol.specs.Stamps.{stamp}
-use Rattle.protocol.specs.Machine.{Pieces}
+use Rattle.protocol.specs.Machine.{machine, Pieces}
 use Rattle.protocol.specs.Step.{Done, done, ask, recall, share, renew, own, dropped, evict, advance, yield, taken, commit, load, store, fence}
+use Rattle.protocol.specs.Step.{Outcome, step}
 use Rattle.protocol.specs.declared.Copy.{Copy}
 use Rattle.protocol.specs.declared.Copy.the-variants.{None as NoCopy}
 use Rattle.protocol.specs.declared.Want.{Want}
@@ -13,15 +15,17 @@ use Rattle.protocol.specs.declared.Held.{Held}
 use Rattle.protocol.specs.declared.Held.the-variants.{None as NothingHeld, Version}
 use Rattle.protocol.specs.declared.Grant.the-variants.{Share as GrantShare, Renew as GrantRenew, Own as GrantOwn}
 use Rattle.protocol.specs.declared.Slot.{Slot}
-use Rattle.protocol.specs.declared.Slot.the-variants.{Empty}
+use Rattle.protocol.specs.declared.Slot.the-variants.{Empty, Answered}
 use Rattle.protocol.specs.declared.Recall.{Recall}
 use Rattle.protocol.specs.declared.Recall.the-variants.{None as NoRecall, Downgrade, Flush}
 use Rattle.protocol.specs.declared.Line.{Line}
+use Rattle.protocol.specs.declared.State.{State}
 use Rattle.protocol.specs.declared.Call.{Call}
 use Rattle.protocol.specs.declared.Call.the-variants.{Load, Store, Fence, Evict, Advance, Serve, Receive, Yield, Take}
 use Rattle.reference_points.specs.Rows.{core, asked, answered, askedElsewhere, answeredElsewhere, sharedCopy, cleanCopy, dirtyCopy, pieces}
 use Rattle.reference_points.specs.Rows.{sharedLine, ownedLine, withRecall, withWriteback, busy, greatest, Row, AllHold}
 use Rattle.reference_points.specs.Rows.{Places, places, copyBytes, managerBytes, writebackBytes, answerBytes, unmoved, given}
+use Rattle.reference_points.specs.Rows.{counting, private, shared, stateOf, withCore, withLine}
 
 -- a call that is done: what it answers, the pieces and the bytes after it
 abbrev pub doing : Pieces → Call → Done → Pieces → Places → Row
@@ -55,14 +59,14 @@ asking call a x h m = doing (pieces (core 12 40 Empty) x m) call ask (pieces (co
 abbrev pub askRows : List Row
 askRows =
     -- load: "shared, lts > rts, or none: ask"; store: "owned: .. Else: ask"
-    asking (Load 1 1) WantLoad NoCopy NothingHeld (sharedLine 4 9)
-    ∷ asking (Load 1 1) WantLoad NoCopy NothingHeld (busy (ownedLine 1 NoRecall))
-    ∷ asking (Load 1 1) WantLoad (sharedCopy 4 11) (Version (stamp 4)) (busy (ownedLine 0 NoRecall))
-    ∷ asking (Store 1 1) WantStore NoCopy NothingHeld (sharedLine 4 9)
-    ∷ asking (Store 1 1) WantStore NoCopy NothingHeld (busy (ownedLine 1 NoRecall))
-    ∷ asking (Store 1 1) WantStore (sharedCopy 4 20) (Version (stamp 4)) (busy (sharedLine 4 20))
+    asking (Load 1 2) WantLoad NoCopy NothingHeld (sharedLine 4 9)
+    ∷ asking (Load 1 2) WantLoad NoCopy NothingHeld (busy (ownedLine 1 NoRecall))
+    ∷ asking (Load 1 2) WantLoad (sharedCopy 4 11) (Version (stamp 4)) (busy (ownedLine 0 NoRecall))
+    ∷ asking (Store 1 2) WantStore NoCopy NothingHeld (sharedLine 4 9)
+    ∷ asking (Store 1 2) WantStore NoCopy NothingHeld (busy (ownedLine 1 NoRecall))
+    ∷ asking (Store 1 2) WantStore (sharedCopy 4 20) (Version (stamp 4)) (busy (sharedLine 4 20))
     -- 27 speaks of an owned line
-    ∷ asking (Store 1 1) WantStore (sharedCopy 4 greatest) (Version (stamp 4)) (sharedLine 4 greatest)
+    ∷ asking (Store 1 2) WantStore (sharedCopy 4 greatest) (Version (stamp 4)) (sharedLine 4 greatest)
     ∷ []
 
 -- a load that commits: the slot and the manager's line, which stay; lts and the copy before it, its ts, and the copy after it
@@ -71,8 +75,8 @@ loading s m lts x ts y =
     record {
       lease = 10;
       before = pieces (core lts 1 s) x m;
-      call = Load 1 1;
-      reply = commit 1 (stamp ts) (load 1 copyBytes);
+      call = Load 1 2;
+      reply = commit 1 (stamp ts) (load 2 copyBytes);
       after = pieces (core ts 1 s) y m;
       bytes = unmoved;
     }
@@ -99,8 +103,8 @@ storing s m lts sts x ts =
     record {
       lease = 10;
       before = pieces (core lts sts s) x m;
-      call = Store 1 1;
-      reply = commit 1 (stamp ts) (store 1 given);
+      call = Store 1 2;
+      reply = commit 1 (stamp ts) (store 2 given);
       after = pieces (core lts ts s) (dirtyCopy ts ts) m;
       bytes = places given managerBytes writebackBytes answerBytes;
     }
@@ -159,7 +163,7 @@ advanceRows =
 
 -- the slot, which stays; the copy and the manager's line before it; the line and the bytes after it
 abbrev pub evicting : Slot → Copy → Line → Line → Places → Row
-evicting s x m m′ b = doing (pieces (core 7 9 s) x m) (Evict 1 1) evict (pieces (core 7 9 s) NoCopy m′) b
+evicting s x m m′ b = doing (pieces (core 7 9 s) x m) (Evict 1 2) evict (pieces (core 7 9 s) NoCopy m′) b
 
 -- the copy's bytes as the writeback
 abbrev pub writtenBack : Places
@@ -279,12 +283,12 @@ receiveRows =
 -- "the owner's wts, rts and bytes become the writeback": the owner's slot, which stays; the manager's line and the owner's copy before it, and the
 -- copy after it
 abbrev pub yielding : Slot → Line → Copy → Copy → Row
-yielding s m x y = doing (pieces (core 7 9 s) x m) (Yield 1) yield (pieces (core 7 9 s) y (withWriteback 6 8 m)) writtenBack
+yielding s m x y = doing (pieces (core 7 9 s) x m) (Yield 2) yield (pieces (core 7 9 s) y (withWriteback 6 8 m)) writtenBack
 
 -- "manager takes the writeback, becomes shared; recall none, writeback none": the manager's line before it
 abbrev pub taking : Line → Row
 taking m =
-    doing (pieces (core 7 9 (answered GrantRenew 4 15)) (sharedCopy 3 8) (withWriteback 6 8 m)) (Take 1) taken
+    doing (pieces (core 7 9 (answered GrantRenew 4 15)) (sharedCopy 3 8) (withWriteback 6 8 m)) (Take 2) taken
     (pieces (core 7 9 (answered GrantRenew 4 15)) (sharedCopy 3 8) (sharedLine 6 8)) (places copyBytes writebackBytes writebackBytes answerBytes)
 
 abbrev pub writebackRows : List Row
@@ -302,6 +306,21 @@ writebackRows =
     ∷ taking (withRecall Flush (sharedLine 4 5))
     ∷ []
 
+-- ---- another core and another line
+
+-- core 2, which asked to store to line 1, is served: line 1 is its own from then on, and the line's bytes are its answer
+abbrev pub otherBefore : State
+otherBefore = stateOf 10 (pieces (core 7 9 Empty) NoCopy (sharedLine 4 9))
+
+abbrev pub otherAfter : State
+otherAfter = withCore 2 (core 4 2 (Answered GrantOwn 1 (stamp 8) (stamp 7))) (withLine 1 (ownedLine 2 NoRecall) otherBefore)
+
+abbrev pub otherGot : Outcome
+otherGot = step (machine otherBefore (private unmoved) (shared unmoved)) (Serve 2) []
+
+abbrev pub otherTold : Outcome
+otherTold = record { reply = done own; machine = machine otherAfter (private unmoved) (counting 50 100 ++ counting 5 105) }
+
 -- ---- the theorem
 
 -- every row of every table holds; where the clocks stay, with either of them the later one
@@ -315,3 +334,4 @@ pub record StepsTheorem : Type 0 where
   pub serve : AllHold (alsoAt 9 7 serveRows)
   pub receive : AllHold (alsoAt 9 7 receiveRows)
   pub writeback : AllHold (alsoAt 9 7 writebackRows)
+  pub other : otherGot ≡ otherTold
