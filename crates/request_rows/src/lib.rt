@@ -18,6 +18,7 @@ use protocol::Held;
 use protocol::Line;
 use protocol::Manager;
 use protocol::Move;
+use protocol::Name;
 use protocol::Opening;
 use protocol::Recall;
 use protocol::Slot;
@@ -67,7 +68,7 @@ fn serve_load(
     let writeback = line.writeback;
     if same {
         Effect {
-            answer: Answer::Renew,
+            answer: Answer::Done(Name::Renew),
             moves: Move::Still,
             core: Core {
                 clocks,
@@ -87,7 +88,7 @@ fn serve_load(
         }
     } else {
         Effect {
-            answer: Answer::Share,
+            answer: Answer::Done(Name::Share),
             moves: Move::Answer,
             core: Core {
                 clocks,
@@ -129,7 +130,7 @@ fn serve_asked(
     let writeback = line.writeback;
     match manager {
         Manager::Owned { .. } => Effect {
-            answer: Answer::Recall,
+            answer: Answer::Done(Name::Recall),
             moves: Move::Still,
             core,
             copy,
@@ -148,7 +149,7 @@ fn serve_asked(
                 }
             },
             Want::Store => Effect {
-                answer: Answer::Own,
+                answer: Answer::Done(Name::Own),
                 moves: Move::Answer,
                 core: Core {
                     clocks,
@@ -189,10 +190,10 @@ pub fn serve(c: usize, core: Core, copy: Copy, line: Line, opening: Opening) -> 
 
 // A renewal that finds no shared copy: no copy changes.
 fn dropped(core: Core, copy: Copy, line: Line) -> Effect
-    ensures { λ r. ⌜ r ≡ row Answer.Drop Move.Still core copy line ⌝ }
+    ensures { λ r. ⌜ r ≡ row (Answer.Done Name.Drop) Move.Still core copy line ⌝ }
 {
     Effect {
-        answer: Answer::Drop,
+        answer: Answer::Done(Name::Drop),
         moves: Move::Still,
         core,
         copy,
@@ -213,7 +214,7 @@ fn receive_renew(rts: Stamp, core: Core, copy: Copy, line: Line) -> Effect
     match copy {
         Copy::None => dropped(emptied, copy, line),
         Copy::Shared { wts, .. } => Effect {
-            answer: Answer::Renew,
+            answer: Answer::Done(Name::Renew),
             moves: Move::Still,
             core: emptied,
             copy: Copy::Shared { wts, rts },
@@ -234,7 +235,7 @@ fn receive_grant(grant: Grant, wts: Stamp, rts: Stamp, core: Core, copy: Copy, l
     };
     match grant {
         Grant::Share => Effect {
-            answer: Answer::Share,
+            answer: Answer::Done(Name::Share),
             moves: Move::Receive,
             core: emptied,
             copy: Copy::Shared { wts, rts },
@@ -242,7 +243,7 @@ fn receive_grant(grant: Grant, wts: Stamp, rts: Stamp, core: Core, copy: Copy, l
         },
         Grant::Renew => receive_renew(rts, core, copy, line),
         Grant::Own => Effect {
-            answer: Answer::Own,
+            answer: Answer::Done(Name::Own),
             moves: Move::Receive,
             core: emptied,
             copy: Copy::Owned {

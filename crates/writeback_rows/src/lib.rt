@@ -14,6 +14,7 @@ use protocol::Effect;
 use protocol::Line;
 use protocol::Manager;
 use protocol::Move;
+use protocol::Name;
 use protocol::Opening;
 use protocol::Recall;
 use protocol::Stamp;
@@ -39,7 +40,7 @@ pub fn evict(core: Core, copy: Copy, line: Line) -> Effect
     match copy {
         Copy::None => refusals::refused(26, core, copy, line),
         Copy::Shared { .. } => Effect {
-            answer: Answer::Evict,
+            answer: Answer::Done(Name::Evict),
             moves: Move::Still,
             core,
             copy: Copy::None,
@@ -48,7 +49,7 @@ pub fn evict(core: Core, copy: Copy, line: Line) -> Effect
         Copy::Owned { wts, rts, .. } => {
             let back = written_back(line, wts, rts);
             Effect {
-                answer: Answer::Evict,
+                answer: Answer::Done(Name::Evict),
                 moves: Move::Writeback,
                 core,
                 copy: Copy::None,
@@ -100,7 +101,7 @@ pub fn yield_line(core: Core, copy: Copy, line: Line) -> Effect
             let left = yielded_copy(recall, wts, rts);
             let back = written_back(line, wts, rts);
             Effect {
-                answer: Answer::Yield,
+                answer: Answer::Done(Name::Yield),
                 moves: Move::Writeback,
                 core,
                 copy: left,
@@ -118,7 +119,7 @@ pub fn take(core: Core, copy: Copy, line: Line) -> Effect
     match flight {
         Writeback::None => refusals::refused(25, core, copy, line),
         Writeback::Flight { wts, rts } => Effect {
-            answer: Answer::Take,
+            answer: Answer::Done(Name::Take),
             moves: Move::Take,
             core,
             copy,
