@@ -1,0 +1,172 @@
+-- The driver's loop: what holds at its head, that a step keeps it, and what it gives where the loop is left.
+use Prim.Native.Nat.{ℕ, _+_, _-_, _≤_, _<_}
+use mathlib.Core.Path.{_≡_, refl, sym, _∙_, ap}
+use mathlib.Core.Bool.{Bool, true, false}
+use mathlib.Core.List.{List, [], _∷_, _++_}
+use native.Mathlib.Omega.{arith}
+use lib.Dec.{eqb, leb}
+use lib.ListN.{length, take, drop}
+use lib.Seq.{length-take-le, drop-drop}
+use borrow.Author.Tests.{leb-true, eqb-false}
+use Rattle.protocol.specs.Pick.{fails}
+use Rattle.protocol.specs.Limits.{mostCores, mostLines}
+use Rattle.protocol.specs.Buffers.{Bytes}
+use Rattle.protocol.specs.About.{about, namedLine}
+use Rattle.protocol.specs.Machine.{Machine, machine, coreAt, lineAt, piecesAt, theCore, theLine, written, applied}
+use Rattle.protocol.specs.Refusals.{machineRefusal}
+use Rattle.protocol.specs.Step.{Reply, meaning, actBytes, Outcome, accepted, step}
+use Rattle.protocol.specs.Run.{Given, place, run}
+use Rattle.protocol.specs.Counts.{countsOf, plus}
+use Rattle.protocol.specs.declared.{Opening.Opening as Sizes, State.State, Call.Call, About.About, Counts.Counts, Effect.Effect}
+use Rattle.spelling.specs.Over.{PutAt}
+use Rattle.spelling.specs.declared.Put.{Put}
+use Rattle.spelling.specs.declared.Put.the-variants.{End as PutEnd, Short as NoRoom}
+use Rattle.refusals.specs.Input.{inputRefusal}
+use Rattle.places.specs.Moves.{Moves}
+use Rattle.protocol.proofs.Tests.{both-true}
+use Rattle.listing.specs.Record.{recordText}
+use Rattle.tables.specs.Found.{Found, effectWith}
+use Rattle.tables.proofs.Making.{Finds, made, is-step, is-moved, is-inside}
+use Rattle.driver.specs.Listing.{Ending, EndsAt, lines, lastLines}
+use Rattle.driver.specs.Play.{runFrom, few, resumable, Leads, Piece, aStep, theEnd, finished, more, Plays}
+use Rattle.driver.specs.Pieces.{StepDue, shown, Shows, checkpointAt, playedBy}
+use Rattle.driver.specs.declared.{Checkpoint.Checkpoint, Played.Played}
+use Rattle.driver.proofs.Counting.{same-counts, few-one, few-plus}
+use Rattle.driver.proofs.Running.{given, leads-none, leads-more, lines-more}
+use Rattle.driver.proofs.Putting.{Written, put-written, put-short}
+use Rattle.driver.proofs.Stepping.{still, replied}
+
+-- at the loop's head: the steps gs were made from one checkpoint to the other, and their lines are written
+pub record Reached (j : Bytes) (from : Checkpoint) (p₀ q₀ old : Bytes) (o : Sizes) (base : ℕ) (p q out : Bytes) (there : Checkpoint) (used : ℕ) : Type 0 where
+  pub start : resumable (length j) from ≡ true
+  pub named : there .form ≡ 0 → ⊥
+  pub inside : there .at ≤ length j
+  pub few : few (there .counts) (there .at) ≡ true
+  pub opening : there .state .opening ≡ o
+  pub based : base ≡ machineRefusal (machine (there .state) p q)
+  pub gs : List Given
+  pub leads : Leads j from p₀ q₀ gs there p q
+  pub text : take used out ≡ lines (runFrom from p₀ q₀ gs .records)
+  pub size : length out ≡ length old
+  pub within : used ≤ length out
+  pub beyond : drop used out ≡ drop used old
+
+-- ---- the loop begins
+
+-- what a checkpoint of a journal of n bytes says
+pub record Resumes (n : ℕ) (s : Checkpoint) : Type 0 where
+  pub named : s .form ≡ 0 → ⊥
+  pub inside : s .at ≤ n
+  pub few : few (s .counts) (s .at) ≡ true
+
+unnamed : (b : Bool) → fails b ≡ true → b ≡ false
+unnamed true e = sym e
+unnamed false e = refl
+
+pub resumes : (n : ℕ) (s : Checkpoint) → resumable n s ≡ true → Resumes n s
+resumes n s e =
+    let a = both-true (fails (eqb (s .form) 0)) _ e in
+    let b = both-true (leb (s .at) n) _ (a .1) in
+    record { named = eqb-false _ 0 (unnamed _ (a .0)); inside = leb-true _ _ (b .0); few = b .1 }
+
+pub reached-start :
+    (j : Bytes) (s : Checkpoint) (p q old : Bytes) (base : ℕ) → resumable (length j) s ≡ true → base ≡ machineRefusal (machine (s .state) p q)
+    → Reached j s p q old (s .state .opening) base p q old s 0
+unfolding run lines
+reached-start j s p q old base e b =
+    let r = resumes (length j) s e in
+    record {
+      start = e;
+      named = r .named;
+      inside = r .inside;
+      few = r .few;
+      opening = refl;
+      based = b;
+      gs = [];
+      leads = leads-none j s p q;
+      text = refl;
+      size = refl;
+      within = omega arith;
+      beyond = refl;
+    }
+
+-- the output past a text that was put
+past : (old out : Bytes) (used e n : ℕ) → drop used out ≡ drop used old → e ≡ used + n → drop e out ≡ drop e old
+past old out used e n h x = rw x (sym (drop-drop n used out) ∙ ap (drop n) h ∙ drop-drop n used old)
+
+module _ {j : Bytes} {from : Checkpoint} {p₀ q₀ old : Bytes} {o : Sizes} {base : ℕ} {p q out : Bytes} {there : Checkpoint} {used : ℕ} (g : Reached j from p₀ q₀ old o base p q out there used) where
+  -- ---- the loop is left
+
+  -- no room for the next piece
+  pub no-room : (t out' : Bytes) (r : Played) → Piece j there p q t → PutAt out used t out' NoRoom → r ≡ playedBy NoRoom used there → Plays j from p₀ q₀ old p q out' r
+  no-room t out' r x w e =
+      let h = put-short w refl in
+      let i = g .within in
+      rw (e, h .1)
+      (record { size = g .size; within = g .within; beyond = g .beyond; tells = more (g .start) (g .leads) (g .text) x (omega (arith, h .0)) })
+
+  -- the last lines are put, or there is no room for them
+  pub finish :
+      (e : Ending) (out' : Bytes) (put : Put) (r : Played) → EndsAt j (there .form) (there .at) e → PutAt out used (lastLines (there .counts) e) out' put
+      → r ≡ playedBy put used there → Plays j from p₀ q₀ old p q out' r
+  finish e out' (PutEnd k) r x w f =
+      let v = put-written w refl in
+      rw f
+      (record {
+        size = v .size ∙ g .size;
+        within = omega (arith, v .room, v .end, v .size);
+        beyond = v .beyond ∙ past old out used k _ (g .beyond) (v .end);
+        tells = finished (g .start) (g .leads) x (v .before ∙ ap (λ (l : Bytes). l ++ lastLines (there .counts) e) (g .text));
+      })
+  finish e out' NoRoom r x w f = no-room _ out' r (theEnd x) w f
+
+  -- ---- a step
+
+  module _ {buf : Bytes} {call : Call} {n count next : ℕ} (x : StepDue j (there .at) (there .form) base o buf call n count next) where
+    abbrev bs : Bytes
+    bs = take count buf
+
+    abbrev m : Machine
+    m = machine (there .state) p q
+
+    abbrev reply : Reply
+    reply = step m call bs .reply
+
+    input : n ≡ inputRefusal m call (length bs)
+    input = rw (length-take-le count buf (x .bytes .fits), g .opening, ← g .based) (x .number)
+
+    -- a step more, whose line was put
+    stepped :
+        (s' : State) (p' q' out' : Bytes) (e : ℕ) (k : Counts) → machine s' p' q' ≡ step m call bs .machine → s' .opening ≡ o → length p' ≡ length p
+        → length q' ≡ length q → k ≡ plus (there .counts) (countsOf call reply)
+        → Written out used (recordText (place (there .counts .steps + 1)) reply) out' e
+        → Reached j from p₀ q₀ old o base p' q' out' (checkpointAt next (there .form) k s') e
+    stepped s' p' q' out' e k em eo lp lq ek v =
+        let ep = ap (λ (x : Machine). x .private) em in
+        let eq = ap (λ (x : Machine). x .shared) em in
+        record {
+          start = g .start;
+          named = g .named;
+          inside = x .inside;
+          few = rw ek (few-plus (there .counts) (countsOf call reply) (there .at) next (g .few) (few-one call reply) (x .forward));
+          opening = eo;
+          based = rw em (g .based ∙ still m call bs (sym (ap length ep) ∙ lp) (sym (ap length eq) ∙ lq));
+          gs = g .gs ++ (given call bs ∷ []);
+          leads = leads-more (g .leads) call bs (checkpointAt next (there .form) k s') p' q' (x .line) (x .bytes .spelt) refl em ek;
+          text = v .before ∙ rw (g .text) (sym (lines-more (g .leads) call bs));
+          size = v .size ∙ g .size;
+          within = omega (arith, v .room, v .end, v .size);
+          beyond = v .beyond ∙ past old out used e _ (g .beyond) (v .end);
+        }
+
+    -- the indices where the call finds its core and its line, and its effect there
+    module _
+      {w : About} {v c l : ℕ} {d : Effect} (ew : w ≡ about call) (fv : Found (namedLine (w .line)) (o .lines) mostLines v)
+      (fc : Found (theCore (w .core) (lineAt (there .state) v .manager)) (o .cores) mostCores c)
+      (fl : Found (theLine (w .line) (coreAt (there .state) c .slot)) (o .lines) mostLines l)
+      (ed : d ≡ effectWith n call (piecesAt (there .state) c l) o) where
+      finds : Finds m call v c l
+      finds = rw (g .opening, ← ew) (record { named = fv .is; core = fc .is; line = fl .is })
+
+      effect-is : d ≡ made m call bs n input v c l finds
+      effect-is = rw (g .opening) ed
