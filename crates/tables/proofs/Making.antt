@@ -1,7 +1,7 @@
 -- One call made in place: whatever 1 to 6 say of it, the effect on the elements where the core and the line that it is about are found, written
 -- back, with its bytes moved, is `step`. The engine's call and the driver's loop both go by it.
 use Prim.Native.Nat.{ℕ, _+_, _≤_, _<_}
-use mathlib.Core.Path.{_≡_, refl, sym, _∙_, ap}
+use mathlib.Core.Path.{_≡_, refl, sym, _∙_, ap, ap₂}
 use mathlib.Core.Bool.{Bool, true, false}
 use lib.Dec.{eqb}
 use lib.ListN.{length}
@@ -152,6 +152,14 @@ module _ (m : Machine) (call : Call) (given : Bytes) (n : ℕ) (e : n ≡ inputR
             ≡ step m call given .reply
         go (yes z) = rw (is-step, started z) (sound z .bytes)
         go (no h) = rw (is-step, refused-effect h)
+
+    -- they lie where the copy of the core and the line that the call is about does
+    pub is-span : spanOf (made .answer) start (o .width) ≡ spanOf (made .answer) (copyStart o (coreOf call (m .state)) (lineOf call (m .state))) (o .width)
+    is-span = go (ℕ-discrete n 0)
+      where
+        go : Dec (n ≡ 0) → spanOf (made .answer) start (o .width) ≡ spanOf (made .answer) (copyStart o (coreOf call (m .state)) (lineOf call (m .state))) (o .width)
+        go (yes z) = rw (started z) (ap₂ (λ (x y : ℕ). spanOf (made .answer) (copyStart o x y) (o .width)) (core-is z) (line-is z))
+        go (no h) = rw (refused-effect h)
 
     -- they lie in the buffer
     pub is-inside : spanOf (made .answer) start (o .width) .start + spanOf (made .answer) start (o .width) .count ≤ length (m .private)
