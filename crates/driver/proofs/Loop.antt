@@ -31,7 +31,7 @@ use Rattle.driver.specs.Listing.{Ending, EndsAt, lines, lastLines}
 use Rattle.driver.specs.Play.{runFrom, few, resumable, Leads, Piece, aStep, theEnd, finished, more, Plays}
 use Rattle.driver.specs.Pieces.{StepDue, shown, Shows, checkpointAt, playedBy}
 use Rattle.driver.specs.declared.{Checkpoint.Checkpoint, Played.Played}
-use Rattle.driver.proofs.Counting.{same-counts, few-one, few-plus}
+use Rattle.driver.proofs.Counting.{one-step, same-counts, few-one, few-plus}
 use Rattle.driver.proofs.Running.{given, leads-none, leads-more, lines-more}
 use Rattle.driver.proofs.Putting.{Written, put-written, put-short}
 use Rattle.driver.proofs.Stepping.{still, replied}
@@ -133,7 +133,7 @@ module _ {j : Bytes} {from : Checkpoint} {p₀ q₀ old : Bytes} {o : Sizes} {ba
     reply = step m call bs .reply
 
     input : n ≡ inputRefusal m call (length bs)
-    input = rw (length-take-le count buf (x .bytes .fits), g .opening, ← g .based) (x .number)
+    input = rw (length-take-le count buf (x .bytes .fits), ← g .based, g .opening) (x .number)
 
     -- a step more, whose line was put
     stepped :
@@ -161,12 +161,52 @@ module _ {j : Bytes} {from : Checkpoint} {p₀ q₀ old : Bytes} {o : Sizes} {ba
 
     -- the indices where the call finds its core and its line, and its effect there
     module _
-      {w : About} {v c l : ℕ} {d : Effect} (ew : w ≡ about call) (fv : Found (namedLine (w .line)) (o .lines) mostLines v)
-      (fc : Found (theCore (w .core) (lineAt (there .state) v .manager)) (o .cores) mostCores c)
-      (fl : Found (theLine (w .line) (coreAt (there .state) c .slot)) (o .lines) mostLines l)
-      (ed : d ≡ effectWith n call (piecesAt (there .state) c l) o) where
+        {w : About} {v c l : ℕ} {d : Effect} (ew : w ≡ about call) (fv : Found (namedLine (w .line)) (o .lines) mostLines v)
+        (fc : Found (theCore (w .core) (lineAt (there .state) v .manager)) (o .cores) mostCores c)
+        (fl : Found (theLine (w .line) (coreAt (there .state) c .slot)) (o .lines) mostLines l)
+        (ed : d ≡ effectWith n call (piecesAt (there .state) c l) o) where
       finds : Finds m call v c l
-      finds = rw (g .opening, ← ew) (record { named = fv .is; core = fc .is; line = fl .is })
+      finds = record { named = rw (g .opening, ← ew) (fv .is); core = rw (g .opening, ← ew) (fc .is); line = rw (g .opening, ← ew) (fl .is) }
 
       effect-is : d ≡ made m call bs n input v c l finds
       effect-is = rw (g .opening) ed
+
+      -- the bytes beside the answer lie in the private buffer
+      pub shows : Shows (d .answer) o c l (length p)
+      shows = rw (effect-is, ← g .opening) (is-inside m call bs n input v c l finds _ refl)
+
+      -- the line that is put is the reply's; the bytes are lent as the part of the buffer from 0 on
+      abbrev Puts : Bytes → Counts → Put → Type 0
+      Puts out' k r =
+          PutAt out used (recordText (place (k .steps)) (meaning (d .answer) (actBytes (w .act) (take (count - 0) buf) (shown (d .answer) o p c l)))) out' r
+
+      replied-here : meaning (d .answer) (actBytes (w .act) (take (count - 0) buf) (shown (d .answer) o p c l)) ≡ reply
+      replied-here =
+          let z : count - 0 ≡ count = omega arith in
+          rw (z, effect-is, ew, ← g .opening) (replied m call bs n input v c l finds)
+
+      machine-is : (p' q' : Bytes) → Moves (d .moves) o c l (take (count - 0) buf) p q p' q' → machine (written (there .state) c l d) p' q' ≡ step m call bs .machine
+      unfolding accepted applied
+      machine-is p' q' b =
+          let z : count - 0 ≡ count = omega arith in
+          let i = is-moved m call bs n input v c l finds p' q' (rw (z, effect-is, ← g .opening) at b) in
+          rw (effect-is, i .0, i .1) (sym (ap (λ (x : Outcome). x .machine) (is-step m call bs n input v c l finds)))
+
+      module _ {k : Counts} (ek : k ≡ plus (there .counts) (countsOf call (meaning (d .answer) []))) where
+        counted : k ≡ plus (there .counts) (countsOf call reply)
+        counted = ek ∙ ap (plus (there .counts)) (same-counts call (d .answer) [] _ ∙ ap (countsOf call) replied-here)
+
+        place-is : k .steps ≡ there .counts .steps + 1
+        place-is = ap (λ (x : Counts). x .steps) counted ∙ ap (λ (i : ℕ). there .counts .steps + i) (one-step call reply)
+
+        -- there is no room for it
+        pub step-short : (out' : Bytes) (r : Played) → Puts out' k NoRoom → r ≡ playedBy NoRoom used there → Plays j from p₀ q₀ old p q out' r
+        step-short out' r y e = no-room _ out' r (aStep (x .line) (x .bytes .spelt)) (rw (place-is, replied-here) at y) e
+
+        -- it was put, and the effect is written back
+        pub step-made :
+            (p' q' out' : Bytes) (e : ℕ) → Puts out' k (PutEnd e) → Moves (d .moves) o c l (take (count - 0) buf) p q p' q' → length p' ≡ length p
+            → length q' ≡ length q → Reached j from p₀ q₀ old o base p' q' out' (checkpointAt next (there .form) k (written (there .state) c l d)) e
+        step-made p' q' out' e y b lp lq =
+            stepped (written (there .state) c l d) p' q' out' e k (machine-is p' q' b) (g .opening) lp lq counted
+            (put-written (rw (place-is, replied-here) at y) refl)

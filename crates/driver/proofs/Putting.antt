@@ -64,16 +64,16 @@ pub refused-length : (p : Place) (n : ℕ) → length (recordText p (refused n))
 unfolding meaning
 refused-length p n = omega (arith, record-length p (Refused n) [])
 
-module _ {old : Bytes} (k : Counts) (n : ℕ) (size : length old ≡ 256) where
-  abbrev line : Bytes
-  line = recordText (place (k .steps)) (refused n)
+abbrev stopLine : Counts → ℕ → Bytes
+stopLine k n = recordText (place (k .steps)) (refused n)
 
+module _ {old : Bytes} (k : Counts) (n : ℕ) (size : length old ≡ 256) where
   -- the first of them has room in a buffer of 256 bytes
-  pub first-fits : {new : Bytes} {r : Put} → PutAt old 0 line new r → r ≡ Short → ⊥
+  pub first-fits : {new : Bytes} {r : Put} → PutAt old 0 (stopLine k n) new r → r ≡ Short → ⊥
   first-fits w e = let h = put-short w e in omega (arith, h .0, refused-length (place (k .steps)) n)
 
-  module _ {mid : Bytes} {r : Put} {e : ℕ} (w : PutAt old 0 line mid r) (h : r ≡ End e) where
-    one : Written old 0 line mid e
+  module _ {mid : Bytes} {r : Put} {e : ℕ} (w : PutAt old 0 (stopLine k n) mid r) (h : r ≡ End e) where
+    one : Written old 0 (stopLine k n) mid e
     one = put-written w h
 
     -- and so has the other

@@ -65,7 +65,7 @@ module _ (m : Machine) (call : Call) (given : Bytes) where
       where
         go : Dec (inputRefusal m call (length given) ≡ 0) → machineRefusal m ≡ machineRefusal after
         go (yes z) = or-none (machineRefusal m) _ z .0 ∙ sym (fitted after (kept z))
-        go (no h) = rw (step-refused m call given h)
+        go (no h) = sym (ap (λ (x : Outcome). machineRefusal (x .machine)) (step-refused m call given h))
 
 -- ---- the answer
 

@@ -66,7 +66,7 @@ pub(crate) fn due(
     opening: Opening,
     buf: &mut [u8; 128],
 ) -> Due
-    requires { ⌜ form ≡ 0 → ⊥ ⌝ }
+    requires { ⌜ (form ≡ 0 → ⊥) ⌝ }
     ensures { λ r. ⌜ DueAt (now (journal .entry)) at form base opening (now (buf .exit)) r ⌝ }
 {
     match journal::step_at(journal, at, form) {
