@@ -29,9 +29,10 @@ use Rattle.tables.specs.Found.{Found, effectWith}
 use Rattle.tables.proofs.Making.{Finds, made, is-step, is-moved, is-inside}
 use Rattle.driver.specs.Listing.{Ending, EndsAt, lines, lastLines}
 use Rattle.driver.specs.Play.{runFrom, few, resumable, Leads, Piece, aStep, theEnd, finished, more, Plays}
-use Rattle.driver.specs.Pieces.{StepDue, shown, Shows, checkpointAt, playedBy}
-use Rattle.driver.specs.declared.{Checkpoint.Checkpoint, Played.Played}
-use Rattle.driver.proofs.Counting.{one-step, same-counts, few-one, few-plus}
+use Rattle.driver.specs.Pieces.{endingOf, Numbered, StepDue, DueAt, aStep as isStep, theEnd as isEnd, shown, Shows, checkpointAt, playedBy}
+use Rattle.driver.specs.declared.{Checkpoint.Checkpoint, Played.Played, Last.Last, Due.Due}
+use Rattle.driver.specs.declared.Due.the-variants.{Step, Last as AtLast}
+use Rattle.driver.proofs.Counting.{one-step, same-counts, few-one, few-later, few-plus}
 use Rattle.driver.proofs.Running.{given, leads-none, leads-more, lines-more}
 use Rattle.driver.proofs.Putting.{Written, put-written, put-short}
 use Rattle.driver.proofs.Stepping.{still, replied}
@@ -95,12 +96,18 @@ past : (old out : Bytes) (used e n : ℕ) → drop used out ≡ drop used old �
 past old out used e n h x = rw x (sym (drop-drop n used out) ∙ ap (drop n) h ∙ drop-drop n used old)
 
 module _ {j : Bytes} {from : Checkpoint} {p₀ q₀ old : Bytes} {o : Sizes} {base : ℕ} {p q out : Bytes} {there : Checkpoint} {used : ℕ} (g : Reached j from p₀ q₀ old o base p q out there used) where
+  -- the counts leave room for more
+  pub room-for : (n : ℕ) → length j ≤ n → few (there .counts) n ≡ true
+  room-for n h = few-later (there .counts) (there .at) n (g .few) (omega (arith, g .inside))
+
   -- ---- the loop is left
 
   -- no room for the next piece
-  pub no-room : (t out' : Bytes) (r : Played) → Piece j there p q t → PutAt out used t out' NoRoom → r ≡ playedBy NoRoom used there → Plays j from p₀ q₀ old p q out' r
-  no-room t out' r x w e =
-      let h = put-short w refl in
+  pub no-room :
+      (t out' : Bytes) (put : Put) (r : Played) → Piece j there p q t → PutAt out used t out' put → put ≡ NoRoom → r ≡ playedBy NoRoom used there
+      → Plays j from p₀ q₀ old p q out' r
+  no-room t out' put r x w z e =
+      let h = put-short w z in
       let i = g .within in
       rw (e, h .1)
       (record { size = g .size; within = g .within; beyond = g .beyond; tells = more (g .start) (g .leads) (g .text) x (omega (arith, h .0)) })
@@ -118,7 +125,7 @@ module _ {j : Bytes} {from : Checkpoint} {p₀ q₀ old : Bytes} {o : Sizes} {ba
         beyond = v .beyond ∙ past old out used k _ (g .beyond) (v .end);
         tells = finished (g .start) (g .leads) x (v .before ∙ ap (λ (l : Bytes). l ++ lastLines (there .counts) e) (g .text));
       })
-  finish e out' NoRoom r x w f = no-room _ out' r (theEnd x) w f
+  finish e out' NoRoom r x w f = no-room _ out' NoRoom r (theEnd x) w refl f
 
   -- ---- a step
 
@@ -159,54 +166,118 @@ module _ {j : Bytes} {from : Checkpoint} {p₀ q₀ old : Bytes} {o : Sizes} {ba
           beyond = v .beyond ∙ past old out used e _ (g .beyond) (v .end);
         }
 
-    -- the indices where the call finds its core and its line, and its effect there
-    module _
-        {w : About} {v c l : ℕ} {d : Effect} (ew : w ≡ about call) (fv : Found (namedLine (w .line)) (o .lines) mostLines v)
-        (fc : Found (theCore (w .core) (lineAt (there .state) v .manager)) (o .cores) mostCores c)
-        (fl : Found (theLine (w .line) (coreAt (there .state) c .slot)) (o .lines) mostLines l)
-        (ed : d ≡ effectWith n call (piecesAt (there .state) c l) o) where
-      finds : Finds m call v c l
-      finds = record { named = rw (g .opening, ← ew) (fv .is); core = rw (g .opening, ← ew) (fc .is); line = rw (g .opening, ← ew) (fl .is) }
+-- ---- a step, from what its parts ensure
 
-      effect-is : d ≡ made m call bs n input v c l finds
-      effect-is = rw (g .opening) ed
+pub step-due :
+    {j : Bytes} {at form base : ℕ} {o : Sizes} {buf : Bytes} {u : Due} {call : Call} {n count next : ℕ} → DueAt j at form base o buf u
+    → u ≡ Step call n count next → StepDue j at form base o buf call n count next
+step-due {j} {at} {form} {base} {o} {buf} {call = call} {n} {count} {next} (isStep {call = call'} {n = n'} {count = count'} {next = next'} x) e =
+    let ec : call' ≡ call = cc in
+    let en : n' ≡ n = cc in
+    let ek : count' ≡ count = cc in
+    let ex : next' ≡ next = cc in
+    rw (← ec, ← en, ← ek, ← ex) x
+step-due (isEnd x h) e = absurd (let z : _≡_ {A = ℕ} 0 1 = cc in omega arith)
 
-      -- the bytes beside the answer lie in the private buffer
-      pub shows : Shows (d .answer) o c l (length p)
-      shows = rw (effect-is, ← g .opening) (is-inside m call bs n input v c l finds _ refl)
+pub end-due :
+    {j : Bytes} {at form base : ℕ} {o : Sizes} {buf : Bytes} {u : Due} {w : Last} → DueAt j at form base o buf u → u ≡ AtLast w
+    → EndsAt j form at (endingOf w) × Numbered w
+end-due (isStep x) e = absurd (let z : _≡_ {A = ℕ} 0 1 = cc in omega arith)
+end-due {j} {at} {form} {w = w} (isEnd {w = w'} x h) e = let ew : w' ≡ w = cc in rw (← ew) (x, h)
 
-      -- the line that is put is the reply's; the bytes are lent as the part of the buffer from 0 on
-      abbrev Puts : Bytes → Counts → Put → Type 0
-      Puts out' k r =
-          PutAt out used (recordText (place (k .steps)) (meaning (d .answer) (actBytes (w .act) (take (count - 0) buf) (shown (d .answer) o p c l)))) out' r
+-- a step that is due: the indices v, c and l where the call finds its core and its line, its effect d there, and the counts k with its answer
+pub record Made (j : Bytes) (from : Checkpoint) (p₀ q₀ old : Bytes) : Type 0 where
+  pub o : Sizes
+  pub base : ℕ
+  pub p : Bytes
+  pub q : Bytes
+  pub out : Bytes
+  pub there : Checkpoint
+  pub used : ℕ
+  pub buf : Bytes
+  pub call : Call
+  pub n : ℕ
+  pub count : ℕ
+  pub next : ℕ
+  pub w : About
+  pub v : ℕ
+  pub c : ℕ
+  pub l : ℕ
+  pub d : Effect
+  pub k : Counts
+  pub reached : Reached j from p₀ q₀ old o base p q out there used
+  pub due : StepDue j (there .at) (there .form) base o buf call n count next
+  pub about : w ≡ about call
+  pub named : Found (namedLine (w .line)) (o .lines) mostLines v
+  pub core : Found (theCore (w .core) (lineAt (there .state) v .manager)) (o .cores) mostCores c
+  pub line : Found (theLine (w .line) (coreAt (there .state) c .slot)) (o .lines) mostLines l
+  pub effect : d ≡ effectWith n call (piecesAt (there .state) c l) o
+  pub counts : k ≡ plus (there .counts) (countsOf call (meaning (d .answer) []))
 
-      replied-here : meaning (d .answer) (actBytes (w .act) (take (count - 0) buf) (shown (d .answer) o p c l)) ≡ reply
-      replied-here =
-          let z : count - 0 ≡ count = omega arith in
-          rw (z, effect-is, ew, ← g .opening) (replied m call bs n input v c l finds)
+module _ {j : Bytes} {from : Checkpoint} {p₀ q₀ old : Bytes} (s : Made j from p₀ q₀ old) where
+  abbrev given-bytes : Bytes
+  given-bytes = take (s .count) (s .buf)
 
-      machine-is : (p' q' : Bytes) → Moves (d .moves) o c l (take (count - 0) buf) p q p' q' → machine (written (there .state) c l d) p' q' ≡ step m call bs .machine
-      unfolding accepted applied
-      machine-is p' q' b =
-          let z : count - 0 ≡ count = omega arith in
-          let i = is-moved m call bs n input v c l finds p' q' (rw (z, effect-is, ← g .opening) at b) in
-          rw (effect-is, i .0, i .1) (sym (ap (λ (x : Outcome). x .machine) (is-step m call bs n input v c l finds)))
+  abbrev here : Machine
+  here = machine (s .there .state) (s .p) (s .q)
 
-      module _ {k : Counts} (ek : k ≡ plus (there .counts) (countsOf call (meaning (d .answer) []))) where
-        counted : k ≡ plus (there .counts) (countsOf call reply)
-        counted = ek ∙ ap (plus (there .counts)) (same-counts call (d .answer) [] _ ∙ ap (countsOf call) replied-here)
+  abbrev outcome : Outcome
+  outcome = step here (s .call) given-bytes
 
-        place-is : k .steps ≡ there .counts .steps + 1
-        place-is = ap (λ (x : Counts). x .steps) counted ∙ ap (λ (i : ℕ). there .counts .steps + i) (one-step call reply)
+  number-is : s .n ≡ inputRefusal here (s .call) (length given-bytes)
+  number-is = input (s .reached) (s .due)
 
-        -- there is no room for it
-        pub step-short : (out' : Bytes) (r : Played) → Puts out' k NoRoom → r ≡ playedBy NoRoom used there → Plays j from p₀ q₀ old p q out' r
-        step-short out' r y e = no-room _ out' r (aStep (x .line) (x .bytes .spelt)) (rw (place-is, replied-here) at y) e
+  finds : Finds here (s .call) (s .v) (s .c) (s .l)
+  finds =
+      let o = s .reached .opening in
+      let w = s .about in
+      record { named = rw (o, ← w) (s .named .is); core = rw (o, ← w) (s .core .is); line = rw (o, ← w) (s .line .is) }
 
-        -- it was put, and the effect is written back
-        pub step-made :
-            (p' q' out' : Bytes) (e : ℕ) → Puts out' k (PutEnd e) → Moves (d .moves) o c l (take (count - 0) buf) p q p' q' → length p' ≡ length p
-            → length q' ≡ length q → Reached j from p₀ q₀ old o base p' q' out' (checkpointAt next (there .form) k (written (there .state) c l d)) e
-        step-made p' q' out' e y b lp lq =
-            stepped (written (there .state) c l d) p' q' out' e k (machine-is p' q' b) (g .opening) lp lq counted
-            (put-written (rw (place-is, replied-here) at y) refl)
+  effect-is : s .d ≡ made here (s .call) given-bytes (s .n) number-is (s .v) (s .c) (s .l) finds
+  effect-is = rw (s .reached .opening) (s .effect)
+
+  -- the bytes beside the answer lie in the private buffer
+  pub shows : Shows (s .d .answer) (s .o) (s .c) (s .l) (length (s .p))
+  shows = rw (effect-is, ← s .reached .opening) (is-inside here (s .call) given-bytes (s .n) number-is (s .v) (s .c) (s .l) finds _ refl)
+
+  -- the line that is put is the reply's; the bytes are lent as the part of the buffer from 0 on
+  abbrev answer-is : Reply
+  answer-is =
+      meaning (s .d .answer) (actBytes (s .w .act) (take (s .count - 0) (s .buf)) (shown (s .d .answer) (s .o) (s .p) (s .c) (s .l)))
+
+  reply-is : answer-is ≡ outcome .reply
+  reply-is =
+      let z : s .count - 0 ≡ s .count = omega arith in
+      rw (z, effect-is, s .about, ← s .reached .opening) (replied here (s .call) given-bytes (s .n) number-is (s .v) (s .c) (s .l) finds)
+
+  counts-are : s .k ≡ plus (s .there .counts) (countsOf (s .call) (outcome .reply))
+  counts-are = s .counts ∙ ap (plus (s .there .counts)) (same-counts (s .call) (s .d .answer) [] _ ∙ ap (countsOf (s .call)) reply-is)
+
+  place-is : s .k .steps ≡ s .there .counts .steps + 1
+  place-is = ap (λ (x : Counts). x .steps) counts-are ∙ ap (λ (i : ℕ). s .there .counts .steps + i) (one-step (s .call) (outcome .reply))
+
+  -- there is no room for it
+  pub step-short :
+      (out' : Bytes) (put : Put) (r : Played) → PutAt (s .out) (s .used) (recordText (place (s .k .steps)) answer-is) out' put → put ≡ NoRoom
+      → r ≡ playedBy NoRoom (s .used) (s .there) → Plays j from p₀ q₀ old (s .p) (s .q) out' r
+  step-short out' put r y z e = no-room (s .reached) _ out' put r (aStep (s .due .line) (s .due .bytes .spelt)) (rw (place-is, reply-is) at y) z e
+
+  machine-is :
+      (p' q' : Bytes) → Moves (s .d .moves) (s .o) (s .c) (s .l) (take (s .count - 0) (s .buf)) (s .p) (s .q) p' q'
+      → machine (written (s .there .state) (s .c) (s .l) (s .d)) p' q' ≡ outcome .machine
+  unfolding accepted applied
+  machine-is p' q' b =
+      let z : s .count - 0 ≡ s .count = omega arith in
+      let i = is-moved here (s .call) given-bytes (s .n) number-is (s .v) (s .c) (s .l) finds p' q' (rw (z, effect-is, ← s .reached .opening) at b) in
+      rw (effect-is, i .0, i .1) (sym (ap (λ (x : Outcome). x .machine) (is-step here (s .call) given-bytes (s .n) number-is (s .v) (s .c) (s .l) finds)))
+
+  -- it was put, and the effect is written back
+  pub step-made :
+      (p' q' out' : Bytes) (put : Put) (e : ℕ) → PutAt (s .out) (s .used) (recordText (place (s .k .steps)) answer-is) out' put → put ≡ PutEnd e
+      → Moves (s .d .moves) (s .o) (s .c) (s .l) (take (s .count - 0) (s .buf)) (s .p) (s .q) p' q' → length p' ≡ length (s .p)
+      → length q' ≡ length (s .q)
+      → Reached j from p₀ q₀ old (s .o) (s .base) p' q' out'
+      (checkpointAt (s .next) (s .there .form) (s .k) (written (s .there .state) (s .c) (s .l) (s .d))) e
+  step-made p' q' out' put e y z b lp lq =
+      stepped (s .reached) (s .due) (written (s .there .state) (s .c) (s .l) (s .d)) p' q' out' e (s .k) (machine-is p' q' b) (s .reached .opening) lp lq
+      counts-are (put-written (rw (place-is, reply-is) at y) z)

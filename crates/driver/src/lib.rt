@@ -170,7 +170,7 @@ pub fn play(
                 let copy = cell.copy;
                 let d = tables::effect(number, call, k, copy, line, opening);
                 let answer = d.answer;
-                let met = one_line::plus(counts, Counts::of(call, answer));
+                let met = one_line::met(counts, call, answer);
                 let place = met.steps;
                 match one_line::put_answer(
                     out,

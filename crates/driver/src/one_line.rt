@@ -2,9 +2,10 @@
 // `requires` says what the loop knows where it calls it.
 ghost use mathlib.Core.Path.{_≡_};
 ghost use mathlib.Core.Bool.{true};
+ghost use mathlib.Core.List.{[]};
 ghost use Prim.Native.Nat.{_-_, _≤_, _<_};
 ghost use lib.ListN.{length};
-ghost use Rattle.protocol.specs.{Buffers.part, Refusals.callRefusal, Refusals.orElse, Run.place, Counts.plus};
+ghost use Rattle.protocol.specs.{Buffers.part, Refusals.callRefusal, Refusals.orElse, Run.place, Counts.countsOf, Counts.plus};
 ghost use Rattle.protocol.specs.Step.{done, meaning, actBytes};
 ghost use Rattle.spelling.specs.Over.{PutAt};
 ghost use Rattle.listing.specs.Record.{recordText};
@@ -93,7 +94,7 @@ pub(crate) fn due(
 }
 
 // The counts with so many more.
-pub(crate) fn plus(counts: Counts, more: Counts) -> Counts
+fn plus(counts: Counts, more: Counts) -> Counts
     requires { ⌜ (few counts 9223372036854775807 ≡ true) × (few more 1 ≡ true) ⌝ }
     ensures { λ r. ⌜ r ≡ plus counts more ⌝ }
 {
@@ -102,6 +103,14 @@ pub(crate) fn plus(counts: Counts, more: Counts) -> Counts
         commits: counts.commits + more.commits,
         refusals: counts.refusals + more.refusals,
     }
+}
+
+// The counts with a call and its answer.
+pub(crate) fn met(counts: Counts, call: Call, answer: Answer) -> Counts
+    requires { ⌜ few counts 9223372036854775807 ≡ true ⌝ }
+    ensures { λ r. ⌜ r ≡ plus counts (countsOf call (meaning answer [])) ⌝ }
+{
+    plus(counts, Counts::of(call, answer))
 }
 
 // Whether a call stores.

@@ -1,0 +1,222 @@
+-- `driver::play` meets its contract. The loop's invariant: the lengths of both buffers stay, and `Reached`. The measure is what is left of the
+-- journal. A step is one fact, `made`, at the place where its counts are known; what comes later goes by it. Assumes nothing.
+use Prim.Native.Nat.{_-_, _≤_, _<_}
+use mathlib.Core.Path.{_≡_, refl, sym, _∙_}
+use native.Mathlib.Omega.{arith}
+use lib.ListN.{length}
+use borrow.Author.Needs.{needs}
+use borrow.Author.Tests.{not-true, not-false}
+use Rattle.driver.specs.Play.{unfit}
+use Rattle.driver.specs.Pieces.{checkpointAt}
+use Rattle.driver.proofs.Stepping.{looked-over}
+use Rattle.driver.proofs.Loop.{Reached, reached-start, room-for, finish, step-due, end-due, Made, shows, step-short, step-made}
+use Rattle.driver.proofs.play.Statement.{statement}
+use Rattle.driver.proofs.play.Tie as tie
+
+abbrev Inv-loop : tie.InvT-loop
+Inv-loop journal private₀ shared₀ out₀ form at₀ counts₀ s₀ used₀ opening base private shared out at counts s used =
+    (length private ≡ length private₀)
+    × (length shared ≡ length shared₀)
+    × Reached journal (checkpointAt at₀ form counts₀ s₀) private₀ shared₀ out₀ opening base private shared out (checkpointAt at form counts s) used
+
+abbrev μ-loop : tie.MeasureT-loop
+μ-loop journal private₀ shared₀ out₀ form at₀ counts₀ s₀ used₀ opening base private shared out at counts s used = length journal - at
+
+-- ---- the places of the loop, each from a later one
+
+abbrev at-start : tie.At-loop Inv-loop μ-loop → tie.Start Inv-loop μ-loop
+at-start c =
+    let r = c .before .before .before .before .before .before .before in
+    r .before .before .before .before .before .before
+
+abbrev at-head : tie.After-due Inv-loop μ-loop → tie.At-loop Inv-loop μ-loop
+at-head c = c .before .before
+
+abbrev at-last : tie.After-put-last Inv-loop μ-loop → tie.After-due Inv-loop μ-loop
+at-last c = c .before .before .before .before .before
+
+abbrev at-step : tie.After-about Inv-loop μ-loop → tie.After-due Inv-loop μ-loop
+at-step c = c .before .before .before .before
+
+abbrev at-line : tie.After-met Inv-loop μ-loop → tie.After-line-of Inv-loop μ-loop
+at-line c = c .before .before .before .before
+
+abbrev at-about : tie.After-line-of Inv-loop μ-loop → tie.After-about Inv-loop μ-loop
+at-about c = c .before .before .before .before .before
+
+abbrev at-met : tie.After-put-answer Inv-loop μ-loop → tie.After-met Inv-loop μ-loop
+at-met c = c .before .before .before .before .before
+
+abbrev at-put : tie.After-e Inv-loop μ-loop → tie.After-put-answer Inv-loop μ-loop
+at-put c = c .before .before .before .before
+
+abbrev at-e : tie.After-slice-known7 Inv-loop μ-loop → tie.After-e Inv-loop μ-loop
+at-e c =
+    let m = c .before .before .before .before in
+    let s = m .before .before .before .before .before in
+    s .before .before .before
+
+-- the journal is no longer than a slice can be
+short : (c : tie.At-loop Inv-loop μ-loop) → length (at-start c .args .journal .now) ≤ 9223372036854775807
+short c = omega (arith, at-start c .good .0 .1)
+
+-- ---- a step
+
+-- the indices lie in the arrays
+low : (c : tie.After-line-of Inv-loop μ-loop) → (c .before .before .core-of .result < 16) × (c .line-of .result < 64)
+low c = (c .before .before .core-of .ensures .low, c .line-of .ensures .low)
+
+abbrev made : (c : tie.After-met Inv-loop μ-loop) → let a = at-start (at-head (at-step (at-about (at-line c)))) .args in Made (a .journal .now) (a .from) (a .private .now) (a .shared .now) (a .out .now)
+made c =
+    let l = at-line c in
+    let k = l .before .before in
+    let b = at-about l in
+    let u = at-step b in
+    record {
+      o = _;
+      base = _;
+      p = _;
+      q = _;
+      out = _;
+      there = _;
+      used = _;
+      buf = _;
+      call = _;
+      n = _;
+      count = _;
+      next = _;
+      w = _;
+      v = _;
+      c = _;
+      l = _;
+      d = _;
+      k = _;
+      reached = at-head u .loop .inv .2;
+      due = step-due (u .due .ensures) (b .before .before .call .given .1);
+      about = b .about .ensures;
+      named = k .before .before .named-line .ensures;
+      core = k .core-of .ensures;
+      line = l .line-of .ensures;
+      effect = c .before .effect .ensures;
+      counts = c .met .ensures;
+    }
+
+-- ---- the loop begins
+
+returns : tie.Need-returns Inv-loop μ-loop
+returns c =
+    record { size = refl; within = omega arith; beyond = refl; tells = unfit (sym (c .before .resumable .ensures) ∙ not-true _ (c .if1 .taken)) refl refl refl refl }
+
+loop-holds : tie.Need-loop-holds Inv-loop μ-loop
+loop-holds c =
+    let r = c .before .before .before .before .before .before .before in
+    let e = sym (r .resumable .ensures) ∙ not-false _ (c .before .before .before .before .before .before .if1 .left) in
+    let a = r .before .before .before .before .before .args in
+    (refl, refl, reached-start (a .journal .now) (a .from) (a .private .now) (a .shared .now) (a .out .now) _ e (looked-over (a .from .state) (a .private .now) (a .shared .now) _ (c .machine-refusal .ensures)))
+
+-- ---- the last lines
+
+put-last-requires : tie.Need-put-last-requires Inv-loop μ-loop
+put-last-requires c κs =
+    let u = c .before .before .before .before in
+    let h = at-head u in
+    (room-for (h .loop .inv .2) _ (short h), end-due (u .due .ensures) (c .before .before .last .given .1) .1)
+
+returns-2 : tie.Need-returns-2 Inv-loop μ-loop
+returns-2 c =
+    let p = c .before .before .before in
+    let u = at-last p in
+    finish (at-head u .loop .inv .2) _ _ _ _ (end-due (u .due .ensures) (p .before .before .before .last .given .1) .0) (p .put-last .ensures) (c .played .ensures)
+
+-- ---- a step
+
+met-requires : tie.Need-met-requires Inv-loop μ-loop
+met-requires c κs = let h = at-head (at-step (at-about (c .before .before .before))) in room-for (h .loop .inv .2) _ (short h)
+
+part-put-answer-end : tie.Need-part-put-answer-end Inv-loop μ-loop
+part-put-answer-end c = made (c .before .before) .due .bytes .fits
+
+put-answer-requires : tie.Need-put-answer-requires Inv-loop μ-loop
+put-answer-requires c κs = shows (made (c .before .before .before .before))
+
+returns-3 : tie.Need-returns-3 Inv-loop μ-loop
+returns-3 c =
+    let p = c .before .before .before .before .before in
+    step-short (made (at-met p)) _ _ _ (p .put-answer .ensures) (c .before .enum-told .given .1) (c .played2 .ensures)
+
+part-move-bytes-end : tie.Need-part-move-bytes-end Inv-loop μ-loop
+part-move-bytes-end c = made (at-met (at-put (c .before .before .before .before .before .before))) .due .bytes .fits
+
+loop-less : tie.Need-loop-less Inv-loop μ-loop
+loop-less c =
+    let d = made (at-met (at-put (at-e c))) .due in
+    omega (arith, d .forward, d .inside)
+
+loop-again : tie.Need-loop-again Inv-loop μ-loop
+loop-again c =
+    let e = at-e c in
+    let p = at-put e in
+    let m = at-met p in
+    let i = at-head (at-step (at-about (at-line m))) .loop .inv in
+    let lp = c .before .before .before .private .given in
+    let lq = c .before .shared .given in
+    (lp ∙ i .0, lq ∙ i .1, step-made (made m) _ _ _ _ _ (p .put-answer .ensures) (e .e .given .1) (c .before .before .before .before .move-bytes .ensures) lp lq)
+
+pub play-spec : {M : Type 1} → statement M
+play-spec =
+    tie.close
+    (tie.spec
+    Inv-loop
+    μ-loop
+    (λ c κs. search needs)
+    returns
+    (λ c κs. search needs)
+    loop-holds
+    (λ c κs. c .before .loop .inv .2 .named)
+    (λ c. search needs)
+    put-last-requires
+    (λ c κs. search needs)
+    (λ c. at-head (at-last (c .before .before .before)) .loop .inv .0)
+    (λ c. at-head (at-last (c .before .before .before)) .loop .inv .1)
+    (λ c. c .before .before .out .given ∙ at-head (at-last (c .before .before .before)) .loop .inv .2 .size)
+    returns-2
+    (λ c. search needs)
+    (λ c κs. search needs)
+    (λ c κs. search needs)
+    (λ c. search needs)
+    (λ c. search needs)
+    (λ c κs. search needs)
+    (λ c. search needs)
+    (λ c. search needs)
+    (λ c κs. search needs)
+    (λ c. let a = low (c) in omega arith)
+    (λ c. let a = low (c) in omega arith)
+    (λ c. let a = low (c) in omega arith)
+    (λ c. let a = low (c) in omega arith)
+    (λ c. let a = low (c .before) in omega arith)
+    (λ c. let a = low (c .before) in omega arith)
+    (λ c κs. search needs)
+    met-requires
+    (λ c. search needs)
+    (λ c. search needs)
+    part-put-answer-end
+    put-answer-requires
+    (λ c. search needs)
+    (λ c κs. search needs)
+    (λ c. at-head (at-step (at-about (at-line (at-met (c .before .before .before .before .before))))) .loop .inv .0)
+    (λ c. at-head (at-step (at-about (at-line (at-met (c .before .before .before .before .before))))) .loop .inv .1)
+    (λ c. c .before .before .before .before .out2 .given ∙ at-head (at-step (at-about (at-line (at-met (c .before .before .before .before .before))))) .loop .inv .2 .size)
+    returns-3
+    (λ c. search needs)
+    (λ c. let a = low (at-line (at-met (at-put (c .before .before .before)))) in omega arith)
+    (λ c. let a = low (at-line (at-met (at-put (c .before .before .before)))) in omega arith)
+    (λ c. let a = low (at-line (at-met (at-put (c .before .before .before)))) in omega arith)
+    (λ c. let a = low (at-line (at-met (at-put (c .before .before .before)))) in omega arith)
+    (λ c. let a = low (at-line (at-met (at-put (c .before .before .before)))) in omega arith)
+    (λ c. let a = low (at-line (at-met (at-put (c .before .before .before)))) in omega arith)
+    (λ c. search needs)
+    (λ c. search needs)
+    part-move-bytes-end
+    (λ c κs. search needs)
+    loop-less
+    loop-again)
