@@ -11,7 +11,7 @@ use Rattle.protocol.specs.Refusals.{stateFits, machineRefusal}
 use Rattle.protocol.specs.Step.{accepted}
 use Rattle.protocol.specs.declared.{State.State, Call.Call}
 use Rattle.refusals.specs.Input.{machineWith, inputRefusal}
-use Rattle.places.specs.Kept.{placeFits}
+use Rattle.buffers.specs.Moves.{placeFits}
 use Rattle.tables.specs.declared.Span.{Span}
 use Rattle.tables.proofs.Making.{Finds, is-step, is-moved, is-reply, is-span}
 use Rattle.engine.specs.declared.{Made.Made, Done.Done}

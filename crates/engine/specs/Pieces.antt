@@ -5,8 +5,8 @@ use Rattle.protocol.specs.Pick.{pick}
 use Rattle.protocol.specs.Buffers.{Bytes, copyStart}
 use Rattle.protocol.specs.Machine.{Pieces}
 use Rattle.protocol.specs.declared.{Core.Core, Cell.Cell, Line.Line, Opening.Opening, Call.Call, Effect.Effect}
-use Rattle.places.specs.Kept.{placeFits}
-use Rattle.places.specs.Moves.{Moves}
+use Rattle.buffers.specs.Moves.{placeFits}
+use Rattle.buffers.specs.Moves.{Moves}
 use Rattle.tables.specs.declared.Span.{Span}
 use Rattle.tables.specs.Found.{effectWith}
 use Rattle.tables.specs.Spans.{spanOf}

@@ -66,9 +66,9 @@ fn on_pieces(
     let next_core = d.core;
     let next_copy = d.copy;
     let next_line = d.line;
-    let start = places::copy_start(opening, core, line);
+    let start = buffers::copy_start(opening, core, line);
     let b = tables::span_of(answer, start, opening.width);
-    places::move_bytes(moves, opening, private, shared, core, line, given);
+    buffers::move_bytes(moves, opening, private, shared, core, line, given);
     Made {
         answer,
         start: b.start,
@@ -263,10 +263,10 @@ pub fn show<'a>(s: State, private: &'a [u8], shared: &'a [u8], core: usize, line
     let e = s.cell[i];
     let copy = e.copy;
     if is_held(copy) {
-        let start = places::copy_start(opening, core, line);
+        let start = buffers::copy_start(opening, core, line);
         return part(private, start, width);
     }
-    let start = places::manager_start(opening, core, line);
+    let start = buffers::manager_start(opening, core, line);
     part(shared, start, width)
 }
 

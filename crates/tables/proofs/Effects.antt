@@ -37,7 +37,7 @@ use Rattle.protocol.specs.declared.Effect.{Effect}
 use Rattle.protocol.proofs.Bytes.{part-same}
 use Rattle.protocol.proofs.Refusals.{or-none, Fit, named, store-width}
 use Rattle.refusals.specs.Input.{inputRefusal}
-use Rattle.places.specs.Moves.{givenFits, moveFits}
+use Rattle.buffers.specs.Moves.{givenFits, moveFits}
 use Rattle.tables.specs.Spans.{spanOf}
 
 -- ---- step

@@ -23,9 +23,9 @@ use Rattle.protocol.specs.declared.Kind.the-variants.{Load, Store, Fence}
 use Rattle.protocol.proofs.Places.{copy-ends, Inside, inside}
 use Rattle.protocol.proofs.Refusals.{or-none, Fit, machine-fit, named, named-inside, placed}
 use Rattle.refusals.specs.Input.{inputRefusal}
-use Rattle.places.specs.Kept.{placeFits}
-use Rattle.places.specs.Moves.{moveFits, Moves}
-use Rattle.places.proofs.Places.{placed-place, place-start}
+use Rattle.buffers.specs.Moves.{placeFits}
+use Rattle.buffers.specs.Moves.{moveFits, Moves}
+use Rattle.buffers.proofs.Laws.{placed-place, place-start}
 use Rattle.tables.specs.Found.{foundAt, Found, effectWith}
 use Rattle.tables.specs.Spans.{spanOf}
 use Rattle.tables.proofs.Effects.{step-refused, row-refused, step-accepted, Sound, effect-sound, effect-moves}
