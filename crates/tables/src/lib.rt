@@ -39,12 +39,12 @@ fn row(call: Call, core: Core, copy: Copy, line: Line, opening: Opening) -> Effe
         Call::Load { core: c, line: l } => core_rows::load(c, l, core, copy, line),
         Call::Store { core: c, line: l } => core_rows::store(c, l, core, copy, line),
         Call::Fence { core: c } => core_rows::fence(c, core, copy, line),
-        Call::Evict { .. } => writeback_rows::evict(core, copy, line),
+        Call::Evict { .. } => transfer_rows::evict(core, copy, line),
         Call::Advance { by, .. } => core_rows::advance(by, core, copy, line),
-        Call::Serve { core: c } => request_rows::serve(c, core, copy, line, opening),
-        Call::Receive { .. } => request_rows::receive(core, copy, line),
-        Call::Yield { .. } => writeback_rows::yield_line(core, copy, line),
-        Call::Take { .. } => writeback_rows::take(core, copy, line),
+        Call::Serve { core: c } => transfer_rows::serve(c, core, copy, line, opening),
+        Call::Receive { .. } => transfer_rows::receive(core, copy, line),
+        Call::Yield { .. } => transfer_rows::yield_line(core, copy, line),
+        Call::Take { .. } => transfer_rows::take(core, copy, line),
     }
 }
 
