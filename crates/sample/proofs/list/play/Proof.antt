@@ -4,8 +4,8 @@ use mathlib.Core.Path.{_≡_}
 use native.Mathlib.Omega.{arith}
 use borrow.Author.Needs.{needs}
 use lib.ListN.{length}
-use Rattle.moves.proofs.play.Statement.{statement}
-use Rattle.moves.proofs.play.Tie as tie
+use Rattle.sample.proofs.list.play.Statement.{statement}
+use Rattle.sample.proofs.list.play.Tie as tie
 
 abbrev Inv-loop : tie.InvT-loop
 Inv-loop list private₀ shared₀ d₀ at₀ n₀ private shared d at n =

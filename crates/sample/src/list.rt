@@ -1,85 +1,32 @@
-// Bytes move at every place where they can, and each refusal of an opening or a call, 1 to 7 and 20 to
-// 27, is met once. Three cores, two lines, a width of two bytes, a lease of 2.
+// A list of calls by `step`: bytes move at every place where they can, and each refusal of an opening or
+// a call, 1 to 7 and 20 to 27, is met once. Three cores, two lines, a width of two bytes, a lease of 2.
 //
 // A list has five bytes for each call: its kind, a digit for the core, a digit for the line, one byte
 // more, and a blank. The kinds are L load, S store (the byte and a `-`), s store of no bytes,
 // F fence, E evict, A advance (by the digit), M advance by the greatest number, V serve, R receive,
 // Y yield and T take. The core and the line say besides what is shown.
+use super::print;
 use engine::Done;
-use libc::STDOUT_FILENO;
-use protocol::Answer;
+use protocol::Call;
 use protocol::Opening;
-use protocol::Place;
 use protocol::State;
-use spelling::Put;
 
-// Writes what was put at the start of a buffer.
-fn write(out: &[u8], put: Put) {
-    match put {
-        Put::End(end) => {
-            if end <= out.len() {
-                io::write_all(STDOUT_FILENO, &out[0..end]);
-            }
-        }
-        Put::Short => {}
-    }
-}
-
-// Prints the record of an answer, the n-th, with the bytes of its commit.
-fn print_record(n: u64, answer: Answer, bytes: &[u8]) {
-    let mut out = [0u8; 256];
-    let record = listing::put_record(&mut out, 0, Place(n), answer, bytes);
-    write(&out, record);
-}
-
-// Prints bytes of a line, under its core and its number.
-fn print_shown(core: usize, line: usize, bytes: &[u8]) {
-    io::write_all(STDOUT_FILENO, b"shown core=");
-    io::print_decimal(STDOUT_FILENO, core as u64);
-    io::write_all(STDOUT_FILENO, b" line=");
-    io::print_decimal(STDOUT_FILENO, line as u64);
-    let mut out = [0u8; 256];
-    let data = listing::put_with_data(&mut out, 0, b" data=", bytes);
-    write(&out, data);
-}
-
-// Prints the record of the n-th call, and a line as a core sees it.
-fn print<'a>(n: u64, d: Done, private: &'a [u8], shared: &'a [u8], core: usize, line: usize) {
-    let answer = d.answer;
-    let start = d.start;
-    let count = d.count;
-    print_record(n, answer, engine::commit_bytes(private, start, count));
-    print_shown(
-        core,
-        line,
-        engine::show(d.state, private, shared, core, line),
-    );
-}
-
-// Makes one call.
-fn make(
-    d: Done,
-    private: &mut [u8],
-    shared: &mut [u8],
-    kind: u8,
-    core: usize,
-    line: usize,
-    by: u32,
-    given: &[u8],
-) -> Done {
+// The call of a kind; a take where the kind is none.
+fn call_of(kind: u8, core: usize, line: usize, by: u32) -> Call {
     match kind {
-        b'L' => engine::load(d.state, private, shared, core, line),
-        b'S' => engine::store(d.state, private, shared, core, line, given),
-        b's' => engine::store(d.state, private, shared, core, line, b""),
-        b'F' => engine::fence(d.state, private, shared, core),
-        b'E' => engine::evict(d.state, private, shared, core, line),
-        b'A' => engine::advance(d.state, private, shared, core, by),
-        b'M' => engine::advance(d.state, private, shared, core, 4294967295),
-        b'V' => engine::serve(d.state, private, shared, core),
-        b'R' => engine::receive(d.state, private, shared, core),
-        b'Y' => engine::yield_line(d.state, private, shared, line),
-        b'T' => engine::take(d.state, private, shared, line),
-        _ => d,
+        b'L' => Call::Load { core, line },
+        b'S' | b's' => Call::Store { core, line },
+        b'F' => Call::Fence { core },
+        b'E' => Call::Evict { core, line },
+        b'A' => Call::Advance { core, by },
+        b'M' => Call::Advance {
+            core,
+            by: 4294967295,
+        },
+        b'V' => Call::Serve { core },
+        b'R' => Call::Receive { core },
+        b'Y' => Call::Yield { line },
+        _ => Call::Take { line },
     }
 }
 
@@ -100,7 +47,7 @@ fn play(list: &[u8]) {
     });
     let answer = o.answer;
     let state = o.state;
-    print_record(0, answer, b"");
+    print::record(0, answer, b"");
     let mut d = Done {
         answer,
         start: 0,
@@ -119,8 +66,10 @@ fn play(list: &[u8]) {
         let value = list[at + 3];
         let by = (value % 16) as u32;
         let given = [value, b'-'];
-        d = make(d, &mut private, &mut shared, kind, core, line, by, &given);
-        print(n, d, &private, &shared, core, line);
+        let count = if kind == b's' { 0 } else { 2 };
+        let call = call_of(kind, core, line, by);
+        d = engine::step(d.state, &mut private, &mut shared, call, &given[0..count]);
+        print::call(n, d, &private, &shared, core, line);
         at += 5;
         n += 1;
     }
@@ -135,7 +84,7 @@ fn play(list: &[u8]) {
 // yields it by a flush, and the manager takes it; core 1 owns it, stores and evicts it, and the
 // manager takes it. On the way 23.
 // Calls 51 to 54: core 2 owns line 1 and stores. Calls 55 to 59: 3, 4, 5, 6 and 27.
-fn main() {
+pub(crate) fn play_all() {
     play(
         b"L00. L01. R00. V00. V00. R00. L00. S10a V10. R10. S10a L00. A003 L00. V00. Y10. Y10. T20. \
           T20. V00. R00. L00. \
@@ -150,7 +99,7 @@ fn main() {
 // A load of line 0 by core 0, and what is shown then.
 fn load<'a>(n: u64, s: State, private: &'a mut [u8], shared: &'a mut [u8]) {
     let d = engine::load(s, private, shared, 0, 0);
-    print(n, d, private, shared, 0, 0);
+    print::call(n, d, private, shared, 0, 0);
 }
 
 // 7; and on the state that a refused opening hands back, 2 with a shared buffer that is too short,
@@ -164,7 +113,7 @@ fn outside() {
     });
     let answer = o.answer;
     let mut s = o.state;
-    print_record(0, answer, b"");
+    print::record(0, answer, b"");
     let mut private = [0u8; 1];
     let mut short = [0u8; 2];
     load(1, s, &mut private, &mut short);
