@@ -1,6 +1,6 @@
 -- Laws of a line that is built back to front, and of one text put after another. Assumes nothing.
 use Prim.Native.Nat.{ℕ, _+_, _-_, _*_, _≤_, _<_}
-use mathlib.Core.Path.{_≡_, sym, _∙_, ap, subst}
+use mathlib.Core.Path.{_≡_, _∙_, ap, subst}
 use mathlib.Core.List.{List, _++_, append-assoc, append-nil}
 use native.Mathlib.Omega.{arith}
 use lib.ListN.{length, take, drop, length-append, length-drop, drop-of-length-le}
@@ -14,11 +14,10 @@ use Rattle.spelling.specs.declared.Put.{Put}
 use Rattle.spelling.specs.declared.Put.the-variants.{End, Short}
 use Rattle.spelling.proofs.OverLaws.{over-from, over-length, over-append, before-place, before-laid, before-from, decimal-short, put-done, put-short}
 use Rattle.spelling.proofs.HexLaws.{hex-length}
-use Rattle.protocol.specs.declared.Place.{Place}
-use Rattle.protocol.specs.declared.Answer.{Answer}
-use Rattle.protocol.specs.Step.{Done, done, meaning}
-use Rattle.listing.specs.Record.{doneText, recordText}
-use Rattle.listing.specs.Back.{Room, Field, Tail}
+use Rattle.protocol.specs.declared.Name.{Name}
+use Rattle.protocol.specs.Step.{fence}
+use Rattle.listing.specs.Record.{nameText, doneText, commitText}
+use Rattle.listing.specs.Back.{Room, Field, Tail, names, Named, three, access}
 
 -- a text that was put where it fits
 module _ (old : List ℕ) (at : ℕ) (t new : List ℕ) (r : Put) (p : PutAt old at t new r) (h : at + length t ≤ length old) where
@@ -110,15 +109,30 @@ put-same {old} {at} {t} {u} {new} {r} e p = subst (λ (l : List ℕ). PutAt old 
 pub four : (a b c d e f g h t x y : List ℕ) → (a ++ (b ++ (c ++ (d ++ (e ++ (f ++ (g ++ (h ++ t)))))))) ++ x ++ y ≡ a ++ b ++ c ++ d ++ e ++ f ++ g ++ h ++ t ++ x ++ y
 four a b c d e f g h t x y = simp append-assoc
 
--- ---- the record of each answer
+-- ---- the records
 
--- the place, and one text that names what was done
-pub done-text : (p : Place) (d : Done) → text "n=" ++ decimal (p .0) ++ (text " done=" ++ doneText d ++ text "\n") ≡ recordText p (done d)
-unfolding recordText
-done-text p d = simp append-assoc
+-- the place, and the end that names what was done
+pub done-line :
+    {d : Name} {start stop : ℕ} {old : List ℕ} {end n : ℕ} {new : List ℕ} {r : ℕ} → Named d start stop → drop end old ≡ take (stop - start) (drop start names)
+    → Field old end (text "n=") n new r → take (128 - r) (drop r new) ≡ doneText n d
+done-line {d} {n = n} h e f = first f (e ∙ h .same) ∙ regroup (text "n=") (decimal n) (text " done=") (nameText d) (text "\n")
+  where
+    regroup : (a b c d e : List ℕ) → a ++ (b ++ (c ++ d ++ e)) ≡ a ++ b ++ c ++ d ++ e
+    regroup a b c d e = simp append-assoc
 
--- the text t of one case of an answer, where the answer is that case
-pub answered : {old : List ℕ} {at : ℕ} {t new : List ℕ} {r : Put} (p : Place) (bytes : List ℕ) {answer case : Answer} → answer ≡ case → t ≡ recordText p (meaning case bytes)
-    → PutAt old at t new r → PutAt old at (recordText p (meaning answer bytes)) new r
-answered {old} {at} {t} {new} {r} p bytes e s put =
-    subst (λ (l : List ℕ). PutAt old at l new r) (s ∙ ap (λ (a : Answer). recordText p (meaning a bytes)) (sym e)) put
+-- a load's or a store's record, from the text of its kind
+pub access-text :
+    (n c l t : ℕ) (kind bytes : List ℕ)
+    → access n (text " commit=" ++ kind ++ text " core=") c l t bytes
+    ≡ text "n=" ++ decimal n ++ text " commit=" ++ kind ++ text " core=" ++ decimal c ++ (text " line=" ++ decimal l) ++ text " ts=" ++ decimal t
+    ++ (text " data=" ++ hex bytes) ++ text "\n"
+access-text n c l t kind bytes =
+    regroup (text "n=") (decimal n) (text " commit=") kind (text " core=") (decimal c) (text " line=") (decimal l) (text " ts=") (decimal t)
+    (text " data=") (hex bytes) (text "\n")
+  where
+    regroup : (a b c d e f g h i j k l m : List ℕ)
+        → a ++ b ++ (c ++ d ++ e) ++ f ++ g ++ h ++ i ++ j ++ k ++ l ++ m ≡ a ++ b ++ c ++ d ++ e ++ f ++ (g ++ h) ++ i ++ j ++ (k ++ l) ++ m
+    regroup a b c d e f g h i j k l m = simp append-assoc
+
+pub fence-text : (n c t : ℕ) → three (text "n=") n (text " commit=fence core=") c (text " ts=") t ≡ commitText n c t fence
+fence-text n c t = simp append-assoc

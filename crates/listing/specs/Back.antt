@@ -1,9 +1,13 @@
--- A line of text that is built back to front, at the end of a buffer of 128 bytes. Assumes nothing.
-use Prim.Native.Nat.{ℕ, _+_, _≤_}
+-- A line of text that is built back to front, at the end of a buffer of 128 bytes. What it holds then. Assumes nothing.
+use Prim.Native.Nat.{ℕ, _+_, _-_, _≤_}
 use mathlib.Core.Path.{_≡_}
 use mathlib.Core.List.{List, _++_}
-use lib.ListN.{length, drop}
+use lib.ListN.{length, take, drop}
+use Rattle.spelling.specs.Text.{text}
 use Rattle.spelling.specs.Decimal.{decimal}
+use Rattle.spelling.specs.Hex.{hex}
+use Rattle.protocol.specs.declared.Name.{Name}
+use Rattle.listing.specs.Record.{nameText}
 
 -- a key and a number of twenty digits have room before a place
 abbrev pub Room : ℕ → List ℕ → Type 0
@@ -22,3 +26,23 @@ pub record Tail (t new : List ℕ) (r : ℕ) : Type 0 where
   pub text : drop r new ≡ t
   pub start : r + length t ≡ 128
   pub size : length new ≡ 128
+
+-- three keys with their numbers, and a newline
+abbrev pub three : List ℕ → ℕ → List ℕ → ℕ → List ℕ → ℕ → List ℕ
+three first x second y third z = first ++ decimal x ++ second ++ decimal y ++ third ++ decimal z ++ text "\n"
+
+-- the record of a load or a store, whose text before the core is `commit`
+abbrev pub access : ℕ → List ℕ → ℕ → ℕ → ℕ → List ℕ → List ℕ
+access n commit core line ts bytes =
+    text "n=" ++ decimal n ++ commit ++ decimal core ++ text " line=" ++ decimal line ++ text " ts=" ++ decimal ts ++ text " data=" ++ hex bytes
+    ++ text "\n"
+
+-- how the records end that name what was done, one end after the other
+abbrev pub names : List ℕ
+names =
+    text " done=open\n done=ask\n done=recall\n done=share\n done=renew\n done=own\n done=drop\n done=evict\n done=advance\n done=yield\n done=take\n"
+
+-- the end of the record that names it is the part of them from `start` up to `end`, and is short
+pub record Named (d : Name) (start end : ℕ) : Type 0 where
+  pub room : (start ≤ end) × (end ≤ 128) × (end ≤ start + 14)
+  pub same : take (end - start) (drop start names) ≡ text " done=" ++ nameText d ++ text "\n"

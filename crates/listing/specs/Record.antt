@@ -1,40 +1,63 @@
 -- What the program prints, byte for byte (01, "Journal and driver"): a record for each call, and the end line. Assumes nothing.
 use Prim.Native.Nat.{ℕ}
-use mathlib.Core.List.{List, _++_}
+use mathlib.Core.List.{List, [], _++_}
 use Rattle.spelling.specs.Text.{text}
 use Rattle.spelling.specs.Decimal.{decimal}
 use Rattle.spelling.specs.Hex.{hex}
-use Rattle.protocol.specs.declared.Place.{Place}
-use Rattle.protocol.specs.Step.{Done, «open», ask, recall, share, renew, own, dropped, evict, advance, yield, taken, load, store, fence, Reply, refused, done, commit}
+use Rattle.protocol.specs.declared.{Place.Place, Name.Name, Counts.Counts}
+use Rattle.protocol.specs.declared.Name.the-variants.{Open, Ask, Recall, Share, Renew, Own, Drop, Evict, Advance, Yield, Take}
+use Rattle.protocol.specs.Step.{Op, load, store, fence, Reply, refused, done, commit}
 
 -- "done is open, ask, recall, share, renew, own, drop, evict, advance, yield or take"
-abbrev pub doneText : Done → List ℕ
-doneText «open» = text "open"
-doneText ask = text "ask"
-doneText recall = text "recall"
-doneText share = text "share"
-doneText renew = text "renew"
-doneText own = text "own"
-doneText dropped = text "drop"
-doneText evict = text "evict"
-doneText advance = text "advance"
-doneText yield = text "yield"
-doneText taken = text "take"
+abbrev pub nameText : Name → List ℕ
+nameText Open = text "open"
+nameText Ask = text "ask"
+nameText Recall = text "recall"
+nameText Share = text "share"
+nameText Renew = text "renew"
+nameText Own = text "own"
+nameText Drop = text "drop"
+nameText Evict = text "evict"
+nameText Advance = text "advance"
+nameText Yield = text "yield"
+nameText Take = text "take"
 
--- the record of the call at a place: "n is the place", then what the call answered; "a fence prints core and ts".
--- 01 prints `n=0 done=open`, `n=4 commit=store core=0 line=0 ts=1 data=07`, `n=5 commit=load core=0 line=0 ts=0 data=07`,
--- `n=6 refused=25`. A record ends with a newline.
+-- "n is the place": 01 prints `n=0 done=open`, `n=6 refused=25`. A record ends with a newline
+abbrev pub doneText : ℕ → Name → List ℕ
+doneText n d = text "n=" ++ decimal n ++ text " done=" ++ nameText d ++ text "\n"
+
+abbrev pub refusedText : ℕ → ℕ → List ℕ
+refusedText n r = text "n=" ++ decimal n ++ text " refused=" ++ decimal r ++ text "\n"
+
+-- a commit's kind; its line and its data, which a fence has not: "a fence prints core and ts"
+abbrev pub kindText : {A : Type 0} → Op A → List ℕ
+kindText (load l b) = text "load"
+kindText (store l b) = text "store"
+kindText fence = text "fence"
+
+abbrev pub lineText : {A : Type 0} → Op A → List ℕ
+lineText (load l b) = text " line=" ++ decimal l
+lineText (store l b) = text " line=" ++ decimal l
+lineText fence = []
+
+abbrev pub dataText : Op (List ℕ) → List ℕ
+dataText (load l b) = text " data=" ++ hex b
+dataText (store l b) = text " data=" ++ hex b
+dataText fence = []
+
+-- 01 prints `n=4 commit=store core=0 line=0 ts=1 data=07` and `n=5 commit=load core=0 line=0 ts=0 data=07`
+abbrev pub commitText : ℕ → ℕ → ℕ → Op (List ℕ) → List ℕ
+commitText n c t o =
+    text "n=" ++ decimal n ++ text " commit=" ++ kindText o ++ text " core=" ++ decimal c ++ lineText o ++ text " ts=" ++ decimal t ++ dataText o
+    ++ text "\n"
+
+-- the record of the call at a place, by what it answered
 unfoldable pub recordText : Place → Reply → List ℕ
-recordText p (refused n) = text "n=" ++ decimal (p .0) ++ text " refused=" ++ decimal n ++ text "\n"
-recordText p (done d) = text "n=" ++ decimal (p .0) ++ text " done=" ++ doneText d ++ text "\n"
-recordText p (commit c t (load l bytes)) =
-    text "n=" ++ decimal (p .0) ++ text " commit=load core=" ++ decimal c ++ text " line=" ++ decimal l ++ text " ts=" ++ decimal (t .0)
-    ++ text " data=" ++ hex bytes ++ text "\n"
-recordText p (commit c t (store l bytes)) =
-    text "n=" ++ decimal (p .0) ++ text " commit=store core=" ++ decimal c ++ text " line=" ++ decimal l ++ text " ts=" ++ decimal (t .0)
-    ++ text " data=" ++ hex bytes ++ text "\n"
-recordText p (commit c t fence) = text "n=" ++ decimal (p .0) ++ text " commit=fence core=" ++ decimal c ++ text " ts=" ++ decimal (t .0) ++ text "\n"
+recordText p (refused n) = refusedText (p .0) n
+recordText p (done d) = doneText (p .0) d
+recordText p (commit c t o) = commitText (p .0) c (t .0) o
 
 -- "The end line counts step lines met, .. commits, and `refused=` lines above it": 01 prints `end=6 commits=2 refused=1`
-unfoldable pub endText : ℕ → ℕ → ℕ → List ℕ
-endText steps commits refusals = text "end=" ++ decimal steps ++ text " commits=" ++ decimal commits ++ text " refused=" ++ decimal refusals ++ text "\n"
+unfoldable pub endText : Counts → List ℕ
+endText k =
+    text "end=" ++ decimal (k .steps) ++ text " commits=" ++ decimal (k .commits) ++ text " refused=" ++ decimal (k .refusals) ++ text "\n"

@@ -6,16 +6,22 @@
 ghost use mathlib.Core.List.{_++_};
 ghost use Prim.Native.Nat.{_+_, _≤_};
 ghost use lib.ListN.{length};
-ghost use Rattle.protocol.specs.Step.{meaning};
+ghost use Rattle.protocol.specs.Step.{valued, meaning};
 ghost use Rattle.spelling.specs.Text.{text};
-ghost use Rattle.spelling.specs.Decimal.{decimal};
 ghost use Rattle.spelling.specs.Hex.{hex};
 ghost use Rattle.spelling.specs.Over.{PutAt};
-ghost use Rattle.listing.specs.Record.{recordText, endText};
-ghost use Rattle.listing.specs.Back.{Room, Field, Tail};
+ghost use Rattle.listing.specs.Record.{doneText, refusedText, commitText, recordText, endText};
+ghost use Rattle.listing.specs.Back.{Room, Field, Tail, Named, three, access};
 use protocol::Answer;
+use protocol::Counts;
+use protocol::Kind;
+use protocol::Name;
 use protocol::Place;
 use spelling::Put;
+
+// How a record ends that names what was done, one end after the other.
+const NAMES: [u8; 128] =
+    *b" done=open\n done=ask\n done=recall\n done=share\n done=renew\n done=own\n done=drop\n done=evict\n done=advance\n done=yield\n done=take\n";
 
 // A key and its number, just before a place of a line; the answer is where the key starts.
 fn field(line: &mut [u8; 128], end: usize, key: &[u8], n: u64) -> usize
@@ -59,20 +65,57 @@ pub fn put_with_data(out: &mut [u8], at: usize, head: &[u8], bytes: &[u8]) -> Pu
     spelling::put_text(out, end, b"\n")
 }
 
-// A record that names what was done: `n=1 done=ask`. `end` is the text after the place, with its newline.
-fn put_done(out: &mut [u8], at: usize, place: u64, end: &[u8]) -> Put
-    requires { ⌜ length (now end) ≤ 14 ⌝ }
-    ensures { λ r. ⌜ PutAt (now (out .entry)) at (text "n=" ++ decimal place ++ now (end .entry)) (now (out .exit)) r ⌝ }
+// Where the end of a record that names what was done is found in NAMES.
+struct Part {
+    start: usize,
+    end: usize,
+}
+
+// The end of the record that names it, with its newline.
+fn end_of(name: Name) -> Part
+    ensures { λ r. ⌜ Named name (r .start) (r .end) ⌝ }
+{
+    match name {
+        Name::Open => Part { start: 0, end: 11 },
+        Name::Ask => Part { start: 11, end: 21 },
+        Name::Recall => Part { start: 21, end: 34 },
+        Name::Share => Part { start: 34, end: 46 },
+        Name::Renew => Part { start: 46, end: 58 },
+        Name::Own => Part { start: 58, end: 68 },
+        Name::Drop => Part { start: 68, end: 79 },
+        Name::Evict => Part { start: 79, end: 91 },
+        Name::Advance => Part {
+            start: 91,
+            end: 105,
+        },
+        Name::Yield => Part {
+            start: 105,
+            end: 117,
+        },
+        Name::Take => Part {
+            start: 117,
+            end: 128,
+        },
+    }
+}
+
+// A record that names what was done: `n=1 done=ask`.
+fn put_done(out: &mut [u8], at: usize, place: u64, name: Name) -> Put
+    ensures { λ r. ⌜ PutAt (now (out .entry)) at (doneText place name) (now (out .exit)) r ⌝ }
 {
     let mut line = [0u8; 128];
-    let a = tail(&mut line, end);
+    let ends = NAMES;
+    let word = end_of(name);
+    let start = word.start;
+    let end = word.end;
+    let a = tail(&mut line, &ends[start..end]);
     let b = field(&mut line, a, b"n=", place);
     spelling::put_text(out, at, &line[b..])
 }
 
 // The record of a refused call: `n=6 refused=25`.
 fn put_refused(out: &mut [u8], at: usize, place: u64, number: u64) -> Put
-    ensures { λ r. ⌜ PutAt (now (out .entry)) at (text "n=" ++ decimal place ++ text " refused=" ++ decimal number ++ text "\n") (now (out .exit)) r ⌝ }
+    ensures { λ r. ⌜ PutAt (now (out .entry)) at (refusedText place number) (now (out .exit)) r ⌝ }
 {
     let mut line = [0u8; 128];
     let a = tail(&mut line, b"\n");
@@ -93,7 +136,7 @@ fn put_three(
     z: u64,
 ) -> Put
     requires { ⌜ length (now first) + length (now second) + length (now third) ≤ 67 ⌝ }
-    ensures { λ r. ⌜ PutAt (now (out .entry)) at (now (first .entry) ++ decimal x ++ now (second .entry) ++ decimal y ++ now (third .entry) ++ decimal z ++ text "\n") (now (out .exit)) r ⌝ }
+    ensures { λ r. ⌜ PutAt (now (out .entry)) at (three (now (first .entry)) x (now (second .entry)) y (now (third .entry)) z) (now (out .exit)) r ⌝ }
 {
     let mut line = [0u8; 128];
     let a = tail(&mut line, b"\n");
@@ -103,7 +146,8 @@ fn put_three(
     spelling::put_text(out, at, &line[d..])
 }
 
-// The record of a load or a store that committed: `n=4 commit=store core=0 line=0 ts=1 data=07`. `commit` is the text before the core.
+// The record of a load or a store that committed: `n=4 commit=store core=0 line=0 ts=1 data=07`.
+// `commit` is the text before the core.
 fn put_access(
     out: &mut [u8],
     at: usize,
@@ -115,7 +159,7 @@ fn put_access(
     bytes: &[u8],
 ) -> Put
     requires { ⌜ length (now commit) ≤ 19 ⌝ }
-    ensures { λ r. ⌜ PutAt (now (out .entry)) at (text "n=" ++ decimal place ++ now (commit .entry) ++ decimal core ++ text " line=" ++ decimal line ++ text " ts=" ++ decimal ts ++ text " data=" ++ hex (now (bytes .entry)) ++ text "\n") (now (out .exit)) r ⌝ }
+    ensures { λ r. ⌜ PutAt (now (out .entry)) at (access place (now (commit .entry)) core line ts (now (bytes .entry))) (now (out .exit)) r ⌝ }
 {
     let mut head = [0u8; 128];
     let a = tail(&mut head, b" data=");
@@ -126,6 +170,40 @@ fn put_access(
     put_with_data(out, at, &head[e..], bytes)
 }
 
+// The record of a commit, by its kind.
+fn put_commit(
+    out: &mut [u8],
+    at: usize,
+    place: u64,
+    core: u64,
+    ts: u64,
+    kind: Kind,
+    bytes: &[u8],
+) -> Put
+    ensures { λ r. ⌜ PutAt (now (out .entry)) at (commitText place core ts (valued kind (now (bytes .entry)))) (now (out .exit)) r ⌝ }
+{
+    match kind {
+        Kind::Load { line } => {
+            let l = line as u64;
+            put_access(out, at, place, b" commit=load core=", core, l, ts, bytes)
+        }
+        Kind::Store { line } => {
+            let l = line as u64;
+            put_access(out, at, place, b" commit=store core=", core, l, ts, bytes)
+        }
+        Kind::Fence => put_three(
+            out,
+            at,
+            b"n=",
+            place,
+            b" commit=fence core=",
+            core,
+            b" ts=",
+            ts,
+        ),
+    }
+}
+
 // The record of a call, into a lent buffer from `at` on: `place` is the call's place in the list, `answer` what it answered, and
 // `bytes` are the bytes of a load's or a store's commit. Where the record does not fit, the buffer is left as it was.
 pub fn put_record(out: &mut [u8], at: usize, place: Place, answer: Answer, bytes: &[u8]) -> Put
@@ -134,69 +212,25 @@ pub fn put_record(out: &mut [u8], at: usize, place: Place, answer: Answer, bytes
     let n = place.0;
     match answer {
         Answer::Refused(number) => put_refused(out, at, n, number as u64),
-        Answer::Open => put_done(out, at, n, b" done=open\n"),
-        Answer::Ask => put_done(out, at, n, b" done=ask\n"),
-        Answer::Recall => put_done(out, at, n, b" done=recall\n"),
-        Answer::Share => put_done(out, at, n, b" done=share\n"),
-        Answer::Renew => put_done(out, at, n, b" done=renew\n"),
-        Answer::Own => put_done(out, at, n, b" done=own\n"),
-        Answer::Drop => put_done(out, at, n, b" done=drop\n"),
-        Answer::Evict => put_done(out, at, n, b" done=evict\n"),
-        Answer::Advance => put_done(out, at, n, b" done=advance\n"),
-        Answer::Yield => put_done(out, at, n, b" done=yield\n"),
-        Answer::Take => put_done(out, at, n, b" done=take\n"),
-        Answer::CommitLoad { core, line, ts } => {
-            put_access(
-                out,
-                at,
-                n,
-                b" commit=load core=",
-                core as u64,
-                line as u64,
-                ts.0 as u64,
-                bytes,
-            )
-        }
-        Answer::CommitStore { core, line, ts } => {
-            put_access(
-                out,
-                at,
-                n,
-                b" commit=store core=",
-                core as u64,
-                line as u64,
-                ts.0 as u64,
-                bytes,
-            )
-        }
-        Answer::CommitFence { core, ts } => {
-            put_three(
-                out,
-                at,
-                b"n=",
-                n,
-                b" commit=fence core=",
-                core as u64,
-                b" ts=",
-                ts.0 as u64,
-            )
+        Answer::Done(name) => put_done(out, at, n, name),
+        Answer::Commit { core, ts, kind } => {
+            put_commit(out, at, n, core as u64, ts.0 as u64, kind, bytes)
         }
     }
 }
 
-// The end line, into a lent buffer from `at` on: the step lines met, the commits, and the refused lines above it. Where it does not
-// fit, the buffer is left as it was.
-pub fn put_end(out: &mut [u8], at: usize, steps: u64, commits: u64, refused: u64) -> Put
-    ensures { λ r. ⌜ PutAt (now (out .entry)) at (endText steps commits refused) (now (out .exit)) r ⌝ }
+// The end line, into a lent buffer from `at` on. Where it does not fit, the buffer is left as it was.
+pub fn put_end(out: &mut [u8], at: usize, counts: Counts) -> Put
+    ensures { λ r. ⌜ PutAt (now (out .entry)) at (endText counts) (now (out .exit)) r ⌝ }
 {
     put_three(
         out,
         at,
         b"end=",
-        steps,
+        counts.steps,
         b" commits=",
-        commits,
+        counts.commits,
         b" refused=",
-        refused,
+        counts.refusals,
     )
 }

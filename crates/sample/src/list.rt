@@ -30,6 +30,24 @@ fn call_of(kind: u8, core: usize, line: usize, by: u32) -> Call {
     }
 }
 
+// Makes a call of a kind, with the byte that says by how much, or what is stored.
+fn make(
+    d: Done,
+    private: &mut [u8],
+    shared: &mut [u8],
+    kind: u8,
+    core: usize,
+    line: usize,
+    value: u8,
+) -> Done {
+    let call = call_of(kind, core, line, (value % 16) as u32);
+    let given = [value, b'-'];
+    if kind == b's' {
+        return engine::step(d.state, private, shared, call, b"");
+    }
+    engine::step(d.state, private, shared, call, &given)
+}
+
 // The number of a digit.
 fn digit(b: u8) -> usize {
     b as usize % 16
@@ -64,11 +82,7 @@ fn play(list: &[u8]) {
         let core = digit(list[at + 1]);
         let line = digit(list[at + 2]);
         let value = list[at + 3];
-        let by = (value % 16) as u32;
-        let given = [value, b'-'];
-        let count = if kind == b's' { 0 } else { 2 };
-        let call = call_of(kind, core, line, by);
-        d = engine::step(d.state, &mut private, &mut shared, call, &given[0..count]);
+        d = make(d, &mut private, &mut shared, kind, core, line, value);
         print::call(n, d, &private, &shared, core, line);
         at += 5;
         n += 1;

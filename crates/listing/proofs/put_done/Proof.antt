@@ -1,50 +1,31 @@
--- `listing::put_done` meets its contract: the line holds the place before the last text. Assumes nothing.
-use mathlib.Core.Path.{refl, _∙_}
-use mathlib.Core.List.{append-assoc}
+-- `listing::put_done` meets its contract: the line holds the place before the end that names what was done. Assumes nothing.
+use mathlib.Core.Path.{refl}
 use native.Mathlib.Omega.{arith}
 use borrow.Author.Needs.{needs}
-use Rattle.listing.proofs.Laws.{first, put-same}
+use Rattle.listing.proofs.Laws.{put-same, done-line}
 use Rattle.listing.proofs.put_done.Statement.{statement}
 use Rattle.listing.proofs.put_done.Tie as tie
 
-tail-requires : tie.Need-tail-requires
-tail-requires c κs = omega arith
-
-slice-aggregate-field : tie.Need-slice-aggregate-field
-slice-aggregate-field c = refl
-
-field-requires : tie.Need-field-requires
-field-requires c κs = omega arith
-
-sub-put-text : tie.Need-sub-put-text
-sub-put-text c = omega arith
-
-part-put-text-start : tie.Need-part-put-text-start
-part-put-text-start c = omega arith
-
-part-put-text-end : tie.Need-part-put-text-end
-part-put-text-end c = omega arith
-
-put-text-requires : tie.Need-put-text-requires
-put-text-requires c κs = search needs
-
-same-length : tie.Need-same-length
-same-length c = c .before .out .given
-
 returns : tie.Need-returns
 returns c =
-    put-same (first (c .before .before .before .before .before .before .field .ensures) (c .before .before .before .before .before .before .before .before .before .tail .ensures .text) ∙ simp append-assoc) (c .before .before .put-text .ensures)
+    let e = c .before .before .before .before .before .before in
+    let t = e .before .before .before in
+    put-same (done-line (t .before .before .before .before .end-of .ensures) (t .tail .ensures .text) (e .field .ensures)) (c .before .before .put-text .ensures)
 
 pub put-done-spec : {M : Type 1} → statement M
 put-done-spec =
     tie.close
     (tie.spec
-    tail-requires
-    slice-aggregate-field
-    field-requires
-    sub-put-text
-    part-put-text-start
-    part-put-text-end
-    put-text-requires
-    same-length
+    (λ c κs. search needs)
+    (λ c. omega arith)
+    (λ c. omega arith)
+    (λ c. omega arith)
+    (λ c κs. omega arith)
+    (λ c. refl)
+    (λ c κs. omega arith)
+    (λ c. omega arith)
+    (λ c. omega arith)
+    (λ c. omega arith)
+    (λ c κs. search needs)
+    (λ c. c .before .out .given)
     returns)

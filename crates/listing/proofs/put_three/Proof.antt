@@ -7,53 +7,26 @@ use Rattle.listing.proofs.Laws.{first, more, put-same}
 use Rattle.listing.proofs.put_three.Statement.{statement}
 use Rattle.listing.proofs.put_three.Tie as tie
 
-slice-aggregate-tail : tie.Need-slice-aggregate-tail
-slice-aggregate-tail c = refl
-
-tail-requires : tie.Need-tail-requires
-tail-requires c κs = omega arith
-
-field-requires : tie.Need-field-requires
-field-requires c κs = omega arith
-
-field-requires-2 : tie.Need-field-requires-2
-field-requires-2 c κs = omega arith
-
-field-requires-3 : tie.Need-field-requires-3
-field-requires-3 c κs = omega arith
-
-sub-put-text : tie.Need-sub-put-text
-sub-put-text c = omega arith
-
-part-put-text-start : tie.Need-part-put-text-start
-part-put-text-start c = omega arith
-
-part-put-text-end : tie.Need-part-put-text-end
-part-put-text-end c = omega arith
-
-put-text-requires : tie.Need-put-text-requires
-put-text-requires c κs = search needs
-
-same-length : tie.Need-same-length
-same-length c = c .before .out .given
-
 returns : tie.Need-returns
 returns c =
-    let end = more (c .before .before .before .before .before .before .before .before .field2 .ensures) (more (c .before .before .before .before .before .before .before .before .before .before .field .ensures) (c .before .before .before .before .before .before .before .before .before .before .before .before .tail .ensures .text)) in
-    put-same (first (c .before .before .before .before .before .before .field3 .ensures) end ∙ simp append-assoc) (c .before .before .put-text .ensures)
+    let d = c .before .before .before .before .before .before in
+    let b = d .before .before in
+    let a = b .before .before in
+    let end = more (b .field2 .ensures) (more (a .field .ensures) (a .before .before .tail .ensures .text)) in
+    put-same (first (d .field3 .ensures) end ∙ simp append-assoc) (c .before .before .put-text .ensures)
 
 pub put-three-spec : {M : Type 1} → statement M
 put-three-spec =
     tie.close
     (tie.spec
-    slice-aggregate-tail
-    tail-requires
-    field-requires
-    field-requires-2
-    field-requires-3
-    sub-put-text
-    part-put-text-start
-    part-put-text-end
-    put-text-requires
-    same-length
+    (λ c. refl)
+    (λ c κs. omega arith)
+    (λ c κs. omega arith)
+    (λ c κs. omega arith)
+    (λ c κs. omega arith)
+    (λ c. omega arith)
+    (λ c. omega arith)
+    (λ c. omega arith)
+    (λ c κs. search needs)
+    (λ c. c .before .out .given)
     returns)
