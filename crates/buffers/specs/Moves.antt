@@ -4,6 +4,7 @@ use mathlib.Core.Path.{_≡_}
 use mathlib.Core.Bool.{Bool, true}
 use lib.Dec.{ltb, eqb}
 use lib.ListN.{length}
+use denote.Ref.{RefT, now}
 use Rattle.protocol.specs.{Pick.pick, Pick.both, Limits.openingFits, Buffers.Bytes, Buffers.movedPrivate, Buffers.movedShared}
 use Rattle.protocol.specs.declared.{Opening.Opening, Move.Move}
 use Rattle.protocol.specs.declared.Move.the-variants.{Still, Store, Answer, Receive, Writeback, Take}
@@ -31,3 +32,7 @@ moveFits v o private shared c l n = both (placeFits o c l) (both (lengthsFit o p
 pub record Moves (v : Move) (o : Opening) (c l : ℕ) (given p q p' q' : Bytes) : Type 0 where
   pub private : p' ≡ pick (moveFits v o (length p) (length q) c l (length given)) (movedPrivate v o c l given p q) p
   pub shared : q' ≡ pick (moveFits v o (length p) (length q) c l (length given)) (movedShared v o c l p q) q
+
+-- the same of lent buffers, as they come and as they are left
+abbrev pub Moved : Move → Opening → ℕ → ℕ → RefT Bytes → RefT Bytes → RefT Bytes → RefT Bytes → RefT Bytes → Type 0
+Moved v o c l given p q p' q' = Moves v o c l (now given) (now p) (now q) (now p') (now q')

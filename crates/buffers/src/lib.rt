@@ -7,7 +7,7 @@ mod lines;
 ghost use mathlib.Core.Path.{_≡_};
 ghost use Rattle.protocol.specs.Pick.{pick};
 ghost use Rattle.protocol.specs.Buffers.{copyStart, managerStart, writebackStart, answerStart, Placed};
-ghost use Rattle.buffers.specs.Moves.{placeFits, givenFits, moveFits, Moves};
+ghost use Rattle.buffers.specs.Moves.{placeFits, givenFits, moveFits, Moved};
 use protocol::Move;
 use protocol::Opening;
 
@@ -132,7 +132,7 @@ pub fn move_bytes(
     line: usize,
     given: &[u8],
 )
-    ensures { λ _. ⌜ Moves moves opening core line (now (given .entry)) (now («private» .entry)) (now (shared .entry)) (now («private» .exit)) (now (shared .exit)) ⌝ }
+    ensures { λ _. ⌜ Moved moves opening core line (given .entry) («private» .entry) (shared .entry) («private» .exit) (shared .exit) ⌝ }
 {
     if !move_fits(
         moves,

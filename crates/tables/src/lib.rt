@@ -12,6 +12,7 @@ pub use about::core_of;
 pub use about::line_of;
 pub use about::named_line;
 ghost use mathlib.Core.Path.{_≡_};
+ghost use Rattle.protocol.specs.Machine.{pieces};
 ghost use Rattle.protocol.specs.Tables.{effectOf};
 ghost use Rattle.tables.specs.Found.{effectWith};
 ghost use Rattle.tables.specs.Spans.{spanOf};
@@ -33,7 +34,7 @@ pub struct Span {
 // What a call makes of the pieces that it looks at: the row of its table, or, with the pieces as they
 // are, one of 20 to 27. Each row decides.
 fn row(call: Call, core: Core, copy: Copy, line: Line, opening: Opening) -> Effect
-    ensures { λ r. ⌜ r ≡ effectOf call (record { core = core; copy = copy; line = line }) opening ⌝ }
+    ensures { λ r. ⌜ r ≡ effectOf call (pieces core copy line) opening ⌝ }
 {
     match call {
         Call::Load { core: c, line: l } => core_rows::load(c, l, core, copy, line),
@@ -57,7 +58,7 @@ pub fn effect(
     line: Line,
     opening: Opening,
 ) -> Effect
-    ensures { λ r. ⌜ r ≡ effectWith number call (record { core = core; copy = copy; line = line }) opening ⌝ }
+    ensures { λ r. ⌜ r ≡ effectWith number call (pieces core copy line) opening ⌝ }
 {
     if number != 0 {
         return refusals::refused(number, core, copy, line);

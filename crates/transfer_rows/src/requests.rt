@@ -1,9 +1,9 @@
 // The rows of serve and receive.
 ghost use Prim.Native.Nat.{ℕ};
 ghost use mathlib.Core.Path.{_≡_};
-ghost use Rattle.protocol.specs.Pick.{pick};
-ghost use Rattle.protocol.specs.Refusals.{servePasses};
+ghost use Rattle.protocol.specs.Machine.{pieces};
 ghost use Rattle.protocol.specs.Tables.{row, refusedRow, recalled, sameVersion, serveLoad, serveAsked, receiveGrant, receiveRenew, effectOf};
+ghost use Rattle.transfer_rows.specs.Asked.{askedEffect};
 use protocol::Answer;
 use protocol::Call;
 use protocol::Copy;
@@ -57,7 +57,7 @@ fn serve_load(
     copy: Copy,
     line: Line,
 ) -> Effect
-    ensures { λ r. ⌜ r ≡ serveLoad same l wts rts (record { core = core; copy = copy; line = line }) ⌝ }
+    ensures { λ r. ⌜ r ≡ serveLoad same l wts rts (pieces core copy line) ⌝ }
 {
     let clocks = core.clocks;
     let recall = line.recall;
@@ -118,7 +118,7 @@ fn serve_asked(
     line: Line,
     opening: Opening,
 ) -> Effect
-    ensures { λ r. ⌜ r ≡ pick (servePasses (Slot.Asked want l lts held) (line .manager) opening) (refusedRow 27 (record { core = core; copy = copy; line = line })) (serveAsked (line .manager) want c l lts held (record { core = core; copy = copy; line = line }) opening) ⌝ }
+    ensures { λ r. ⌜ r ≡ askedEffect want c l lts held (pieces core copy line) opening ⌝ }
 {
     let clocks = core.clocks;
     let manager = line.manager;
@@ -169,7 +169,7 @@ fn serve_asked(
 
 // serve: the request in the core's slot, or 21 where it does not ask.
 pub fn serve(c: usize, core: Core, copy: Copy, line: Line, opening: Opening) -> Effect
-    ensures { λ r. ⌜ r ≡ effectOf (Call.Serve c) (record { core = core; copy = copy; line = line }) opening ⌝ }
+    ensures { λ r. ⌜ r ≡ effectOf (Call.Serve c) (pieces core copy line) opening ⌝ }
 {
     let slot = core.slot;
     match slot {
@@ -200,7 +200,7 @@ fn dropped(core: Core, copy: Copy, line: Line) -> Effect
 // A renewal received: a shared copy takes the new end of its lease; with no copy, or an owned one,
 // it is dropped.
 fn receive_renew(rts: Stamp, core: Core, copy: Copy, line: Line) -> Effect
-    ensures { λ r. ⌜ r ≡ receiveRenew copy rts (record { core = core; copy = copy; line = line }) ⌝ }
+    ensures { λ r. ⌜ r ≡ receiveRenew copy rts (pieces core copy line) ⌝ }
 {
     let clocks = core.clocks;
     let emptied = Core {
@@ -222,7 +222,7 @@ fn receive_renew(rts: Stamp, core: Core, copy: Copy, line: Line) -> Effect
 
 // A grant received: the slot becomes empty.
 fn receive_grant(grant: Grant, wts: Stamp, rts: Stamp, core: Core, copy: Copy, line: Line) -> Effect
-    ensures { λ r. ⌜ r ≡ receiveGrant grant wts rts (record { core = core; copy = copy; line = line }) ⌝ }
+    ensures { λ r. ⌜ r ≡ receiveGrant grant wts rts (pieces core copy line) ⌝ }
 {
     let clocks = core.clocks;
     let emptied = Core {
@@ -254,7 +254,7 @@ fn receive_grant(grant: Grant, wts: Stamp, rts: Stamp, core: Core, copy: Copy, l
 
 // receive: the grant in the core's slot, or 22 where there is no answer.
 pub fn receive(core: Core, copy: Copy, line: Line) -> Effect
-    ensures { λ r. ⌜ ((c : ℕ) (o : Opening) → r ≡ effectOf (Call.Receive c) (record { core = core; copy = copy; line = line }) o) ⌝ }
+    ensures { λ r. ⌜ ((c : ℕ) (o : Opening) → r ≡ effectOf (Call.Receive c) (pieces core copy line) o) ⌝ }
 {
     let slot = core.slot;
     match slot {

@@ -3,6 +3,7 @@ ghost use Prim.Native.Nat.{ℕ};
 ghost use mathlib.Core.Path.{_≡_};
 ghost use Rattle.protocol.specs.Pick.{both};
 ghost use Rattle.protocol.specs.Refusals.{hasOwner, stands};
+ghost use Rattle.protocol.specs.Machine.{pieces};
 ghost use Rattle.protocol.specs.Tables.{writtenBack, yielded, effectOf};
 use protocol::Answer;
 use protocol::Call;
@@ -33,7 +34,7 @@ fn written_back(line: Line, wts: Stamp, rts: Stamp) -> Line
 
 // evict: a shared copy goes; an owned one becomes the writeback; 26 where there is none.
 pub fn evict(core: Core, copy: Copy, line: Line) -> Effect
-    ensures { λ r. ⌜ ((c l : ℕ) (o : Opening) → r ≡ effectOf (Call.Evict c l) (record { core = core; copy = copy; line = line }) o) ⌝ }
+    ensures { λ r. ⌜ ((c l : ℕ) (o : Opening) → r ≡ effectOf (Call.Evict c l) (pieces core copy line) o) ⌝ }
 {
     match copy {
         Copy::None => refusals::refused(26, core, copy, line),
@@ -86,7 +87,7 @@ fn is_recalled(line: Line) -> bool
 
 // yield: the owner's copy becomes the writeback; 23 without a recall, 24 without an owned copy.
 pub fn yield_line(core: Core, copy: Copy, line: Line) -> Effect
-    ensures { λ r. ⌜ ((l : ℕ) (o : Opening) → r ≡ effectOf (Call.Yield l) (record { core = core; copy = copy; line = line }) o) ⌝ }
+    ensures { λ r. ⌜ ((l : ℕ) (o : Opening) → r ≡ effectOf (Call.Yield l) (pieces core copy line) o) ⌝ }
 {
     if !is_recalled(line) {
         return refusals::refused(23, core, copy, line);
@@ -111,7 +112,7 @@ pub fn yield_line(core: Core, copy: Copy, line: Line) -> Effect
 
 // take: the writeback becomes the manager's version, and recall and writeback are settled; 25 without one.
 pub fn take(core: Core, copy: Copy, line: Line) -> Effect
-    ensures { λ r. ⌜ ((l : ℕ) (o : Opening) → r ≡ effectOf (Call.Take l) (record { core = core; copy = copy; line = line }) o) ⌝ }
+    ensures { λ r. ⌜ ((l : ℕ) (o : Opening) → r ≡ effectOf (Call.Take l) (pieces core copy line) o) ⌝ }
 {
     let flight = line.writeback;
     match flight {
