@@ -28,19 +28,9 @@ use Rattle.protocol.specs.declared.Writeback.the-variants.{None as NoWriteback,
 use Rattle.protocol.specs.declared.Opening.{Opening}
 use Rattle.protocol.specs.declared.Call.{Call}
 use Rattle.protocol.specs.declared.Call.the-variants.{Load, Store, Fence, Evict, Advance, Serve, Receive, Yield, Take}
-use Rattle.protocol.specs.declared.Move.{Move}
-use Rattle.protocol.specs.declared.Move.the-variants.{Still, Store as MoveStore, Answer as MoveAnswer, Receive as MoveReceive, Writeback as MoveWriteback, Take as MoveTake}
 use Rattle.protocol.specs.declared.Effect.{Effect}
 use Rattle.protocol.proofs.Tests.{picked}
-
--- the bytes that move are a line: those given to a store, n of them, are as many as the width; the others lie in the buffers
-abbrev pub Sized : Opening → ℕ → Move → Type 0
-Sized o n Still = Unit {0}
-Sized o n MoveStore = n ≡ o .width
-Sized o n MoveAnswer = Unit {0}
-Sized o n MoveReceive = Unit {0}
-Sized o n MoveWriteback = Unit {0}
-Sized o n MoveTake = Unit {0}
+use Rattle.protocol.proofs.Moves.{Sized}
 
 -- what a step makes fits an opening: its slot's line, its line's owner, and the bytes that it moves
 pub record Fits (o : Opening) (n : ℕ) (d : Effect) : Type 0 where

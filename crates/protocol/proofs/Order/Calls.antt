@@ -1,4 +1,4 @@
--- Every call, with any numbers and any bytes, keeps the invariant, and what it commits fits the log.
+-- Every call, with any numbers and any bytes, keeps the invariant, and what it commits extends the log.
 use Prim.Native.Nat.{ℕ}
 use mathlib.Core.Path.{_≡_, refl}
 use mathlib.Core.Bool.{Bool, true, false}
@@ -16,10 +16,11 @@ use Rattle.protocol.specs.Run.{Commit}
 use Rattle.protocol.specs.declared.Call.{Call}
 use Rattle.protocol.specs.declared.Call.the-variants.{Load, Store, Fence, Evict, Advance, Serve, Receive, Yield, Take}
 use Rattle.protocol.proofs.Refusals.{machine-fit, placed, store-width, NotRefused, not-refused}
+use Rattle.protocol.proofs.Order.Look.{Value}
 use Rattle.protocol.proofs.Order.Invariant.{Inv}
 use Rattle.protocol.proofs.Order.Steps.{Good, GoodRow, load-good, store-good, fence-good, advance-good, evict-good, yield-good, take-good, serve-good, receive-good}
 
-module _ (z : Bytes) (p : ℕ) {H : List (Commit Bytes)} (given : Bytes) {m : Machine} (I : Inv z H m) where
+module _ (z : Value) (p : ℕ) {H : List (Commit Bytes)} (given : Bytes) {m : Machine} (I : Inv z H m) where
   accepted-good : (call : Call) → NotRefused m call (length given) → (q : Placed (m .state .opening) (coreOf call (m .state)) (lineOf call (m .state)))
       → GoodRow z p call given I (coreOf call (m .state)) (lineOf call (m .state)) (q .core) (q .line)
       (tableOf call (piecesAt (m .state) (coreOf call (m .state)) (lineOf call (m .state))) (m .state .opening))

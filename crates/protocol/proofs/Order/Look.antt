@@ -2,7 +2,7 @@
 use Prim.Native.Nat.{ℕ, _+_, _*_, _≤_, _<_}
 use mathlib.Core.Path.{_≡_, refl, sym, _∙_, ap}
 use mathlib.Core.Logic.{_⊎_, inl, inr}
-use mathlib.Core.Bool.{true, false}
+use mathlib.Core.Bool.{Bool, true, false}
 use native.Mathlib.Omega.{arith}
 use native.Mathlib.Decide.{ℕ-discrete}
 use lib.ListN.{length, getD, set, length-set}
@@ -28,36 +28,56 @@ use Rattle.protocol.specs.declared.Opening.{Opening}
 use Rattle.protocol.specs.declared.State.{State}
 use Rattle.protocol.specs.declared.Effect.{Effect}
 use Rattle.protocol.proofs.Bytes.{grid-row, grid-column}
-use Rattle.protocol.proofs.Moves.{managerAfter, writebackAfter, copyAfter, answerAfter, AnswerStays, GivenFits, manager-after, writeback-after, copy-after, answer-after, manager-other, writeback-other, answer-other, private-other, length-movedShared, length-movedPrivate}
-use Rattle.protocol.proofs.Order.Versions.{Spot, atManager, atWriteback, atCopy, atSlot, clean, mine, Content, nothing, snapshot, renewal, newest}
+use Rattle.protocol.proofs.Moves.{managerAfter, writebackAfter, copyAfter, answerAfter, AnswerStays, Sized, manager-after, writeback-after, copy-after, answer-after, manager-other, writeback-other, answer-other, private-other, length-movedShared, length-movedPrivate}
+use Rattle.protocol.proofs.Order.Versions.{Spot, atManager, atWriteback, atCopy, atSlot, Mark, clean, mine, Content, nothing, snapshot, renewal, newest}
 
 -- ---- what stands at each spot
 
-abbrev pub viewManager : Manager → Bytes → Content Bytes
-viewManager (Shared w r) b = newest clean (w .0) (r .0) b
+-- the cells of a line and their values: one cell, the line's bytes
+abbrev pub LineCell : Type 0
+LineCell = Unit {0}
+
+abbrev pub Value : Type 0
+Value = Bytes
+
+abbrev pub cells : Bytes → LineCell → Value
+cells b i = b
+
+-- the marks of the cells of core c's copy
+abbrev pub markBy : ℕ → Bool → Mark
+markBy c true = mine c
+markBy c false = clean
+
+abbrev pub marks : ℕ → Bool → LineCell → Mark
+marks c d i = markBy c d
+
+abbrev pub allClean : LineCell → Mark
+allClean i = clean
+
+abbrev pub viewManager : Manager → Bytes → Content LineCell Value
+viewManager (Shared w r) b = newest allClean (w .0) (r .0) (cells b)
 viewManager (Owned c) b = nothing
 
-abbrev pub viewWriteback : Writeback → Bytes → Content Bytes
+abbrev pub viewWriteback : Writeback → Bytes → Content LineCell Value
 viewWriteback NoWriteback b = nothing
-viewWriteback (Flight w r) b = newest clean (w .0) (r .0) b
+viewWriteback (Flight w r) b = newest allClean (w .0) (r .0) (cells b)
 
-abbrev pub viewCopy : ℕ → Copy → Bytes → Content Bytes
+abbrev pub viewCopy : ℕ → Copy → Bytes → Content LineCell Value
 viewCopy c NoCopy b = nothing
-viewCopy c (CopyShared w r) b = snapshot (w .0) (r .0) b
-viewCopy c (CopyOwned true w r) b = newest (mine c) (w .0) (r .0) b
-viewCopy c (CopyOwned false w r) b = newest clean (w .0) (r .0) b
+viewCopy c (CopyShared w r) b = snapshot (w .0) (r .0) (cells b)
+viewCopy c (CopyOwned d w r) b = newest (marks c d) (w .0) (r .0) (cells b)
 
-abbrev pub granted : Grant → Stamp → Stamp → Bytes → Content Bytes
-granted GrantShare w r b = snapshot (w .0) (r .0) b
+abbrev pub granted : Grant → Stamp → Stamp → Bytes → Content LineCell Value
+granted GrantShare w r b = snapshot (w .0) (r .0) (cells b)
 granted GrantRenew w r b = renewal (w .0) (r .0)
-granted GrantOwn w r b = newest clean (w .0) (r .0) b
+granted GrantOwn w r b = newest allClean (w .0) (r .0) (cells b)
 
 -- an answer counts for the line that it speaks of
-abbrev pub viewGrant : {B : Type 0} → Dec B → Grant → Stamp → Stamp → Bytes → Content Bytes
+abbrev pub viewGrant : {B : Type 0} → Dec B → Grant → Stamp → Stamp → Bytes → Content LineCell Value
 viewGrant (no n) g w r b = nothing
 viewGrant (yes p) g w r b = granted g w r b
 
-abbrev pub viewSlot : ℕ → Slot → Bytes → Content Bytes
+abbrev pub viewSlot : ℕ → Slot → Bytes → Content LineCell Value
 viewSlot l Empty b = nothing
 viewSlot l (Asked a n t h) b = nothing
 viewSlot l (Answered g n w r) b = viewGrant (ℕ-discrete n l) g w r b
@@ -70,7 +90,7 @@ view-at l g w r b = go (ℕ-discrete l l)
     go (no n) = absurd (n refl)
 
 -- line l of the machine, spot by spot
-unfoldable pub look : Machine → ℕ → Spot → Content Bytes
+unfoldable pub look : Machine → ℕ → Spot → Content LineCell Value
 look m l atManager = viewManager (lineAt (m .state) l .manager) (managerBytes (m .state .opening) (m .shared) l)
 look m l atWriteback = viewWriteback (lineAt (m .state) l .writeback) (writebackBytes (m .state .opening) (m .shared) l)
 look m l (atCopy c) = viewCopy c (copyAt (m .state) c l) (copyBytes (m .state .opening) (m .private) c l)
@@ -127,7 +147,7 @@ cell-other s c l c′ l′ v h k n =
 -- ---- a step's effect on core c and line l
 
 module _ (m : Machine) (sh : Shape m) (c l : ℕ) (hc : c < m .state .opening .cores) (hl : l < m .state .opening .lines) (given : Bytes) (d : Effect)
-    (hg : GivenFits (m .state .opening) (m .private) (m .shared) c l given (d .moves)) where
+    (hg : Sized (m .state .opening) (length given) (d .moves)) where
   abbrev o : Opening
   o = m .state .opening
 

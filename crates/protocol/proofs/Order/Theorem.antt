@@ -19,7 +19,7 @@ use Rattle.protocol.specs.Buffers.{Bytes, privateLength, sharedLength, m
 use Rattle.protocol.specs.Machine.{Machine, freshMachine, coreAt, copyAt, lineAt}
 use Rattle.protocol.specs.Step.{Op, Reply, refused, done, commit, step}
 use Rattle.protocol.specs.Run.{Given, place, run, Commit, commitAt, commitOf, commits}
-use Rattle.protocol.specs.Order.{In, here, there, Before, Earlier, TsoKeeps, Stores, LastWrite, Obeys, OpenTheorem, OrderTheorem, SortTheorem, KeyTheorem}
+use Rattle.protocol.specs.Order.{In, here, there, Before, Earlier, TsoKeeps, Loads, Stores, LastWrite, Obeys, OpenTheorem, OrderTheorem, SortTheorem, KeyTheorem}
 use Rattle.protocol.specs.declared.Cell.{Cell}
 use Rattle.protocol.specs.declared.Copy.the-variants.{None as NoCopy}
 use Rattle.protocol.specs.declared.Opening.{Opening}
@@ -28,11 +28,11 @@ use Rattle.protocol.specs.declared.Call.the-variants.{Load, Store, Fence
 use Rattle.protocol.proofs.Bytes.{row-le, zeros, zeros-part}
 use Rattle.protocol.proofs.Places.{Inside, inside}
 use Rattle.protocol.proofs.Refusals.{opening-fit}
-use Rattle.protocol.proofs.Order.Log.{All, none, more, all-map, all-at, in-nil, fresh, LogFits, start, log-obeys}
+use Rattle.protocol.proofs.Order.Log.{All, none, more, all-map, all-at, in-nil, fresh, Lawful, start, log-obeys}
 use Rattle.protocol.proofs.Order.Log.{step as log-step}
-use Rattle.protocol.proofs.Order.Versions.{Spot, atManager, atWriteback, atCopy, atSlot, Newest, ContentFits}
-use Rattle.protocol.proofs.Order.Look.{look, Shape}
-use Rattle.protocol.proofs.Order.Invariant.{On, Inv}
+use Rattle.protocol.proofs.Order.Versions.{Spot, atManager, atWriteback, atCopy, atSlot, Newest, ContentAgrees}
+use Rattle.protocol.proofs.Order.Look.{LineCell, Value, cells, look, Shape}
+use Rattle.protocol.proofs.Order.Invariant.{Writes, On, Inv}
 use Rattle.protocol.proofs.Order.Steps.{Good, commitBy}
 use Rattle.protocol.proofs.Order.Calls.{step-good}
 
@@ -45,26 +45,26 @@ log (g ∷ gs) p m H =
     log gs (suc p) (step m (g .call) (g .bytes) .machine) (commitOf (place p) g (step m (g .call) (g .bytes) .reply) ++ H)
 
 -- the invariant along a run whose next place is p
-record Along (z : Bytes) (p : ℕ) (m : Machine) (H : List (Commit Bytes)) : Type 0 where
+record Along (z : Value) (p : ℕ) (m : Machine) (H : List (Commit Bytes)) : Type 0 where
   inv : Inv z H m
-  fits : LogFits TsoKeeps z H
+  lawful : Lawful TsoKeeps Loads Stores z H
   old : All (λ a. a .place .0 < p) H
 
-along-step : (z : Bytes) (p : ℕ) (m m′ : Machine) (H : List (Commit Bytes)) (g : Given) (r : Reply) → Along z p m H
+along-step : (z : Value) (p : ℕ) (m m′ : Machine) (H : List (Commit Bytes)) (g : Given) (r : Reply) → Along z p m H
     → Good z p H (g .call) (g .bytes) r m′ → Along z (suc p) m′ (commitOf (place p) g r ++ H)
-along-step z p m m′ H g (refused n) R G = record { inv = G; fits = R .fits; old = all-map (λ a h. omega arith) (R .old) }
-along-step z p m m′ H g (done d) R G = record { inv = G; fits = R .fits; old = all-map (λ a h. omega arith) (R .old) }
+along-step z p m m′ H g (refused n) R G = record { inv = G; lawful = R .lawful; old = all-map (λ a h. omega arith) (R .old) }
+along-step z p m m′ H g (done d) R G = record { inv = G; lawful = R .lawful; old = all-map (λ a h. omega arith) (R .old) }
 along-step z p m m′ H g (commit c t o) R G = rw (G .0) (record {
   inv = G .2;
-  fits = log-step (R .old) (G .1) (R .fits);
+  lawful = log-step (R .old) (G .1) (R .lawful);
   old = more {e = commitBy p c t o} (omega arith) (all-map (λ a h. omega arith) (R .old));
 })
 
-log-fits : (z : Bytes) (gs : List Given) (p : ℕ) (m : Machine) (H : List (Commit Bytes)) → Along z p m H → LogFits TsoKeeps z (log gs p m H)
+log-lawful : (z : Value) (gs : List Given) (p : ℕ) (m : Machine) (H : List (Commit Bytes)) → Along z p m H → Lawful TsoKeeps Loads Stores z (log gs p m H)
 unfolding log
-log-fits z [] p m H R = R .fits
-log-fits z (g ∷ gs) p m H R =
-    log-fits z gs (suc p) (step m (g .call) (g .bytes) .machine) (commitOf (place p) g (step m (g .call) (g .bytes) .reply) ++ H)
+log-lawful z [] p m H R = R .lawful
+log-lawful z (g ∷ gs) p m H R =
+    log-lawful z gs (suc p) (step m (g .call) (g .bytes) .machine) (commitOf (place p) g (step m (g .call) (g .bytes) .reply) ++ H)
     (along-step z p m (step m (g .call) (g .bytes) .machine) H g (step m (g .call) (g .bytes) .reply) R (step-good z p (g .bytes) (R .inv) (g .call)))
 
 -- ---- the log has the commits of the run
@@ -110,10 +110,11 @@ module _ {A : Type 0} {H H′ : List (Commit A)} (f : (a : Commit A) → In a H 
   last-members (inl w) = inl (w .0, f (w .0) (w .1), w .2, w .3, λ s i. w .4 s (b s i))
   last-members (inr w) = inr (λ s i. w .0 s (b s i), w .1)
 
-  obeys-members : (Keeps : Op A → Op A → Type 0) (z : A) → Obeys Keeps z H → Obeys Keeps z H′
-  obeys-members Keeps z O = record {
+  obeys-members : {C X : Type 0} {Keeps : Op A → Op A → Type 0} {Sees : Commit A → Commit A → Type 0} {Reads Writes : C → Commit A → X → Type 0} {z : X}
+      → Obeys Keeps Sees Reads Writes z H → Obeys Keeps Sees Reads Writes z H′
+  obeys-members O = record {
     order = λ x y i j. O .order x y (b x i) (b y j);
-    reads = λ e i l x q. last-members (O .reads e (b e i) l x q);
+    reads = λ e i c x q. last-members (O .reads e (b e i) c x q);
   }
 
 -- ---- the fresh engine
@@ -155,14 +156,14 @@ module _ (o : Opening) (fit : openingFits o ≡ true) where
   unfolding look
   inv-fresh = record {
     rest = record { shape = shape-fresh; clocks = λ c. none; pairs = λ c l h. rw (core-fresh c) tt };
-    lines = λ l h. (g, record { wr = omega arith; lr = omega arith; top = none; last = fresh refl; spots = go l h });
+    lines = λ l h. (g, record { wr = omega arith; lr = omega arith; top = none; last = λ i. fresh refl; spots = go l h });
   }
     where
-      g : Newest Bytes
-      g = record { spot = atManager; w = 0; r = 0; leased = 0; x = zeros (o .width) }
+      g : Newest LineCell Value
+      g = record { spot = atManager; w = 0; r = 0; leased = 0; x = cells (zeros (o .width)) }
 
-      go : (l : ℕ) → l < o .lines → (S : Spot) → ContentFits (zeros (o .width)) (Stores l) (On l) [] g S (look (freshMachine o) l S)
-      go l h atManager = rw (line-fresh l, bytes-fresh l h) (record { isSpot = refl; isW = refl; isR = refl; isX = refl }, tt)
+      go : (l : ℕ) → l < o .lines → (S : Spot) → ContentAgrees (zeros (o .width)) (Writes l) (On l) [] g S (look (freshMachine o) l S)
+      go l h atManager = rw (line-fresh l, bytes-fresh l h) (record { isSpot = refl; isW = refl; isR = refl; isX = λ i. refl }, λ i. tt)
       go l h atWriteback = rw (line-fresh l) tt
       go l h (atCopy c) = rw (copy-fresh c l) tt
       go l h (atSlot c) = rw (core-fresh c) tt
@@ -176,9 +177,8 @@ pub order-theorem : OrderTheorem
 order-theorem o accepted gs =
     obeys-members
     (λ a i. ⊎-elim (λ j. j) (λ j. absurd (in-nil j)) (from-log gs 1 (freshMachine o) [] i)) (λ a i. to-log gs 1 (freshMachine o) [] (inl i))
-    TsoKeeps (zeros (o .width))
-    (log-obeys TsoKeeps (zeros (o .width))
-    (log-fits (zeros (o .width)) gs 1 (freshMachine o) [] (record { inv = inv-fresh o (opening-fit o accepted); fits = start; old = none })))
+    (log-obeys TsoKeeps Loads Stores (zeros (o .width))
+    (log-lawful (zeros (o .width)) gs 1 (freshMachine o) [] (record { inv = inv-fresh o (opening-fit o accepted); lawful = start; old = none })))
 
 -- ---- the sorted order is one
 
