@@ -11,8 +11,9 @@ use Rattle.protocol.specs.Pick.{pick, fails, Rule, first, _gives_}
 use Rattle.protocol.specs.Limits.{openingFits}
 use Rattle.protocol.specs.Fresh.{freshCore, freshLine}
 use Rattle.protocol.specs.Buffers.{privateLength, sharedLength, Placed}
-use Rattle.protocol.specs.Machine.{Machine, Pieces, coreAt, lineAt, slotLine, ownerOf, coreOf, lineOf, piecesAt}
-use Rattle.protocol.specs.Refusals.{openRefusal, ownerFits, slotFits, ownersFit, slotsFit, stateFits, buffersFit, machineRefusal, coreRule, lineRule, callRules, callRefusal, stateRefusal, orElse, refusal}
+use Rattle.protocol.specs.About.{about, namedLine}
+use Rattle.protocol.specs.Machine.{Machine, Pieces, coreAt, lineAt, theCore, theLine, coreOf, lineOf, piecesAt}
+use Rattle.protocol.specs.Refusals.{openRefusal, ownerFits, slotFits, ownersFit, slotsFit, stateFits, buffersFit, machineRefusal, noCore, noLine, wrongCount, byNothing, callRules, callRefusal, stateRefusal, orElse, refusal}
 use Rattle.protocol.specs.Tables.{refusedRow}
 use Rattle.protocol.specs.declared.Slot.{Slot}
 use Rattle.protocol.specs.declared.Slot.the-variants.{Empty, Asked, Answered}
@@ -21,8 +22,10 @@ use Rattle.protocol.specs.declared.Manager.{Manager}
 use Rattle.protocol.specs.declared.Manager.the-variants.{Shared, Owned}
 use Rattle.protocol.specs.declared.Line.{Line}
 use Rattle.protocol.specs.declared.Opening.{Opening}
-use Rattle.protocol.specs.declared.Call.{Call}
-use Rattle.protocol.specs.declared.Call.the-variants.{Load, Store, Fence, Evict, Advance, Serve, Receive, Yield, Take}
+use Rattle.protocol.specs.declared.{Call.Call, Who.Who, Which.Which, About.About}
+use Rattle.protocol.specs.declared.Who.the-variants.{Core as NamedCore, Owner, Nobody}
+use Rattle.protocol.specs.declared.Which.the-variants.{Line as NamedLine, InSlot, Nothing}
+use Rattle.protocol.specs.declared.Act.the-variants.{Store as Stores}
 use Rattle.protocol.specs.declared.Effect.{Effect}
 use Rattle.protocol.proofs.Tests.{both-true}
 use Rattle.protocol.proofs.Scan.{every-at}
@@ -93,32 +96,45 @@ machine-fit m e =
       nShared = eqb-true (length (m .shared)) (sharedLength o) (u .1);
     }
 
--- the line that a slot speaks of, and the owner of a line, lie inside the sizes
-slot-line : (lines : ℕ) (v : Slot) → 1 ≤ lines → slotFits lines v ≡ true → slotLine v < lines
-slot-line lines Empty h e = h
-slot-line lines (Asked a l t d) h e = ltb-true l lines e
-slot-line lines (Answered g l w r) h e = ltb-true l lines e
-
-owner-core : (cores : ℕ) (v : Manager) → 1 ≤ cores → ownerFits cores v ≡ true → ownerOf v < cores
-owner-core cores (Shared w r) h e = h
-owner-core cores (Owned c) h e = ltb-true c cores e
-
 -- ---- 3 to 6
 
--- 3 does not apply
-core-passed : (o : Opening) (c : ℕ) (rs : List Rule) → first (coreRule c o ∷ rs) ≡ 0 → (c < o .cores) × (first rs ≡ 0)
-core-passed o c rs e = let a = passed (leb (o .cores) c) 3 rs (omega arith) e in (leb-false (o .cores) c (a .0), a .1)
+-- what none of 3 to 6 refuses
+pub record Named (a : About) (o : Opening) (n : ℕ) : Type 0 where
+  pub core : noCore (a .core) o ≡ false
+  pub line : noLine (a .line) o ≡ false
+  pub count : wrongCount (a .act) o n ≡ false
+  pub by : byNothing (a .act) ≡ false
 
--- 4 does not apply
-line-passed : (o : Opening) (l : ℕ) (rs : List Rule) → first (lineRule l o ∷ rs) ≡ 0 → (l < o .lines) × (first rs ≡ 0)
-line-passed o l rs e = let a = passed (leb (o .lines) l) 4 rs (omega arith) e in (leb-false (o .lines) l (a .0), a .1)
+pub named : (call : Call) (o : Opening) (n : ℕ) → callRefusal call o n ≡ 0 → Named (about call) o n
+unfolding callRefusal callRules
+named call o n e =
+    let a = passed (noCore (about call .core) o) 3 _ (omega arith) e in
+    let b = passed (noLine (about call .line) o) 4 _ (omega arith) (a .1) in
+    let c = passed (wrongCount (about call .act) o n) 5 _ (omega arith) (b .1) in
+    record { core = a .0; line = b .0; count = c .0; by = passed (byNothing (about call .act)) 6 [] (omega arith) (c .1) .0 }
 
 -- a store that 5 does not refuse has bytes for one line
-pub store-width : (c l : ℕ) (o : Opening) (n : ℕ) → callRefusal (Store c l) o n ≡ 0 → n ≡ o .width
-unfolding callRefusal callRules
-store-width c l o n e =
-    let a = line-passed o l _ (core-passed o c _ e .1) .1 in
-    eqb-true n (o .width) (not-true (eqb n (o .width)) (passed (fails (eqb n (o .width))) 5 [] (omega arith) a .0))
+pub store-width : (o : Opening) (n : ℕ) → wrongCount Stores o n ≡ false → n ≡ o .width
+store-width o n e = eqb-true n (o .width) (not-true (eqb n (o .width)) e)
+
+-- the core that a call is about, the line that it names and the line that it is about lie inside the sizes
+core-inside : (o : Opening) (w : Who) (v : Manager) → 1 ≤ o .cores → noCore w o ≡ false → ownerFits (o .cores) v ≡ true → theCore w v < o .cores
+core-inside o (NamedCore c) v h e i = leb-false (o .cores) c e
+core-inside o Owner (Shared w r) h e i = h
+core-inside o Owner (Owned c) h e i = ltb-true c (o .cores) i
+core-inside o Nobody v h e i = h
+
+pub named-inside : (o : Opening) (w : Which) → 1 ≤ o .lines → noLine w o ≡ false → namedLine w < o .lines
+named-inside o (NamedLine l) h e = leb-false (o .lines) l e
+named-inside o InSlot h e = h
+named-inside o Nothing h e = h
+
+line-inside : (o : Opening) (w : Which) (v : Slot) → 1 ≤ o .lines → noLine w o ≡ false → slotFits (o .lines) v ≡ true → theLine w v < o .lines
+line-inside o (NamedLine l) v h e i = leb-false (o .lines) l e
+line-inside o InSlot Empty h e i = h
+line-inside o InSlot (Asked a l t d) h e i = ltb-true l (o .lines) i
+line-inside o InSlot (Answered g l w r) h e i = ltb-true l (o .lines) i
+line-inside o Nothing v h e i = h
 
 module _ {m : Machine} (f : Fit m) where
   -- the slot of a core speaks of a line that is there
@@ -136,28 +152,14 @@ module _ {m : Machine} (f : Fit m) where
   lim : Inside (m .state .opening)
   lim = inside (m .state .opening) (f .opening)
 
-  both-named : (c l : ℕ) (rs : List Rule) → first (coreRule c (m .state .opening) ∷ lineRule l (m .state .opening) ∷ rs) ≡ 0 → Placed (m .state .opening) c l
-  both-named c l rs e = let a = core-passed (m .state .opening) c _ e in placed-at lim (a .0) (line-passed (m .state .opening) l rs (a .1) .0)
-
-  asked-for : (c : ℕ) (rs : List Rule) → first (coreRule c (m .state .opening) ∷ rs) ≡ 0 → Placed (m .state .opening) c (slotLine (coreAt (m .state) c .slot))
-  asked-for c rs e =
-      let a = core-passed (m .state .opening) c rs e .0 in
-      placed-at lim a (slot-line _ (coreAt (m .state) c .slot) (lim .someLines) (slot-inside c a))
-
   -- the core and the line that a call is about are there, if none of 3 to 6 refuses it
   pub placed : (call : Call) (n : ℕ) → callRefusal call (m .state .opening) n ≡ 0 → Placed (m .state .opening) (coreOf call (m .state)) (lineOf call (m .state))
-  unfolding callRefusal callRules
-  placed (Load c l) n e = both-named c l _ e
-  placed (Store c l) n e = both-named c l _ e
-  placed (Fence c) n e = placed-at lim (core-passed (m .state .opening) c _ e .0) (lim .someLines)
-  placed (Evict c l) n e = both-named c l _ e
-  placed (Advance c by) n e = placed-at lim (core-passed (m .state .opening) c _ e .0) (lim .someLines)
-  placed (Serve c) n e = asked-for c _ e
-  placed (Receive c) n e = asked-for c _ e
-  placed (Yield l) n e =
-      let a = line-passed (m .state .opening) l _ e .0 in
-      placed-at lim (owner-core _ (lineAt (m .state) l .manager) (lim .someCores) (owner-inside l a)) a
-  placed (Take l) n e = placed-at lim (lim .someCores) (line-passed (m .state .opening) l _ e .0)
+  placed call n e =
+      let o = m .state .opening in
+      let a = named call o n e in
+      let l = named-inside o (about call .line) (lim .someLines) (a .line) in
+      let c = core-inside o (about call .core) _ (lim .someCores) (a .core) (owner-inside _ l) in
+      placed-at lim c (line-inside o (about call .line) _ (lim .someLines) (a .line) (slot-inside _ c))
 
 -- ---- all refusals
 

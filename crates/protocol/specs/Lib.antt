@@ -4,9 +4,11 @@ pub mod Clock
 pub mod Limits
 pub mod Fresh
 pub mod Buffers
+pub mod About
 pub mod Machine
 pub mod Refusals
 pub mod Tables
 pub mod Step
 pub mod Run
+pub mod Counts
 pub mod Order

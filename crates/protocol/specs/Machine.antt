@@ -3,6 +3,7 @@ use Prim.Native.Nat.{ℕ, _+_, _*_}
 use lib.ListN.{getD, set, replicate}
 use Rattle.protocol.specs.Buffers.{Bytes, privateLength, sharedLength, movedPrivate, movedShared}
 use Rattle.protocol.specs.Limits.{mostLines}
+use Rattle.protocol.specs.About.{about, namedLine}
 use Rattle.protocol.specs.Fresh.{freshCore, freshCell, freshLine, freshState}
 use Rattle.protocol.specs.declared.Copy.{Copy}
 use Rattle.protocol.specs.declared.Slot.{Slot}
@@ -14,8 +15,9 @@ use Rattle.protocol.specs.declared.Manager.the-variants.{Shared, Owned}
 use Rattle.protocol.specs.declared.Line.{Line}
 use Rattle.protocol.specs.declared.Opening.{Opening}
 use Rattle.protocol.specs.declared.State.{State}
-use Rattle.protocol.specs.declared.Call.{Call}
-use Rattle.protocol.specs.declared.Call.the-variants.{Load, Store, Fence, Evict, Advance, Serve, Receive, Yield, Take}
+use Rattle.protocol.specs.declared.{Call.Call, Who.Who, Which.Which}
+use Rattle.protocol.specs.declared.Who.the-variants.{Core as Named, Owner, Nobody}
+use Rattle.protocol.specs.declared.Which.the-variants.{Line as NamedLine, InSlot, Nothing}
 use Rattle.protocol.specs.declared.Effect.{Effect}
 
 -- a state and the two buffers
@@ -65,29 +67,23 @@ abbrev pub ownerOf : Manager → ℕ
 ownerOf (Shared w r) = 0
 ownerOf (Owned c) = c
 
--- the core that a call is about: the one that it names; for a yield, the line's owner
-abbrev pub coreOf : Call → State → ℕ
-coreOf (Load c l) s = c
-coreOf (Store c l) s = c
-coreOf (Fence c) s = c
-coreOf (Evict c l) s = c
-coreOf (Advance c n) s = c
-coreOf (Serve c) s = c
-coreOf (Receive c) s = c
-coreOf (Yield l) s = ownerOf (lineAt s l .manager)
-coreOf (Take l) s = 0
+-- the core that a call is about: the one that it names, or the line's owner
+abbrev pub theCore : Who → Manager → ℕ
+theCore (Named c) m = c
+theCore Owner m = ownerOf m
+theCore Nobody m = 0
 
--- the line that a call is about: the one that it names; for a serve or a receive, the slot's
+abbrev pub coreOf : Call → State → ℕ
+coreOf call s = theCore (about call .core) (lineAt s (namedLine (about call .line)) .manager)
+
+-- the line that a call is about: the one that it names, or the slot's
+abbrev pub theLine : Which → Slot → ℕ
+theLine (NamedLine l) k = l
+theLine InSlot k = slotLine k
+theLine Nothing k = 0
+
 abbrev pub lineOf : Call → State → ℕ
-lineOf (Load c l) s = l
-lineOf (Store c l) s = l
-lineOf (Fence c) s = 0
-lineOf (Evict c l) s = l
-lineOf (Advance c n) s = 0
-lineOf (Serve c) s = slotLine (coreAt s c .slot)
-lineOf (Receive c) s = slotLine (coreAt s c .slot)
-lineOf (Yield l) s = l
-lineOf (Take l) s = l
+lineOf call s = theLine (about call .line) (coreAt s (coreOf call s) .slot)
 
 -- the state with a step's effect on core c and line l written back; a step that has no core or no line of its own leaves those of number 0 as
 -- they are

@@ -8,6 +8,7 @@ use Rattle.protocol.specs.Pick.{pick, both, fails, every, Rule, first, _
 use Rattle.protocol.specs.Stamps.{earlier, fits}
 use Rattle.protocol.specs.Limits.{openingFits}
 use Rattle.protocol.specs.Buffers.{Bytes, privateLength, sharedLength}
+use Rattle.protocol.specs.About.{about}
 use Rattle.protocol.specs.Machine.{Machine, Pieces, piecesAt, coreOf, lineOf}
 use Rattle.protocol.specs.declared.Stamp.{Stamp}
 use Rattle.protocol.specs.declared.Copy.{Copy}
@@ -25,7 +26,10 @@ use Rattle.protocol.specs.declared.Writeback.the-variants.{None as NoWri
 use Rattle.protocol.specs.declared.Line.{Line}
 use Rattle.protocol.specs.declared.Opening.{Opening}
 use Rattle.protocol.specs.declared.State.{State}
-use Rattle.protocol.specs.declared.Call.{Call}
+use Rattle.protocol.specs.declared.{Call.Call, Who.Who, Which.Which, Act.Act, About.About}
+use Rattle.protocol.specs.declared.Who.the-variants.{Core as Named, Owner, Nobody}
+use Rattle.protocol.specs.declared.Which.the-variants.{Line as NamedLine, InSlot, Nothing}
+use Rattle.protocol.specs.declared.Act.the-variants.{Load as Loads, Store as Stores, Fence as Fences, Advance as Advances, Transfer}
 use Rattle.protocol.specs.declared.Call.the-variants.{Load, Store, Fence, Evict, Advance, Serve, Receive, Yield, Take}
 
 -- ---- Refused because of the input
@@ -69,28 +73,44 @@ machineRefusal m =
     ∷ [])
 
 -- 3: core ≥ cores
-abbrev pub coreRule : ℕ → Opening → Rule
-coreRule c o = leb (o .cores) c gives 3
+abbrev pub noCore : Who → Opening → Bool
+noCore (Named c) o = leb (o .cores) c
+noCore Owner o = false
+noCore Nobody o = false
 
 -- 4: line ≥ lines
-abbrev pub lineRule : ℕ → Opening → Rule
-lineRule l o = leb (o .lines) l gives 4
+abbrev pub noLine : Which → Opening → Bool
+noLine (NamedLine l) o = leb (o .lines) l
+noLine InSlot o = false
+noLine Nothing o = false
 
--- 3 to 6, for each call those that speak of what it names; n is the count of the store bytes.
--- 5: store bytes not width in count. 6: advance by 0
-unfoldable pub callRules : Call → Opening → ℕ → List Rule
-callRules (Load c l) o n = coreRule c o ∷ lineRule l o ∷ []
-callRules (Store c l) o n = coreRule c o ∷ lineRule l o ∷ (fails (eqb n (o .width)) gives 5) ∷ []
-callRules (Fence c) o n = coreRule c o ∷ []
-callRules (Evict c l) o n = coreRule c o ∷ lineRule l o ∷ []
-callRules (Advance c by) o n = coreRule c o ∷ (eqb by 0 gives 6) ∷ []
-callRules (Serve c) o n = coreRule c o ∷ []
-callRules (Receive c) o n = coreRule c o ∷ []
-callRules (Yield l) o n = lineRule l o ∷ []
-callRules (Take l) o n = lineRule l o ∷ []
+-- 5: store bytes not width in count
+abbrev pub wrongCount : Act → Opening → ℕ → Bool
+wrongCount Stores o n = fails (eqb n (o .width))
+wrongCount Loads o n = false
+wrongCount Fences o n = false
+wrongCount (Advances by) o n = false
+wrongCount Transfer o n = false
+
+-- 6: advance by 0
+abbrev pub byNothing : Act → Bool
+byNothing (Advances by) = eqb by 0
+byNothing Loads = false
+byNothing Stores = false
+byNothing Fences = false
+byNothing Transfer = false
+
+-- 3 to 6, of what a call is about; n is the count of the store bytes
+unfoldable pub callRules : About → Opening → ℕ → List Rule
+callRules a o n =
+    (noCore (a .core) o gives 3)
+    ∷ (noLine (a .line) o gives 4)
+    ∷ (wrongCount (a .act) o n gives 5)
+    ∷ (byNothing (a .act) gives 6)
+    ∷ []
 
 unfoldable pub callRefusal : Call → Opening → ℕ → ℕ
-callRefusal call o n = first (callRules call o n)
+callRefusal call o n = first (callRules (about call) o n)
 
 -- ---- Refused because of the state
 

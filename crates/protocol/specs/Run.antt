@@ -2,12 +2,13 @@
 use Prim.Native.Nat.{ℕ, suc}
 use mathlib.Core.List.{List, [], _∷_, _++_}
 use Rattle.protocol.specs.Buffers.{Bytes}
+use Rattle.protocol.specs.About.{about, namedCore, namedLine}
 use Rattle.protocol.specs.Machine.{Machine}
 use Rattle.protocol.specs.Step.{Op, load, store, fence, Reply, refused, done, commit, step}
 use Rattle.protocol.specs.declared.Stamp.{Stamp}
 use Rattle.protocol.specs.declared.Place.{Place}
-use Rattle.protocol.specs.declared.Call.{Call}
-use Rattle.protocol.specs.declared.Call.the-variants.{Load, Store, Fence, Evict, Advance, Serve, Receive, Yield, Take}
+use Rattle.protocol.specs.declared.{Call.Call, Act.Act}
+use Rattle.protocol.specs.declared.Act.the-variants.{Load as Loads, Store as Stores, Fence as Fences, Advance as Advances, Transfer}
 
 -- a call of a list, with the bytes given to it (a store's; any other call passes over them)
 pub record Given : Type 0 where
@@ -54,18 +55,18 @@ bytesOf (load l b) = b
 bytesOf (store l b) = b
 bytesOf fence = []
 
--- the commit of a call that committed at t. "A commit's kind, core and line, and a store's bytes, are those that its call was given";
--- of the answer only the timestamp enters, and a load's bytes, which are there to be compared. "Commits come from load, store and fence only."
+-- "A commit's kind, core and line, and a store's bytes, are those that its call was given"; of the answer only the timestamp enters, and a
+-- load's bytes, which are there to be compared. "Commits come from load, store and fence only."
+abbrev pub actCommit : Act → Place → ℕ → ℕ → Bytes → Stamp → Op Bytes → List (Commit Bytes)
+actCommit Loads p c l given t o = record { place = p; core = c; ts = t; op = load l (bytesOf o) } ∷ []
+actCommit Stores p c l given t o = record { place = p; core = c; ts = t; op = store l given } ∷ []
+actCommit Fences p c l given t o = record { place = p; core = c; ts = t; op = fence } ∷ []
+actCommit (Advances by) p c l given t o = []
+actCommit Transfer p c l given t o = []
+
+-- the commit of a call that committed at t
 abbrev pub commitAt : Place → Call → Bytes → Stamp → Op Bytes → List (Commit Bytes)
-commitAt p (Load c l) given t o = record { place = p; core = c; ts = t; op = load l (bytesOf o) } ∷ []
-commitAt p (Store c l) given t o = record { place = p; core = c; ts = t; op = store l given } ∷ []
-commitAt p (Fence c) given t o = record { place = p; core = c; ts = t; op = fence } ∷ []
-commitAt p (Evict c l) given t o = []
-commitAt p (Advance c by) given t o = []
-commitAt p (Serve c) given t o = []
-commitAt p (Receive c) given t o = []
-commitAt p (Yield l) given t o = []
-commitAt p (Take l) given t o = []
+commitAt p call given t o = actCommit (about call .act) p (namedCore (about call .core)) (namedLine (about call .line)) given t o
 
 -- the commit of a call by its answer, or none
 abbrev pub commitOf : Place → Given → Reply → List (Commit Bytes)

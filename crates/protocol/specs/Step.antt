@@ -8,6 +8,7 @@ use lib.ListN.{length}
 use Rattle.protocol.specs.Pick.{pick}
 use Rattle.protocol.specs.Fresh.{freshState, smallest}
 use Rattle.protocol.specs.Buffers.{Bytes, copyStart, managerStart, copyBytes}
+use Rattle.protocol.specs.About.{about}
 use Rattle.protocol.specs.Machine.{Machine, Pieces, piecesAt, copyAt, coreOf, lineOf, applied}
 use Rattle.protocol.specs.Refusals.{openRefusal, machineRefusal, callRefusal, refusal, orElse, isHeld}
 use Rattle.protocol.specs.Tables.{tableOf}
@@ -15,16 +16,15 @@ use Rattle.protocol.specs.declared.Stamp.{Stamp}
 use Rattle.protocol.specs.declared.Opening.{Opening}
 use Rattle.protocol.specs.declared.State.{State}
 use Rattle.protocol.specs.declared.Call.{Call}
-use Rattle.protocol.specs.declared.Call.the-variants.{Load, Store, Fence, Evict, Advance, Serve, Receive, Yield, Take}
-use Rattle.protocol.specs.declared.Answer.{Answer}
-use Rattle.protocol.specs.declared.Answer.the-variants.{Refused, Open, Ask, Recall, Share, Renew, Own, Drop, Evict as AnswerEvict, Advance as AnswerAdvance, Yield as AnswerYield, Take as AnswerTake, CommitLoad, CommitStore, CommitFence}
+use Rattle.protocol.specs.declared.{Act.Act, Name.Name, Kind.Kind, Answer.Answer}
+use Rattle.protocol.specs.declared.Call.the-variants.{Load}
+use Rattle.protocol.specs.declared.Act.the-variants.{Load as Loads, Store as Stores, Fence as Fences, Advance as Advances, Transfer}
+use Rattle.protocol.specs.declared.Name.the-variants.{Open}
+use Rattle.protocol.specs.declared.Kind.the-variants.{Load as OfLoad, Store as OfStore, Fence as OfFence}
+use Rattle.protocol.specs.declared.Answer.the-variants.{Refused, Done, Commit}
 use Rattle.protocol.specs.declared.Effect.{Effect}
 
 -- ---- answers
-
--- the names that an answer which is no commit goes by; `dropped` and `taken` are 01's drop and take, which name operations on lists
-pub data Done : Type 0 where
-  «open» ask recall share renew own dropped evict advance yield taken : Done
 
 -- what a commit did: its kind and, but for a fence, its line and value. The value of a line is its bytes
 pub data Op (A : Type 0) : Type 0 where
@@ -35,26 +35,20 @@ pub data Op (A : Type 0) : Type 0 where
 -- an answer: the number of a refusal, a name, or a commit with core, timestamp and what it did
 pub data Reply : Type 0 where
   refused : ℕ → Reply
-  done : Done → Reply
+  done : Name → Reply
   commit : ℕ → Stamp → Op Bytes → Reply
 
--- the scope document's number and values for each case of an answer; a commit's bytes stand beside it
+-- a commit's kind with its value
+abbrev pub valued : Kind → Bytes → Op Bytes
+valued (OfLoad l) bytes = load l bytes
+valued (OfStore l) bytes = store l bytes
+valued OfFence bytes = fence
+
+-- the scope document's number and values for each case of an answer; a commit's bytes are beside it
 unfoldable pub meaning : Answer → Bytes → Reply
 meaning (Refused n) bytes = refused n
-meaning Open bytes = done «open»
-meaning Ask bytes = done ask
-meaning Recall bytes = done recall
-meaning Share bytes = done share
-meaning Renew bytes = done renew
-meaning Own bytes = done own
-meaning Drop bytes = done dropped
-meaning AnswerEvict bytes = done evict
-meaning AnswerAdvance bytes = done advance
-meaning AnswerYield bytes = done yield
-meaning AnswerTake bytes = done taken
-meaning (CommitLoad c l t) bytes = commit c t (load l bytes)
-meaning (CommitStore c l t) bytes = commit c t (store l bytes)
-meaning (CommitFence c t) bytes = commit c t fence
+meaning (Done d) bytes = done d
+meaning (Commit c t k) bytes = commit c t (valued k bytes)
 
 -- ---- open
 
@@ -63,7 +57,7 @@ abbrev pub opened : Opening → State
 opened o = pick (eqb (openRefusal o) 0) (freshState o) (freshState smallest)
 
 abbrev pub openReply : Opening → Reply
-openReply o = pick (eqb (openRefusal o) 0) (done «open») (refused (openRefusal o))
+openReply o = pick (eqb (openRefusal o) 0) (done Open) (refused (openRefusal o))
 
 -- ---- step
 
@@ -73,16 +67,15 @@ pub record Outcome : Type 0 where
   pub machine : Machine
 
 -- "a load's bytes are its copy's"; a store's are those that it was given
+abbrev pub actBytes : Act → Bytes → Bytes → Bytes
+actBytes Stores given copy = given
+actBytes Loads given copy = copy
+actBytes Fences given copy = copy
+actBytes (Advances by) given copy = copy
+actBytes Transfer given copy = copy
+
 abbrev pub commitBytes : Call → Bytes → Bytes → Bytes
-commitBytes (Store c l) given copy = given
-commitBytes (Load c l) given copy = copy
-commitBytes (Fence c) given copy = copy
-commitBytes (Evict c l) given copy = copy
-commitBytes (Advance c by) given copy = copy
-commitBytes (Serve c) given copy = copy
-commitBytes (Receive c) given copy = copy
-commitBytes (Yield l) given copy = copy
-commitBytes (Take l) given copy = copy
+commitBytes call given copy = actBytes (about call .act) given copy
 
 -- an accepted call on core c and line l: the answer and the machine of its table's row
 unfoldable pub accepted : Machine → Call → Bytes → ℕ → ℕ → Effect → Outcome

@@ -32,7 +32,9 @@ use Rattle.protocol.specs.declared.Opening.{Opening}
 use Rattle.protocol.specs.declared.Call.{Call}
 use Rattle.protocol.specs.declared.Call.the-variants.{Load, Store, Fence, Evict, Advance, Serve, Receive, Yield, Take}
 use Rattle.protocol.specs.declared.Answer.{Answer}
-use Rattle.protocol.specs.declared.Answer.the-variants.{Refused, Ask, Recall as AnswerRecall, Share, Renew, Own, Drop, Evict as AnswerEvict, Advance as AnswerAdvance, Yield as AnswerYield, Take as AnswerTake, CommitLoad, CommitStore, CommitFence}
+use Rattle.protocol.specs.declared.Answer.the-variants.{Refused, Done, Commit}
+use Rattle.protocol.specs.declared.Name.the-variants.{Ask, Recall as RecallSent, Share, Renew, Own, Drop, Evict as Evicted, Advance as Advanced, Yield as Yielded, Take as Taken}
+use Rattle.protocol.specs.declared.Kind.the-variants.{Load as OfLoad, Store as OfStore, Fence as OfFence}
 use Rattle.protocol.specs.declared.Move.{Move}
 use Rattle.protocol.specs.declared.Move.the-variants.{Still, Store as MoveStore, Answer as MoveAnswer, Receive as MoveReceive, Writeback as MoveWriteback, Take as MoveTake}
 use Rattle.protocol.specs.declared.Effect.{Effect}
@@ -62,7 +64,7 @@ heldOf (CopyOwned d w r) = NothingHeld
 
 -- "ask. The slot becomes asked": load or store, line, the lts when asked, the wts of the shared copy held
 abbrev pub asking : Want → ℕ → Pieces → Effect
-asking a l p = row Ask Still (slotted (p .core) (Asked a l (p .core .clocks .lts) (heldOf (p .copy)))) (p .copy) (p .line)
+asking a l p = row (Done Ask) Still (slotted (p .core) (Asked a l (p .core .clocks .lts) (heldOf (p .copy)))) (p .copy) (p .line)
 
 -- ---- load
 
@@ -74,14 +76,14 @@ raised w p = clocked (p .core) (loaded (p .core .clocks) w)
 -- "owned, not dirty: lts becomes max(lts, wts), commit there; rts becomes max(rts, lts)"
 unfoldable pub loadOwned : Bool → ℕ → ℕ → Stamp → Stamp → Pieces → Effect
 loadOwned true c l w r p =
-    row (CommitLoad c l (p .core .clocks .lts)) Still (p .core) (CopyOwned true w (later r (p .core .clocks .lts))) (p .line)
+    row (Commit c (p .core .clocks .lts) (OfLoad l)) Still (p .core) (CopyOwned true w (later r (p .core .clocks .lts))) (p .line)
 loadOwned false c l w r p =
-    row (CommitLoad c l (loaded (p .core .clocks) w .lts)) Still (raised w p) (CopyOwned false w (later r (loaded (p .core .clocks) w .lts))) (p .line)
+    row (Commit c (loaded (p .core .clocks) w .lts) (OfLoad l)) Still (raised w p) (CopyOwned false w (later r (loaded (p .core .clocks) w .lts))) (p .line)
 
 -- "shared, lts ≤ rts: lts becomes max(lts, wts), commit there"
 abbrev pub loadShared : ℕ → ℕ → Stamp → Pieces → Effect
 loadShared c l w p =
-    row (CommitLoad c l (loaded (p .core .clocks) w .lts)) Still (raised w p) (p .copy) (p .line)
+    row (Commit c (loaded (p .core .clocks) w .lts) (OfLoad l)) Still (raised w p) (p .copy) (p .line)
 
 -- "shared, lts > rts, or none: ask"
 unfoldable pub loadTable : Copy → ℕ → ℕ → Pieces → Effect
@@ -98,7 +100,7 @@ earliest r = plus r 1
 -- "owned: ts = max(lts, sts, rts + 1); sts, wts and rts become ts, bytes replaced, dirty; commit at ts. Else: ask."
 unfoldable pub storeTable : Copy → ℕ → ℕ → Pieces → Effect
 storeTable (CopyOwned d w r) c l p =
-    row (CommitStore c l (storeTime (p .core .clocks) (earliest r))) MoveStore (clocked (p .core) (stored (p .core .clocks) (earliest r)))
+    row (Commit c (storeTime (p .core .clocks) (earliest r)) (OfStore l)) MoveStore (clocked (p .core) (stored (p .core .clocks) (earliest r)))
     (CopyOwned true (storeTime (p .core .clocks) (earliest r)) (storeTime (p .core .clocks) (earliest r))) (p .line)
 storeTable (CopyShared w r) c l p = asking WantStore l p
 storeTable NoCopy c l p = asking WantStore l p
@@ -107,11 +109,11 @@ storeTable NoCopy c l p = asking WantStore l p
 
 -- "fence (core): lts becomes max(lts, sts); commit there"
 unfoldable pub fenceTable : ℕ → Pieces → Effect
-fenceTable c p = row (CommitFence c (fenced (p .core .clocks) .lts)) Still (clocked (p .core) (fenced (p .core .clocks))) (p .copy) (p .line)
+fenceTable c p = row (Commit c (fenced (p .core .clocks) .lts) OfFence) Still (clocked (p .core) (fenced (p .core .clocks))) (p .copy) (p .line)
 
 -- "advance (core, by): lts grows by that amount. No commit."
 unfoldable pub advanceTable : ℕ → Pieces → Effect
-advanceTable by p = row AnswerAdvance Still (clocked (p .core) (advanced (p .core .clocks) (plus (p .core .clocks .lts) by))) (p .copy) (p .line)
+advanceTable by p = row (Done Advanced) Still (clocked (p .core) (advanced (p .core .clocks) (plus (p .core .clocks .lts) by))) (p .copy) (p .line)
 
 -- ---- evict
 
@@ -121,8 +123,8 @@ writtenBack m w r = record { manager = m .manager; recall = m .recall; writeback
 
 -- "shared: copy becomes none. Owned: its wts, rts and bytes become the writeback, copy none."
 unfoldable pub evictTable : Copy → Pieces → Effect
-evictTable (CopyShared w r) p = row AnswerEvict Still (p .core) NoCopy (p .line)
-evictTable (CopyOwned d w r) p = row AnswerEvict MoveWriteback (p .core) NoCopy (writtenBack (p .line) w r)
+evictTable (CopyShared w r) p = row (Done Evicted) Still (p .core) NoCopy (p .line)
+evictTable (CopyOwned d w r) p = row (Done Evicted) MoveWriteback (p .core) NoCopy (writtenBack (p .line) w r)
 evictTable NoCopy p = refusedRow 26 p
 
 -- ---- serve
@@ -149,19 +151,19 @@ leasedTo r t lease = later r (plus t lease)
 
 -- "the slot becomes renew, no bytes move; otherwise share, with bytes"; r is the new end of the lease
 unfoldable pub serveLoad : Bool → ℕ → Stamp → Stamp → Pieces → Effect
-serveLoad true l w r p = row Renew Still (slotted (p .core) (Answered GrantRenew l w r)) (p .copy) (managed (p .line) (Shared w r))
-serveLoad false l w r p = row Share MoveAnswer (slotted (p .core) (Answered GrantShare l w r)) (p .copy) (managed (p .line) (Shared w r))
+serveLoad true l w r p = row (Done Renew) Still (slotted (p .core) (Answered GrantRenew l w r)) (p .copy) (managed (p .line) (Shared w r))
+serveLoad false l w r p = row (Done Share) MoveAnswer (slotted (p .core) (Answered GrantShare l w r)) (p .copy) (managed (p .line) (Shared w r))
 
 -- "line owned: answer recall .. Slot stays."
 -- "shared, load: rts becomes max(rts, asked lts + lease). If the asked wts equals the manager's, the slot becomes renew .. otherwise share"
 -- "shared, store: manager line becomes owned by that core; slot becomes own, with bytes"
 unfoldable pub serveAsked : Manager → Want → ℕ → ℕ → Stamp → Held → Pieces → Opening → Effect
 serveAsked (Owned k) a c l t h p o =
-    row AnswerRecall Still (p .core) (p .copy)
+    row (Done RecallSent) Still (p .core) (p .copy)
     (record { manager = p .line .manager; recall = recalled a (p .line .recall); writeback = p .line .writeback })
 serveAsked (Shared w r) WantLoad c l t h p o = serveLoad (sameVersion h w) l w (leasedTo r t (o .lease)) p
 serveAsked (Shared w r) WantStore c l t h p o =
-    row Own MoveAnswer (slotted (p .core) (Answered GrantOwn l w r)) (p .copy) (managed (p .line) (Owned c))
+    row (Done Own) MoveAnswer (slotted (p .core) (Answered GrantOwn l w r)) (p .copy) (managed (p .line) (Owned c))
 
 -- serve (core with an asked slot)
 unfoldable pub serveTable : Slot → ℕ → Pieces → Opening → Effect
@@ -173,14 +175,14 @@ serveTable Empty c p o = refusedRow 21 p
 
 -- "Renew: a shared copy takes the slot's rts, answer renew; no copy, or an owned one: no copy changes, answer drop."
 unfoldable pub receiveRenew : Copy → Stamp → Pieces → Effect
-receiveRenew (CopyShared w r) rts p = row Renew Still (slotted (p .core) Empty) (CopyShared w rts) (p .line)
-receiveRenew (CopyOwned d w r) rts p = row Drop Still (slotted (p .core) Empty) (p .copy) (p .line)
-receiveRenew NoCopy rts p = row Drop Still (slotted (p .core) Empty) (p .copy) (p .line)
+receiveRenew (CopyShared w r) rts p = row (Done Renew) Still (slotted (p .core) Empty) (CopyShared w rts) (p .line)
+receiveRenew (CopyOwned d w r) rts p = row (Done Drop) Still (slotted (p .core) Empty) (p .copy) (p .line)
+receiveRenew NoCopy rts p = row (Done Drop) Still (slotted (p .core) Empty) (p .copy) (p .line)
 
 -- "share or own: copy becomes shared or owned with the slot's wts, rts and bytes, not dirty; answer share or own. .. Slot becomes empty."
 unfoldable pub receiveGrant : Grant → Stamp → Stamp → Pieces → Effect
-receiveGrant GrantShare w r p = row Share MoveReceive (slotted (p .core) Empty) (CopyShared w r) (p .line)
-receiveGrant GrantOwn w r p = row Own MoveReceive (slotted (p .core) Empty) (CopyOwned false w r) (p .line)
+receiveGrant GrantShare w r p = row (Done Share) MoveReceive (slotted (p .core) Empty) (CopyShared w r) (p .line)
+receiveGrant GrantOwn w r p = row (Done Own) MoveReceive (slotted (p .core) Empty) (CopyOwned false w r) (p .line)
 receiveGrant GrantRenew w r p = receiveRenew (p .copy) r p
 
 -- receive (core with an answered slot)
@@ -199,7 +201,7 @@ yielded NoRecall w r = NoCopy
 
 -- "the owner's wts, rts and bytes become the writeback"
 unfoldable pub yieldTable : Copy → Pieces → Effect
-yieldTable (CopyOwned d w r) p = row AnswerYield MoveWriteback (p .core) (yielded (p .line .recall) w r) (writtenBack (p .line) w r)
+yieldTable (CopyOwned d w r) p = row (Done Yielded) MoveWriteback (p .core) (yielded (p .line .recall) w r) (writtenBack (p .line) w r)
 yieldTable (CopyShared w r) p = refusedRow 24 p
 yieldTable NoCopy p = refusedRow 24 p
 
@@ -208,7 +210,7 @@ yieldTable NoCopy p = refusedRow 24 p
 -- "manager takes the writeback, becomes shared; recall none, writeback none"
 unfoldable pub takeTable : Writeback → Pieces → Effect
 takeTable (Flight w r) p =
-    row AnswerTake MoveTake (p .core) (p .copy) (record { manager = Shared w r; recall = NoRecall; writeback = NoWriteback })
+    row (Done Taken) MoveTake (p .core) (p .copy) (record { manager = Shared w r; recall = NoRecall; writeback = NoWriteback })
 takeTable NoWriteback p = refusedRow 25 p
 
 -- ---- the nine

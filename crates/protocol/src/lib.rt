@@ -5,10 +5,14 @@
 // crate's code is what every other crate shares: comparing timestamps, stepping a core's clocks,
 // and the fixed values that a fresh engine starts from. No function here has a `requires`.
 ghost use mathlib.Core.Path.{_≡_};
+ghost use mathlib.Core.List.{[]};
 ghost use Rattle.protocol.specs.Stamps.{greatest, atMost, earlier, same, madeEarlier, later, after, precedes};
 ghost use Rattle.protocol.specs.Clock.{loaded, stored, fenced, advanced};
 ghost use Rattle.protocol.specs.Fresh.{freshCore, freshCell, freshLine, freshState, smallest};
 ghost use Rattle.protocol.specs.Limits.{within, openingFits};
+ghost use Rattle.protocol.specs.About.{concerns, about};
+ghost use Rattle.protocol.specs.Step.{meaning};
+ghost use Rattle.protocol.specs.Counts.{countsOf};
 
 // A logical timestamp. It is compared only with another timestamp.
 pub struct Stamp(pub u32);
@@ -361,7 +365,7 @@ impl State {
     }
 }
 
-// The nine steps. A store's bytes stand beside the call.
+// The nine steps. A store's bytes are given beside the call.
 pub enum Call {
     Load { core: usize, line: usize },
     Store { core: usize, line: usize },
@@ -374,10 +378,71 @@ pub enum Call {
     Take { line: usize },
 }
 
-// What a call answers: the number of its refusal, the name of what was done, or a commit. The bytes
-// of a load's or a store's commit stand beside the answer.
-pub enum Answer {
-    Refused(u8),
+// The core that a call is about: the one that it names, the owner of its line, or none.
+pub enum Who {
+    Core(usize),
+    Owner,
+    Nobody,
+}
+
+// The line that a call is about: the one that it names, the one in its core's slot, or none.
+pub enum Which {
+    Line(usize),
+    InSlot,
+    Nothing,
+}
+
+// What a call does to its core's clocks, and so what it may commit; a transfer moves a request or a
+// line between a core and the manager, and commits nothing.
+pub enum Act {
+    Load,
+    Store,
+    Fence,
+    Advance(u32),
+    Transfer,
+}
+
+// What a call is about.
+pub struct About {
+    pub core: Who,
+    pub line: Which,
+    pub act: Act,
+}
+
+impl Call {
+    // What this call is about: every question of which core, which line and what commit goes by it.
+    pub fn about(self) -> About
+        ensures { λ r. ⌜ r ≡ about self ⌝ }
+    {
+        match self {
+            Call::Load { core, line } => { concerns(Who::Core(core), Which::Line(line), Act::Load) }
+            Call::Store { core, line } => {
+                concerns(Who::Core(core), Which::Line(line), Act::Store)
+            }
+            Call::Fence { core } => concerns(Who::Core(core), Which::Nothing, Act::Fence),
+            Call::Evict { core, line } => {
+                concerns(Who::Core(core), Which::Line(line), Act::Transfer)
+            }
+            Call::Advance { core, by } => {
+                concerns(Who::Core(core), Which::Nothing, Act::Advance(by))
+            }
+            Call::Serve { core } => concerns(Who::Core(core), Which::InSlot, Act::Transfer),
+            Call::Receive { core } => concerns(Who::Core(core), Which::InSlot, Act::Transfer),
+            Call::Yield { line } => concerns(Who::Owner, Which::Line(line), Act::Transfer),
+            Call::Take { line } => concerns(Who::Nobody, Which::Line(line), Act::Transfer),
+        }
+    }
+}
+
+// A core, a line, and what is done.
+fn concerns(core: Who, line: Which, act: Act) -> About
+    ensures { λ r. ⌜ r ≡ concerns core line act ⌝ }
+{
+    About { core, line, act }
+}
+
+// The name of what was done, where nothing was refused or committed.
+pub enum Name {
     Open,
     Ask,
     Recall,
@@ -389,9 +454,55 @@ pub enum Answer {
     Advance,
     Yield,
     Take,
-    CommitLoad { core: usize, line: usize, ts: Stamp },
-    CommitStore { core: usize, line: usize, ts: Stamp },
-    CommitFence { core: usize, ts: Stamp },
+}
+
+// A commit's kind and, but for a fence, its line.
+pub enum Kind {
+    Load { line: usize },
+    Store { line: usize },
+    Fence,
+}
+
+// What a call answers: the number of its refusal, the name of what was done, or a commit. The bytes
+// of a load's or a store's commit are beside the answer.
+pub enum Answer {
+    Refused(u8),
+    Done(Name),
+    Commit { core: usize, ts: Stamp, kind: Kind },
+}
+
+// How many step lines were met, and how many of them were commits and refusals.
+pub struct Counts {
+    pub steps: u64,
+    pub commits: u64,
+    pub refusals: u64,
+}
+
+impl Counts {
+    // Nothing met.
+    pub const NONE: Counts = Counts {
+        steps: 0,
+        commits: 0,
+        refusals: 0,
+    };
+
+    // What a call with its answer adds.
+    pub fn of(call: Call, answer: Answer) -> Counts
+        ensures { λ r. ⌜ r ≡ countsOf call (meaning answer []) ⌝ }
+    {
+        let mut k = Counts::NONE;
+        k.steps = 1;
+        match answer {
+            Answer::Refused(_) => {
+                k.refusals = 1;
+            }
+            Answer::Done(_) => {}
+            Answer::Commit { .. } => {
+                k.commits = 1;
+            }
+        }
+        k
+    }
 }
 
 // Which line of bytes a step moves, and where to.

@@ -15,7 +15,7 @@ use Rattle.protocol.specs.Step.{refused, Outcome, accepted, step}
 use Rattle.protocol.specs.Run.{Commit}
 use Rattle.protocol.specs.declared.Call.{Call}
 use Rattle.protocol.specs.declared.Call.the-variants.{Load, Store, Fence, Evict, Advance, Serve, Receive, Yield, Take}
-use Rattle.protocol.proofs.Refusals.{machine-fit, placed, store-width, NotRefused, not-refused}
+use Rattle.protocol.proofs.Refusals.{machine-fit, named, placed, store-width, NotRefused, not-refused}
 use Rattle.protocol.proofs.Order.Look.{Value}
 use Rattle.protocol.proofs.Order.Invariant.{Inv}
 use Rattle.protocol.proofs.Order.Steps.{Good, GoodRow, load-good, store-good, fence-good, advance-good, evict-good, yield-good, take-good, serve-good, receive-good}
@@ -29,7 +29,7 @@ module _ (z : Value) (p : ℕ) {H : List (Commit Bytes)} (given : Bytes) {m : Ma
       load-good z p (Load c l) given I c l (q .core) (q .line) (λ t b. refl) refl (copyAt (m .state) c l) refl
   accepted-good (Store c l) n q =
       store-good z p (Store c l) given I c l (q .core) (q .line) (copyAt (m .state) c l) refl
-      (store-width c l (m .state .opening) (length given) (n .callOk)) (λ t. refl) refl
+      (store-width (m .state .opening) (length given) (named (Store c l) (m .state .opening) (length given) (n .callOk) .count)) (λ t. refl) refl
   accepted-good (Fence c) n q = fence-good z p (Fence c) given I c 0 (q .core) (q .line) (λ t. refl)
   accepted-good (Evict c l) n q = evict-good z p (Evict c l) given I c l (q .core) (q .line) (copyAt (m .state) c l) refl
   accepted-good (Advance c by) n q = advance-good z p (Advance c by) given I c 0 (q .core) (q .line) by

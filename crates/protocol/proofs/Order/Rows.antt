@@ -19,7 +19,7 @@ use Rattle.protocol.specs.declared.Manager.the-variants.{Shared, Owned}
 use Rattle.protocol.specs.declared.Writeback.{Writeback}
 use Rattle.protocol.specs.declared.Writeback.the-variants.{None as NoWriteback, Flight}
 use Rattle.protocol.specs.declared.Answer.{Answer}
-use Rattle.protocol.specs.declared.Answer.the-variants.{Refused, Open, Ask, Recall, Share, Renew, Own, Drop, Evict, Advance, Yield, Take, CommitLoad, CommitStore, CommitFence}
+use Rattle.protocol.specs.declared.Answer.the-variants.{Refused, Done, Commit}
 use Rattle.protocol.specs.declared.Move.the-variants.{Writeback as MoveWriteback}
 
 -- ---- the timestamps in a row
@@ -27,20 +27,8 @@ use Rattle.protocol.specs.declared.Move.the-variants.{Writeback as MoveW
 -- the timestamp of a commit
 abbrev pub timeOf : Answer → ℕ
 timeOf (Refused n) = 0
-timeOf Open = 0
-timeOf Ask = 0
-timeOf Recall = 0
-timeOf Share = 0
-timeOf Renew = 0
-timeOf Own = 0
-timeOf Drop = 0
-timeOf Evict = 0
-timeOf Advance = 0
-timeOf Yield = 0
-timeOf Take = 0
-timeOf (CommitLoad c l t) = t .0
-timeOf (CommitStore c l t) = t .0
-timeOf (CommitFence c t) = t .0
+timeOf (Done d) = 0
+timeOf (Commit c t k) = t .0
 
 -- the end of the lease of a copy, of an answer, of the manager's version, of a writeback
 abbrev pub copyRts : Copy → ℕ

@@ -40,7 +40,8 @@ use Rattle.protocol.specs.declared.Writeback.the-variants.{None as NoWri
 use Rattle.protocol.specs.declared.Opening.{Opening}
 use Rattle.protocol.specs.declared.Call.{Call}
 use Rattle.protocol.specs.declared.Answer.{Answer}
-use Rattle.protocol.specs.declared.Answer.the-variants.{Evict as AnswerEvict, Yield as AnswerYield, Own, Drop}
+use Rattle.protocol.specs.declared.Answer.the-variants.{Done}
+use Rattle.protocol.specs.declared.Name.the-variants.{Evict as Evicted, Yield as Yielded, Own, Drop}
 use Rattle.protocol.specs.declared.Move.{Move}
 use Rattle.protocol.specs.declared.Move.the-variants.{Still, Answer as MoveAnswer, Writeback as MoveWriteback}
 use Rattle.protocol.specs.declared.Effect.{Effect}
@@ -452,7 +453,7 @@ module _ (z : Value) (p : ℕ) {H : List (Commit Bytes)} (call : Call) (given : 
       (one-changes I c l hc hl given d tt (atCopy c) nothing (copySpot d tt) (inr (managerSpot d tt)) (inr (writebackSpot d tt)) (inl refl) (inr (slotSpot d tt))
       (keep z (Writes l) (On l) J (atCopy c) nothing tt))
   evict-good (CopyOwned b w r) e =
-      writes-back AnswerEvict (evictTable (CopyOwned b w r) ps .moves) w r r NoCopy (evict-moves w r b ps) (evict-lease w r b ps)
+      writes-back (Done Evicted) (evictTable (CopyOwned b w r) ps .moves) w r r NoCopy (evict-moves w r b ps) (evict-lease w r b ps)
       (pair-none l (k .slot)) tt (owned-stands w r b e) (keep z (Writes l) (On l) J (atCopy c) nothing tt)
 
   pub yield-good : (v : Copy) → copyAt (m .state) c l ≡ v → GoodRow (yieldTable v ps)
@@ -466,14 +467,14 @@ module _ (z : Value) (p : ℕ) {H : List (Commit Bytes)} (call : Call) (given : 
 
       yields : {g′ : Newest LineCell Value} (u : Copy) → Beside l (k .slot) u → NotNewest (viewCopy c u bytes) → Stands g′ (atCopy c) (w .0) (r .0) (cells bytes)
           → LineAgrees z (Writes l) (On l) H (put (atCopy c) (viewCopy c u bytes) (look m l)) g′
-          → Inv z H (applied m c l given (row AnswerYield MoveWriteback k u (writtenBack (lineAt (m .state) l) w r)))
+          → Inv z H (applied m c l given (row (Done Yielded) MoveWriteback k u (writtenBack (lineAt (m .state) l) w r)))
       yields u pr n j K =
-          writes-back AnswerYield (yieldTable (CopyOwned b w r) ps .moves) w r r u (yield-moves w r b ps) (yield-lease w r b ps) pr n j K
+          writes-back (Done Yielded) (yieldTable (CopyOwned b w r) ps .moves) w r r u (yield-moves w r b ps) (yield-lease w r b ps) pr n j K
 
-      flushed : Inv z H (applied m c l given (row AnswerYield MoveWriteback k NoCopy (writtenBack (lineAt (m .state) l) w r)))
+      flushed : Inv z H (applied m c l given (row (Done Yielded) MoveWriteback k NoCopy (writtenBack (lineAt (m .state) l) w r)))
       flushed = yields NoCopy (pair-none l (k .slot)) tt i (keep z (Writes l) (On l) J (atCopy c) nothing tt)
 
-      go : (q : Recall) → Inv z H (applied m c l given (row AnswerYield MoveWriteback k (yielded q w r) (writtenBack (lineAt (m .state) l) w r)))
+      go : (q : Recall) → Inv z H (applied m c l given (row (Done Yielded) MoveWriteback k (yielded q w r) (writtenBack (lineAt (m .state) l) w r)))
       go NoRecall = flushed
       go Flush = flushed
       go Downgrade =
@@ -536,10 +537,10 @@ module _ (z : Value) (p : ℕ) {H : List (Commit Bytes)} (call : Call) (given : 
         (keep z (Writes l) (On l) K (atSlot c) (snapshot (w .0) (r′ .0) (cells line)) (lease-of z (Writes l) (On l) c (grant-within l w r′ ps false) K)))
 
     serve-own : (w r : Stamp) → lineAt (m .state) l .manager ≡ Shared w r
-        → GoodRow (row Own MoveAnswer (slotted k (Answered GrantOwn l w r)) (copyAt (m .state) c l) (managed (lineAt (m .state) l) (Owned c)))
+        → GoodRow (row (Done Own) MoveAnswer (slotted k (Answered GrantOwn l w r)) (copyAt (m .state) c l) (managed (lineAt (m .state) l) (Owned c)))
     unfolding accepted meaning look
     serve-own w r i =
-        let d = row Own MoveAnswer (slotted k (Answered GrantOwn l w r)) (copyAt (m .state) c l) (managed (lineAt (m .state) l) (Owned c)) in
+        let d = row (Done Own) MoveAnswer (slotted k (Answered GrantOwn l w r)) (copyAt (m .state) c l) (managed (lineAt (m .state) l) (Owned c)) in
         keeps d tt (inr refl) (λ _. ask-not-owned h (copyAt (m .state) c l) beside-request) (omega arith) (omega arith)
         (two-change I c l hc hl given d tt atManager (atSlot c) nothing (newest allClean (w .0) (r .0) (cells line))
         (managerSpot d tt) (slotSpot d tt ∙ view-at l GrantOwn w r line)
@@ -574,7 +575,7 @@ module _ (z : Value) (p : ℕ) {H : List (Commit Bytes)} (call : Call) (given : 
   -- ---- receive
 
   -- a renewal that finds no shared copy
-  dropped : (w r : Stamp) (d : Effect) → d ≡ row Drop Still (slotted k Empty) (copyAt (m .state) c l) (lineAt (m .state) l)
+  dropped : (w r : Stamp) (d : Effect) → d ≡ row (Done Drop) Still (slotted k Empty) (copyAt (m .state) c l) (lineAt (m .state) l)
       → GoodRow d
   unfolding accepted meaning look
   dropped w r d q = rw q
@@ -583,7 +584,7 @@ module _ (z : Value) (p : ℕ) {H : List (Commit Bytes)} (call : Call) (given : 
       (keep z (Writes l) (On l) J (atSlot c) nothing tt)))
     where
       d′ : Effect
-      d′ = row Drop Still (slotted k Empty) (copyAt (m .state) c l) (lineAt (m .state) l)
+      d′ = row (Done Drop) Still (slotted k Empty) (copyAt (m .state) c l) (lineAt (m .state) l)
 
   receive-renew : (v : Copy) (w r : Stamp) → copyAt (m .state) c l ≡ v → k .slot ≡ Answered GrantRenew l w r → GoodRow (receiveRenew v r ps)
   unfolding accepted meaning look receiveRenew

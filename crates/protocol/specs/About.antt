@@ -1,0 +1,35 @@
+-- What a call is about: the core, the line, and what it does to the core's clocks, read off the headings of 01's "Steps". Everything that asks
+-- which core or line a call looks at, what 3 to 6 refuse of it, or what it commits goes by this one definition.
+use Prim.Native.Nat.{ℕ}
+use Rattle.protocol.specs.declared.{Call.Call, Who.Who, Which.Which, Act.Act, About.About}
+use Rattle.protocol.specs.declared.Call.the-variants.{Load, Store, Fence, Evict, Advance, Serve, Receive, Yield, Take}
+use Rattle.protocol.specs.declared.Who.the-variants.{Core, Owner, Nobody}
+use Rattle.protocol.specs.declared.Which.the-variants.{Line, InSlot, Nothing}
+use Rattle.protocol.specs.declared.Act.the-variants.{Load as Loads, Store as Stores, Fence as Fences, Advance as Advances, Transfer}
+
+abbrev pub concerns : Who → Which → Act → About
+concerns c l a = record { core = c; line = l; act = a }
+
+-- "load (core, line)", "store (core, line, bytes)", "fence (core)", "evict (core, line)", "advance (core, by)", "serve (core with an asked
+-- slot)", "receive (core)", "yield (line): the owner's ..", "take (line)"
+abbrev pub about : Call → About
+about (Load c l) = concerns (Core c) (Line l) Loads
+about (Store c l) = concerns (Core c) (Line l) Stores
+about (Fence c) = concerns (Core c) Nothing Fences
+about (Evict c l) = concerns (Core c) (Line l) Transfer
+about (Advance c by) = concerns (Core c) Nothing (Advances by)
+about (Serve c) = concerns (Core c) InSlot Transfer
+about (Receive c) = concerns (Core c) InSlot Transfer
+about (Yield l) = concerns Owner (Line l) Transfer
+about (Take l) = concerns Nobody (Line l) Transfer
+
+-- the core that a call names, and the line; 0 where it names none
+abbrev pub namedCore : Who → ℕ
+namedCore (Core c) = c
+namedCore Owner = 0
+namedCore Nobody = 0
+
+abbrev pub namedLine : Which → ℕ
+namedLine (Line l) = l
+namedLine InSlot = 0
+namedLine Nothing = 0
