@@ -6,4 +6,7 @@ pub mod Bytes
 pub mod Places
 pub mod Moves
 pub mod Refusals
+pub mod Cases
+pub mod Keep
+pub mod Written
 pub mod Order
