@@ -9,4 +9,5 @@ pub mod Refusals
 pub mod Cases
 pub mod Keep
 pub mod Written
+pub mod Reached
 pub mod Order

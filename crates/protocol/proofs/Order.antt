@@ -6,5 +6,4 @@ pub mod Look
 pub mod Invariant
 pub mod Rows
 pub mod Steps
-pub mod Calls
 pub mod Theorem
