@@ -7,7 +7,7 @@ pub mod Places
 pub mod Moves
 pub mod Refusals
 pub mod Cases
-pub mod Keep
 pub mod Written
 pub mod Reached
 pub mod Order
+pub mod Keep
