@@ -42,8 +42,8 @@ module _ {o : Opening} {n c l : ℕ} {p : Pieces} (q : Placed o c l) (slot : slo
   row-fits w (evicts-shared e) = record { slot = slot; owner = owner; bytes = tt }
   row-fits w (evicts-owned e) = record { slot = slot; owner = owner; bytes = tt }
   row-fits w (recalls e i) = record { slot = slot; owner = owner; bytes = tt }
-  row-fits w (renews e i v h) = record { slot = lt-ltb l (o .lines) (q .line); owner = refl; bytes = tt }
-  row-fits w (shares e i v h) = record { slot = lt-ltb l (o .lines) (q .line); owner = refl; bytes = tt }
+  row-fits w (renews e i v h) = record { slot = lt-ltb l (o .lines) (q .line); owner = cc; bytes = tt }
+  row-fits w (shares e i v h) = record { slot = lt-ltb l (o .lines) (q .line); owner = cc; bytes = tt }
   row-fits w (grants e i) = record { slot = lt-ltb l (o .lines) (q .line); owner = lt-ltb c (o .cores) (q .core); bytes = tt }
   row-fits w (gets-share e) = record { slot = refl; owner = owner; bytes = tt }
   row-fits w (gets-own e) = record { slot = refl; owner = owner; bytes = tt }
