@@ -2,22 +2,22 @@
 -- pieces where it is read. A law about every step goes by these cases. The rows are in the tables' own terms: what a row says of the pieces is
 -- for each law to find.
 use Prim.Native.Nat.{ℕ, _≤_}
-use mathlib.Core.Path.{_≡_, refl, sym, ap}
+use mathlib.Core.Path.{_≡_, refl, sym}
 use mathlib.Core.Bool.{Bool, true, false}
 use mathlib.Core.List.{[]}
 use native.Mathlib.Omega.{arith}
-use lib.Dec.{leb, ltb, eqb}
+use lib.Dec.{leb, eqb}
 use borrow.Author.Tests.{leb-true, leb-false, lt-ltb, eqb-true}
 use lib.ListN.{length}
 use Rattle.protocol.specs.Pick.{pick, both, fails}
 use Rattle.protocol.specs.Stamps.{fits}
 use Rattle.protocol.specs.Buffers.{Bytes, Placed}
 use Rattle.protocol.specs.Machine.{Machine, Pieces, piecesAt, coreAt, copyAt, lineAt, slotLine, ownerOf, coreOf, lineOf}
-use Rattle.protocol.specs.Refusals.{isEmpty, isAsked, isAnswered, isHeld, isOwned, hasOwner, stands, inFlight, loadAsks, storePasses, servePasses}
-use Rattle.protocol.specs.Refusals.{stateRules, stateRefusal, refusal}
-use Rattle.protocol.specs.Tables.{asking, loadOwned, loadShared, loadTable, storeTable, fenceTable, advanceTable, evictTable}
-use Rattle.protocol.specs.Tables.{sameVersion, leasedTo, serveLoad, serveAsked, serveTable, receiveRenew, receiveGrant, receiveTable, yieldTable}
-use Rattle.protocol.specs.Tables.{takeTable, tableOf}
+use Rattle.protocol.specs.Refusals.{isEmpty, isAsked, isAnswered, isHeld, isOwned, hasOwner, stands, inFlight, loadAsks, storePasses}
+use Rattle.protocol.specs.Refusals.{servePasses, stateRules, stateRefusal, refusal}
+use Rattle.protocol.specs.Tables.{asking, loadOwned, loadShared, loadTable, storeTable, fenceTable, advanceTable, evictTable, sameVersion}
+use Rattle.protocol.specs.Tables.{leasedTo, serveLoad, serveAsked, serveTable, receiveRenew, receiveGrant, receiveTable, yieldTable, takeTable}
+use Rattle.protocol.specs.Tables.{tableOf}
 use Rattle.protocol.specs.Step.{refused, Outcome, accepted, step}
 use Rattle.protocol.specs.declared.{Stamp.Stamp, Copy.Copy, Want.Want, Held.Held, Slot.Slot, Manager.Manager, Writeback.Writeback}
 use Rattle.protocol.specs.declared.{Opening.Opening, State.State, Call.Call, Effect.Effect}

@@ -1,25 +1,23 @@
 -- Every step leaves a machine that fits, so that none of 1 and 2 refuses the next call: its slot's line, its line's owner and the bytes that it
 -- moves lie inside the sizes. So a state that fits need be looked through only once.
-use Prim.Native.Nat.{ℕ, _<_}
+use Prim.Native.Nat.{ℕ}
 use mathlib.Core.Path.{_≡_, refl, _∙_}
-use mathlib.Core.Bool.{Bool, true, false}
-use lib.Dec.{ltb}
+use mathlib.Core.Bool.{true, false}
 use borrow.Author.Tests.{lt-ltb}
-use lib.ListN.{length}
 use Rattle.protocol.specs.Buffers.{Bytes, Placed}
 use Rattle.protocol.specs.About.{about}
 use Rattle.protocol.specs.Machine.{Machine, Pieces, coreOf, lineOf, applied}
 use Rattle.protocol.specs.Refusals.{ownerFits, slotFits, ownersFit, slotsFit, wrongCount}
-use Rattle.protocol.specs.Tables.{asking, loadOwned, storeTable, fenceTable, advanceTable, evictTable, serveAsked, serveLoad}
-use Rattle.protocol.specs.Tables.{receiveGrant, receiveRenew, yieldTable, takeTable}
+use Rattle.protocol.specs.Tables.{loadOwned, storeTable, fenceTable, advanceTable, evictTable, serveAsked, serveLoad, receiveGrant}
+use Rattle.protocol.specs.Tables.{receiveRenew, yieldTable, takeTable}
 use Rattle.protocol.specs.Step.{Outcome, accepted, step}
 use Rattle.protocol.specs.declared.{Core.Core, Line.Line, Opening.Opening, Call.Call, Effect.Effect}
 use Rattle.protocol.proofs.Scan.{every-set}
 use Rattle.protocol.proofs.Moves.{Sized, length-movedPrivate, length-movedShared}
 use Rattle.protocol.proofs.Refusals.{Fit, slot-inside, owner-inside, store-width, named, NotRefused}
-use Rattle.protocol.proofs.Cases.{Row, asks-load, reads-shared, reads-dirty, reads-clean, asks-store, writes, fences, advances}
-use Rattle.protocol.proofs.Cases.{evicts-shared, evicts-owned, recalls, renews, shares, grants, gets-share, gets-own, gets-renewal}
-use Rattle.protocol.proofs.Cases.{drops-none, drops-owned, yields, takes, RowOn, Case, refuses, makes, case-of}
+use Rattle.protocol.proofs.Cases.{Row, asks-load, reads-shared, reads-dirty, reads-clean, asks-store, writes, fences, advances, evicts-shared}
+use Rattle.protocol.proofs.Cases.{evicts-owned, recalls, renews, shares, grants, gets-share, gets-own, gets-renewal, drops-none, drops-owned}
+use Rattle.protocol.proofs.Cases.{yields, takes, RowOn, Case, refuses, makes, case-of}
 
 -- what a step makes fits an opening; n is the count of the store bytes
 pub record EffectFits (o : Opening) (n : ℕ) (d : Effect) : Type 0 where

@@ -4,7 +4,7 @@ use mathlib.Core.Path.{_≡_, refl, sym, _∙_}
 use mathlib.Core.Bool.{Bool, true, false}
 use mathlib.Core.List.{List, [], _∷_}
 use native.Mathlib.Omega.{arith}
-use lib.Dec.{leb, eqb}
+use lib.Dec.{eqb}
 use borrow.Author.Tests.{ltb-true, leb-false, eqb-true}
 use lib.ListN.{length}
 use Rattle.protocol.specs.Pick.{pick, fails, Rule, first, _gives_}
@@ -13,7 +13,8 @@ use Rattle.protocol.specs.Fresh.{freshCore, freshLine}
 use Rattle.protocol.specs.Buffers.{privateLength, sharedLength, Placed}
 use Rattle.protocol.specs.About.{about, namedLine}
 use Rattle.protocol.specs.Machine.{Machine, Pieces, coreAt, lineAt, theCore, theLine, coreOf, lineOf, piecesAt}
-use Rattle.protocol.specs.Refusals.{openRefusal, ownerFits, slotFits, ownersFit, slotsFit, stateFits, buffersFit, machineRefusal, noCore, noLine, wrongCount, byNothing, callRules, callRefusal, stateRefusal, orElse, refusal}
+use Rattle.protocol.specs.Refusals.{openRefusal, ownerFits, slotFits, ownersFit, slotsFit, stateFits, buffersFit, machineRefusal, noCore}
+use Rattle.protocol.specs.Refusals.{noLine, wrongCount, byNothing, callRules, callRefusal, stateRefusal, orElse, refusal}
 use Rattle.protocol.specs.Tables.{refusedRow}
 use Rattle.protocol.specs.declared.Slot.{Slot}
 use Rattle.protocol.specs.declared.Slot.the-variants.{Empty, Asked, Answered}

@@ -1,7 +1,7 @@
 -- The invariant of the machine and the log of commits, and that a step's effect on one core and one line keeps it, if it keeps that
 -- line's part.
 use Prim.Native.Nat.{ℕ, _≤_, _<_}
-use mathlib.Core.Path.{_≡_, sym, _∙_}
+use mathlib.Core.Path.{_≡_}
 use mathlib.Core.Logic.{inl, inr}
 use mathlib.Core.List.{List}
 use native.Mathlib.Omega.{arith}
@@ -12,7 +12,7 @@ use Rattle.protocol.specs.Machine.{Machine, coreAt, copyAt, applied}
 use Rattle.protocol.specs.Step.{Op, load, store, fence}
 use Rattle.protocol.specs.Run.{Commit}
 use Rattle.protocol.specs.Order.{Stores}
-use Rattle.protocol.specs.declared.{Clocks.Clocks, Copy.Copy, Held.Held, Slot.Slot, Opening.Opening, Effect.Effect}
+use Rattle.protocol.specs.declared.{Stamp.Stamp, Clocks.Clocks, Copy.Copy, Slot.Slot, Opening.Opening, Effect.Effect}
 use Rattle.protocol.specs.declared.Copy.the-variants.{None as NoCopy, Shared as CopyShared, Owned as CopyOwned}
 use Rattle.protocol.specs.declared.Held.the-variants.{Version}
 use Rattle.protocol.specs.declared.Grant.the-variants.{Share as GrantShare, Renew as GrantRenew, Own as GrantOwn}
@@ -21,9 +21,10 @@ use Rattle.protocol.proofs.Moves.{Sized, managerAfter, writebackAfter, 
 use Rattle.protocol.proofs.Refusals.{Fit}
 use Rattle.protocol.proofs.Written.{Arrays, core-at, core-off, copy-at, copy-off, arrays-written}
 use Rattle.protocol.proofs.Order.Log.{All, all-map, Touches}
-use Rattle.protocol.proofs.Order.Versions.{Spot, atManager, atWriteback, atCopy, atSlot, Elsewhere, Content, Newest, ContentAgrees, VersionAgrees, LineAgrees, thin}
-use Rattle.protocol.proofs.Order.Look.{LineCell, Value, viewManager, viewWriteback, viewCopy, viewSlot, look, About, SlotStep}
-use Rattle.protocol.proofs.Order.Look.{look-manager, look-writeback, look-copy, look-slot, copy-spot-off, slot-spot-off, line-spots-off}
+use Rattle.protocol.proofs.Order.Versions.{Spot, atManager, atWriteback, atCopy, atSlot, Elsewhere, Content, Newest, ContentAgrees}
+use Rattle.protocol.proofs.Order.Versions.{VersionAgrees, LineAgrees, thin}
+use Rattle.protocol.proofs.Order.Look.{LineCell, Value, viewManager, viewWriteback, viewCopy, viewSlot, look, SpeaksOf, SlotStep, look-manager}
+use Rattle.protocol.proofs.Order.Look.{look-writeback, look-copy, look-slot, copy-spot-off, slot-spot-off, line-spots-off}
 
 -- the commit stores x to the cell i of line l
 abbrev pub Writes : ℕ → LineCell → Commit Bytes → Value → Type 0
@@ -39,24 +40,22 @@ Passed (load l b) t k = t ≤ k .lts .0
 Passed (store l b) t k = t ≤ k .sts .0
 Passed fence t k = t ≤ k .lts .0
 
--- what a core's copy may be while its slot speaks of the line: not owned; and for a request or a renewal, a shared copy is of the version
--- that the slot names
-abbrev pub BesideRequest : Held → Copy → Type 0
-BesideRequest h NoCopy = Unit {0}
-BesideRequest h (CopyShared w r) = h ≡ Version w
-BesideRequest h (CopyOwned d w r) = ⊥
+-- a shared copy of wts w beside a slot that speaks of its line: a request and a renewal are of that version
+abbrev OfVersion : Slot → Stamp → Type 0
+OfVersion Empty w = Unit {0}
+OfVersion (Asked a l t h) w = h ≡ Version w
+OfVersion (Answered GrantShare l v r) w = Unit {0}
+OfVersion (Answered GrantRenew l v r) w = v ≡ w
+OfVersion (Answered GrantOwn l v r) w = Unit {0}
 
-abbrev pub NotOwned : Copy → Type 0
-NotOwned NoCopy = Unit {0}
-NotOwned (CopyShared w r) = Unit {0}
-NotOwned (CopyOwned d w r) = ⊥
+-- what a core's copy may be while its slot speaks of the line: not owned, and of the version that the slot names
+abbrev pub Allowed : Slot → Copy → Type 0
+Allowed v NoCopy = Unit {0}
+Allowed v (CopyShared w r) = OfVersion v w
+Allowed v (CopyOwned d w r) = ⊥
 
 abbrev pub Beside : ℕ → Slot → Copy → Type 0
-Beside l Empty v = Unit {0}
-Beside l (Asked a n t h) v = n ≡ l → BesideRequest h v
-Beside l (Answered GrantShare n w r) v = n ≡ l → NotOwned v
-Beside l (Answered GrantRenew n w r) v = n ≡ l → BesideRequest (Version w) v
-Beside l (Answered GrantOwn n w r) v = n ≡ l → NotOwned v
+Beside l v x = SpeaksOf l v → Allowed v x
 
 -- the commits within a core's clocks
 abbrev pub Within : List (Commit Bytes) → Machine → ℕ → Type 0
@@ -79,20 +78,10 @@ pub record Inv (z : Value) (H : List (Commit Bytes)) (m : Machine) : Type 0 wher
   pub pairs : (c l : ℕ) → l < m .state .opening .lines → Beside l (coreAt (m .state) c .slot) (copyAt (m .state) c l)
   pub lines : (l : ℕ) → l < m .state .opening .lines → (g : Newest LineCell Value) × LineOf z l H (look m l) g
 
--- ---- clocks and pairs
-
 clock-up : (o : Op Bytes) (t : ℕ) (k k′ : Clocks) → k .lts .0 ≤ k′ .lts .0 → k .sts .0 ≤ k′ .sts .0 → Passed o t k → Passed o t k′
 clock-up (load l b) t k k′ p q h = omega arith
 clock-up (store l b) t k k′ p q h = omega arith
 clock-up fence t k k′ p q h = omega arith
-
--- a slot that speaks of line l asks nothing of another line's copy
-pair-off : (l l′ : ℕ) (v : Slot) (u : Copy) → About l v → (l′ ≡ l → ⊥) → Beside l′ v u
-pair-off l l′ Empty u a n = tt
-pair-off l l′ (Asked k i t q) u a n = λ e. absurd (n (sym e ∙ a))
-pair-off l l′ (Answered GrantShare i w r) u a n = λ e. absurd (n (sym e ∙ a))
-pair-off l l′ (Answered GrantRenew i w r) u a n = λ e. absurd (n (sym e ∙ a))
-pair-off l l′ (Answered GrantOwn i w r) u a n = λ e. absurd (n (sym e ∙ a))
 
 -- ---- a step's effect d on core c and line l
 
@@ -126,7 +115,7 @@ module _ {z : Value} {H : List (Commit Bytes)} {m : Machine} (I : Inv z H m) (f 
       go (yes e) (no n) (inl t) =
           rw (e, core-at (I .arrays) q d, copy-off (I .arrays) q d c l′ h (λ _ i. n i), t .0) (I .pairs c l′ h)
       go (yes e) (no n) (inr t) =
-          rw (e, core-at (I .arrays) q d, copy-off (I .arrays) q d c l′ h (λ _ i. n i)) (pair-off l l′ (d .core .slot) (copyAt (m .state) c l′) t n)
+          rw (e, core-at (I .arrays) q d, copy-off (I .arrays) q d c l′ h (λ _ i. n i)) (λ k. absurd (n (t l′ k)))
       go (no n) i t = rw (core-off (I .arrays) q d c′ n, copy-off (I .arrays) q d c′ l′ h (λ e _. n e)) (I .pairs c′ l′ h)
 
   -- the invariant after the step, for a log H′ that may have one commit more

@@ -1,6 +1,6 @@
 -- The spots of a line read off the machine, and what a step's effect on one core and one line makes of them.
 use Prim.Native.Nat.{ℕ, _<_}
-use mathlib.Core.Path.{_≡_, refl, sym, _∙_, ap}
+use mathlib.Core.Path.{_≡_, refl, _∙_, ap}
 use mathlib.Core.Logic.{_⊎_, inl, inr}
 use mathlib.Core.Bool.{Bool, true, false}
 use native.Mathlib.Decide.{ℕ-discrete}
@@ -18,7 +18,8 @@ use Rattle.protocol.proofs.Moves.{managerAfter, writebackAfter, copyAft
 use Rattle.protocol.proofs.Moves.{copy-after, answer-after, manager-other, writeback-other, answer-other, private-other}
 use Rattle.protocol.proofs.Refusals.{Fit}
 use Rattle.protocol.proofs.Written.{Arrays, core-at, core-off, line-at, line-off, copy-at, copy-off}
-use Rattle.protocol.proofs.Order.Versions.{Spot, atManager, atWriteback, atCopy, atSlot, Mark, clean, mine, Content, nothing, snapshot, renewal, newest}
+use Rattle.protocol.proofs.Order.Versions.{Spot, atManager, atWriteback, atCopy, atSlot, Mark, clean, mine, Content, nothing, snapshot}
+use Rattle.protocol.proofs.Order.Versions.{renewal, newest}
 
 -- ---- what is at each spot
 
@@ -85,19 +86,20 @@ look m l atWriteback = viewWriteback (lineAt (m .state) l .writeback) (writeback
 look m l (atCopy c) = viewCopy c (copyAt (m .state) c l) (copyBytes (m .state .opening) (m .private) c l)
 look m l (atSlot c) = viewSlot l (coreAt (m .state) c .slot) (answerBytes (m .state .opening) (m .shared) c)
 
--- the slot is empty or speaks of line l
-abbrev pub About : ℕ → Slot → Type 0
-About l Empty = Unit {0}
-About l (Asked a n t h) = n ≡ l
-About l (Answered g n w r) = n ≡ l
+-- the slot speaks of line l
+abbrev pub SpeaksOf : ℕ → Slot → Type 0
+SpeaksOf l Empty = ⊥
+SpeaksOf l (Asked a n t h) = n ≡ l
+SpeaksOf l (Answered g n w r) = n ≡ l
 
-view-off : (l l′ : ℕ) (v : Slot) (b : Bytes) → About l v → (l′ ≡ l → ⊥) → viewSlot l′ v b ≡ nothing
-view-off l l′ Empty b a n = refl
-view-off l l′ (Asked k i t h) b a n = refl
-view-off l l′ (Answered g i w r) b a n = go (ℕ-discrete i l′)
+-- a slot that does not has nothing on the line
+pub view-none : (l : ℕ) (v : Slot) (b : Bytes) → (SpeaksOf l v → ⊥) → viewSlot l v b ≡ nothing
+view-none l Empty b n = refl
+view-none l (Asked k i t h) b n = refl
+view-none l (Answered g i w r) b n = go (ℕ-discrete i l)
   where
-    go : (d : Dec (i ≡ l′)) → viewGrant d g w r b ≡ nothing
-    go (yes p) = absurd (n (sym p ∙ a))
+    go : (d : Dec (i ≡ l)) → viewGrant d g w r b ≡ nothing
+    go (yes p) = absurd (n p)
     go (no p) = refl
 
 -- a function of two arguments at equal arguments
@@ -106,11 +108,11 @@ ap-two f p q = cc
 
 -- ---- a step's effect on core c and line l
 
--- the core's slot stays, or is empty or speaks of line l after the step
+-- the core's slot stays, or speaks of no other line than l after the step
 abbrev pub SlotStep : Machine → ℕ → ℕ → Bytes → Effect → Type 0
 SlotStep m c l given d =
     ((d .core .slot ≡ coreAt (m .state) c .slot) × AnswerStays (m .state .opening) (m .private) (m .shared) c l given (d .moves))
-    ⊎ About l (d .core .slot)
+    ⊎ ((l′ : ℕ) → SpeaksOf l′ (d .core .slot) → l′ ≡ l)
 
 module _ {m : Machine} (ar : Arrays (m .state)) (f : Fit m) {c l : ℕ} (q : Placed (m .state .opening) c l) (given : Bytes) (d : Effect)
     (hg : Sized (m .state .opening) (length given) (d .moves)) where
@@ -178,4 +180,4 @@ module _ {m : Machine} (ar : Arrays (m .state)) (f : Fit m) {c l : ℕ} (q : Pla
           (answer-other o (m .private) (m .shared) c l given (f .nPrivate) (f .nShared) (q .core) (q .line) (d .moves) c (λ _. t .1))))
       go (yes i) (inr t) =
           inr (rw i (ap-two (λ (v : Core). viewSlot l′ (v .slot)) (core-at ar q d) refl
-          ∙ view-off l l′ (d .core .slot) (answerBytes o (movedShared (d .moves) o c l (m .private) (m .shared)) c) t n))
+          ∙ view-none l′ (d .core .slot) (answerBytes o (movedShared (d .moves) o c l (m .private) (m .shared)) c) (λ e. n (t l′ e))))

@@ -1,6 +1,6 @@
 -- The order theorem: the sorted order of the commits of every list of calls on a fresh engine obeys TSO; that this order is one; and that
 -- the test of keys decides it.
-use Prim.Native.Nat.{ℕ, zero, suc, _+_, _*_, _≤_, _<_}
+use Prim.Native.Nat.{ℕ, suc, _+_, _*_, _≤_, _<_}
 use mathlib.Core.Path.{_≡_, refl, sym, _∙_, ap}
 use mathlib.Core.Logic.{_⊎_, inl, inr, ⊎-elim}
 use mathlib.Core.Bool.{Bool, true, false}
@@ -18,7 +18,8 @@ use Rattle.protocol.specs.About.{about, namedCore, namedLine}
 use Rattle.protocol.specs.Machine.{Machine, freshMachine}
 use Rattle.protocol.specs.Step.{Op, Reply, refused, done, commit, step}
 use Rattle.protocol.specs.Run.{Given, Record, place, run, Commit, actCommit, commitOf, commits}
-use Rattle.protocol.specs.Order.{In, here, there, Before, Earlier, TsoKeeps, Loads, Stores, LastWrite, Obeys, OpenTheorem, OrderTheorem, SortTheorem, KeyTheorem}
+use Rattle.protocol.specs.Order.{In, here, there, Before, Earlier, TsoKeeps, Loads, Stores, LastWrite, Obeys, OpenTheorem, OrderTheorem}
+use Rattle.protocol.specs.Order.{SortTheorem, KeyTheorem}
 use Rattle.protocol.specs.declared.{Opening.Opening, Act.Act}
 use Rattle.protocol.specs.declared.Act.the-variants.{Load, Store, Fence, Advance, Transfer}
 use Rattle.protocol.proofs.Bytes.{row-le, zeros, zeros-part}
@@ -26,10 +27,8 @@ use Rattle.protocol.proofs.Places.{inside}
 use Rattle.protocol.proofs.Refusals.{opening-fit}
 use Rattle.protocol.proofs.Written.{arrays-fresh, core-fresh, line-fresh, copy-fresh}
 use Rattle.protocol.proofs.Reached.{onto, reached, from-onto, to-onto}
-use Rattle.protocol.proofs.Order.Log.{All, none, more, all-map, all-at, in-nil, fresh, Lawful, start, log-obeys}
-use Rattle.protocol.proofs.Order.Log.{step as log-step}
-use Rattle.protocol.proofs.Order.Versions.{Spot, atManager, atWriteback, atCopy, atSlot, Newest, version}
-use Rattle.protocol.proofs.Order.Versions.{here as at-here}
+use Rattle.protocol.proofs.Order.Log.{All, none, more, all-map, all-at, in-nil, fresh, Lawful, start, log-obeys, step as log-step}
+use Rattle.protocol.proofs.Order.Versions.{Spot, atManager, atWriteback, atCopy, atSlot, Newest, version, here as at-here}
 use Rattle.protocol.proofs.Order.Look.{LineCell, Value, cells, look}
 use Rattle.protocol.proofs.Order.Invariant.{SpotOf, Inv}
 use Rattle.protocol.proofs.Order.Steps.{Good, commitBy, step-good}
@@ -78,7 +77,7 @@ module _ (o : Opening) (fit : openingFits o ≡ true) where
   inv-fresh = record {
     arrays = arrays-fresh o;
     clocks = λ c. none;
-    pairs = λ c l h. rw (core-fresh o c) tt;
+    pairs = λ c l h. rw (core-fresh o c) (λ n. absurd n);
     lines = λ l h. (g, record { version = record { wr = omega arith; lr = omega arith; top = none; last = λ i. fresh refl }; spots = go l h });
   }
     where
