@@ -14,8 +14,10 @@ use protocol::Copy;
 use protocol::Core;
 use protocol::Effect;
 use protocol::Held;
+use protocol::Kind;
 use protocol::Line;
 use protocol::Move;
+use protocol::Name;
 use protocol::Opening;
 use protocol::Slot;
 use protocol::Sum;
@@ -43,7 +45,7 @@ fn ask(want: Want, l: usize, core: Core, copy: Copy, line: Line) -> Effect
             let lts = clocks.lts;
             let held = held_of(copy);
             Effect {
-                answer: Answer::Ask,
+                answer: Answer::Done(Name::Ask),
                 moves: Move::Still,
                 core: Core {
                     clocks,
@@ -76,10 +78,10 @@ pub fn load(c: usize, l: usize, core: Core, copy: Copy, line: Line) -> Effect
                 let clocks = before.load(wts);
                 let ts = clocks.lts;
                 Effect {
-                    answer: Answer::CommitLoad {
+                    answer: Answer::Commit {
                         core: c,
-                        line: l,
                         ts,
+                        kind: Kind::Load { line: l },
                     },
                     moves: Move::Still,
                     core: Core { clocks, slot },
@@ -95,10 +97,10 @@ pub fn load(c: usize, l: usize, core: Core, copy: Copy, line: Line) -> Effect
             if dirty {
                 let end = rts.later(lts);
                 Effect {
-                    answer: Answer::CommitLoad {
+                    answer: Answer::Commit {
                         core: c,
-                        line: l,
                         ts: lts,
+                        kind: Kind::Load { line: l },
                     },
                     moves: Move::Still,
                     core,
@@ -114,10 +116,10 @@ pub fn load(c: usize, l: usize, core: Core, copy: Copy, line: Line) -> Effect
                 let ts = next.lts;
                 let end = rts.later(ts);
                 Effect {
-                    answer: Answer::CommitLoad {
+                    answer: Answer::Commit {
                         core: c,
-                        line: l,
                         ts,
+                        kind: Kind::Load { line: l },
                     },
                     moves: Move::Still,
                     core: Core { clocks: next, slot },
@@ -149,10 +151,10 @@ pub fn store(c: usize, l: usize, core: Core, copy: Copy, line: Line) -> Effect
                 let clocks = before.store(earliest);
                 let ts = clocks.sts;
                 Effect {
-                    answer: Answer::CommitStore {
+                    answer: Answer::Commit {
                         core: c,
-                        line: l,
                         ts,
+                        kind: Kind::Store { line: l },
                     },
                     moves: Move::Store,
                     core: Core { clocks, slot },
@@ -177,7 +179,11 @@ pub fn fence(c: usize, core: Core, copy: Copy, line: Line) -> Effect
     let clocks = before.fence();
     let ts = clocks.lts;
     Effect {
-        answer: Answer::CommitFence { core: c, ts },
+        answer: Answer::Commit {
+            core: c,
+            ts,
+            kind: Kind::Fence,
+        },
         moves: Move::Still,
         core: Core { clocks, slot },
         copy,
@@ -196,7 +202,7 @@ pub fn advance(by: u32, core: Core, copy: Copy, line: Line) -> Effect
         Sum::At(to) => {
             let clocks = before.advance(to);
             Effect {
-                answer: Answer::Advance,
+                answer: Answer::Done(Name::Advance),
                 moves: Move::Still,
                 core: Core { clocks, slot },
                 copy,

@@ -9,7 +9,8 @@ use borrow.Author.Tests.{eqb-true}
 use Rattle.protocol.specs.Pick.{pick}
 use Rattle.protocol.specs.Machine.{Machine, freshMachine}
 use Rattle.protocol.specs.Refusals.{openRefusal}
-use Rattle.protocol.specs.Step.{Reply, refused, done, «open», meaning}
+use Rattle.protocol.specs.Step.{Reply, refused, done, meaning}
+use Rattle.protocol.specs.declared.Name.the-variants.{Open}
 use Rattle.protocol.specs.Run.{Given, Record, place, run}
 use Rattle.protocol.proofs.Order.Theorem.{open-theorem, order-theorem, sort-theorem}
 use Rattle.engine.specs.History.{Made, MadeFrom, none, next, recordsOf, HistoryTheorem}
@@ -28,7 +29,7 @@ records-run (e ∷ es) p (next h made) =
     (records-run es (suc p) made ∙ ap (λ (m : Machine). run (givens es) (suc p) m .records) (h .machine))
 
 -- an opening that is answered by its name is not refused
-accepted : (n : ℕ) (b : Bool) → eqb n 0 ≡ b → pick b (done «open») (refused n) ≡ done «open» → n ≡ 0
+accepted : (n : ℕ) (b : Bool) → eqb n 0 ≡ b → pick b (done Open) (refused n) ≡ done Open → n ≡ 0
 accepted n true e h = eqb-true n 0 e
 accepted n false e h = absurd (let z : _≡_ {A = ℕ} 0 1 = cc in omega arith)
 

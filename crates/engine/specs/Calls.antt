@@ -10,15 +10,10 @@ use Rattle.protocol.specs.Step.{meaning, openReply, opened, step, Buffer, inPri
 use Rattle.protocol.specs.declared.Opening.{Opening}
 use Rattle.protocol.specs.declared.State.{State}
 use Rattle.protocol.specs.declared.Call.{Call}
-use Rattle.protocol.specs.declared.Answer.the-variants.{Refused}
 use Rattle.tables.specs.declared.Span.{Span}
 use Rattle.tables.specs.Spans.{spanOf}
 use Rattle.engine.specs.declared.Opened.{Opened}
 use Rattle.engine.specs.declared.Done.{Done}
-
--- what a call hands back that one of 1 to 6 refuses: "A refused call returns its number, the state it got"
-abbrev pub handedBack : ℕ → State → Done
-handedBack n s = record { answer = Refused n; start = 0; count = 0; state = s }
 
 -- a call on the machine m that returns r and leaves the buffers p and q: answer, commit's bytes, state and both buffers are those of `step`;
 -- `given` are the bytes given to a store

@@ -10,7 +10,8 @@ use Rattle.protocol.specs.Step.{Reply, meaning}
 use Rattle.protocol.specs.Run.{Given, Record, place, Commit, commits}
 use Rattle.protocol.specs.Order.{Before, TSO, StrictTotal}
 use Rattle.protocol.specs.declared.Opening.{Opening}
-use Rattle.protocol.specs.declared.Answer.the-variants.{Open}
+use Rattle.protocol.specs.declared.Answer.the-variants.{Done as Named}
+use Rattle.protocol.specs.declared.Name.the-variants.{Open}
 use Rattle.engine.specs.declared.Done.{Done}
 use Rattle.engine.specs.declared.Opened.{Opened}
 use Rattle.engine.specs.Calls.{Opens, Performs}
@@ -56,5 +57,5 @@ zeroed o r = machine (r .state) (replicate (privateLength o) 0) (replicate (shar
 -- demand 3, for every opening that `open` answered with `Open`, and all calls made on it: their commits have one sorted order, and it obeys TSO
 abbrev pub HistoryTheorem : Type 0
 HistoryTheorem =
-    (o : Opening) (r : Opened) → Opens o r → r .answer ≡ Open → (es : List Made) → MadeFrom (zeroed o r) es
+    (o : Opening) (r : Opened) → Opens o r → r .answer ≡ Named Open → (es : List Made) → MadeFrom (zeroed o r) es
     → StrictTotal Before (history es) × TSO (replicate (o .width) 0) (history es)

@@ -9,20 +9,21 @@ ghost use mathlib.Core.Path.{_≡_};
 ghost use mathlib.Core.List.{[]};
 ghost use Rattle.protocol.specs.Machine.{machine};
 ghost use Rattle.protocol.specs.Refusals.{isHeld};
-ghost use Rattle.engine.specs.Turns.{Turns};
-ghost use Rattle.engine.specs.Calls.{handedBack, Performs, Opens, Shows, PartOf};
+ghost use Rattle.engine.specs.Pieces.{MadeOf};
+ghost use Rattle.engine.specs.Calls.{Performs, Opens, Shows, PartOf};
 use protocol::Answer;
 use protocol::Call;
 use protocol::Cell;
 use protocol::Copy;
 use protocol::Core;
 use protocol::Line;
+use protocol::Name;
 use protocol::Opening;
 use protocol::State;
 
 // What a call makes of the pieces that it looks at: one core, its copy of one line, the manager's
 // line. `start` and `count` are those of `Done`.
-struct Turn {
+struct Made {
     answer: Answer,
     start: usize,
     count: usize,
@@ -41,21 +42,10 @@ pub struct Done {
     pub state: State,
 }
 
-// What a call hands back that one of 1 to 6 refuses: its number, and the state as it was.
-fn handed_back(n: u8, s: State) -> Done
-    ensures { λ r. ⌜ r ≡ handedBack n s ⌝ }
-{
-    Done {
-        answer: Answer::Refused(n),
-        start: 0,
-        count: 0,
-        state: s,
-    }
-}
-
-// What a call makes of its pieces, with its line of bytes moved. Core and line say where those bytes
-// lie, `start` where those of the copy do, and `given` are the bytes given to a store.
-fn turn_with(
+// What a call makes of the pieces of a core and a line, with its line of bytes moved. `number` is the
+// first of 1 to 6 that applies, or 0; `given` are the bytes given to a store.
+fn on_pieces(
+    number: u8,
     call: Call,
     opening: Opening,
     k: Core,
@@ -65,21 +55,21 @@ fn turn_with(
     shared: &mut [u8],
     core: usize,
     line: usize,
-    start: usize,
     given: &[u8],
-) -> Turn
-    ensures { λ r. ⌜ Turns call opening k e m core line start (now (given .entry)) (now («private» .entry)) (now (shared .entry)) r (now («private» .exit)) (now (shared .exit)) ⌝ }
+) -> Made
+    ensures { λ r. ⌜ MadeOf number call opening k e m core line (now (given .entry)) (now («private» .entry)) (now (shared .entry)) r (now («private» .exit)) (now (shared .exit)) ⌝ }
 {
     let copy = e.copy;
-    let d = tables::effect(call, k, copy, m, opening);
+    let d = tables::effect(number, call, k, copy, m, opening);
     let answer = d.answer;
     let moves = d.moves;
     let next_core = d.core;
     let next_copy = d.copy;
     let next_line = d.line;
+    let start = buffers::copy_start(opening, core, line);
     let b = tables::span_of(answer, start, opening.width);
-    places::move_bytes(moves, opening, private, shared, core, line, given);
-    Turn {
+    buffers::move_bytes(moves, opening, private, shared, core, line, given);
+    Made {
         answer,
         start: b.start,
         count: b.count,
@@ -89,7 +79,8 @@ fn turn_with(
     }
 }
 
-// Makes a call; `given` are the bytes given to a store, which any other call passes over.
+// Makes a call; `given` are the bytes given to a store, which any other call passes over. A refused call
+// takes the same way: its pieces are written back as they are.
 pub fn step(s: State, private: &mut [u8], shared: &mut [u8], call: Call, given: &[u8]) -> Done
     ensures { λ r. ⌜ Performs (machine s (now («private» .entry)) (now (shared .entry))) call (now (given .entry)) r (now («private» .exit)) (now (shared .exit)) ⌝ }
 {
@@ -105,48 +96,30 @@ pub fn step(s: State, private: &mut [u8], shared: &mut [u8], call: Call, given: 
         shared.len(),
         given.len(),
     );
-    if n != 0 {
-        return handed_back(n, s);
-    }
     let mut next = s;
-    let named = tables::named_line(call);
+    let about = call.about();
+    let named = tables::named_line(about, opening);
     let owned = next.line[named];
     let manager = owned.manager;
-    let core = tables::core_of(call, manager);
-    let asking = next.core[core];
-    let slot = asking.slot;
-    let line = tables::line_of(call, slot);
-    let at = places::kept_at(opening, core, line);
-    let c = at.core;
-    let l = at.line;
-    let i = at.cell;
+    let c = tables::core_of(about, manager, opening);
     let k = next.core[c];
+    let slot = k.slot;
+    let l = tables::line_of(about, slot, opening);
+    let i = c * Opening::MOST_LINES + l;
     let e = next.cell[i];
     let m = next.line[l];
-    let t = turn_with(
-        call,
-        opening,
-        k,
-        e,
-        m,
-        private,
-        shared,
-        c,
-        l,
-        at.start,
-        given,
-    );
-    let answer = t.answer;
-    let next_core = t.core;
-    let next_cell = t.cell;
-    let next_line = t.line;
-    next.core[c] = next_core;
-    next.cell[i] = next_cell;
-    next.line[l] = next_line;
+    let made = on_pieces(n, call, opening, k, e, m, private, shared, c, l, given);
+    let answer = made.answer;
+    let core = made.core;
+    let cell = made.cell;
+    let line = made.line;
+    next.core[c] = core;
+    next.cell[i] = cell;
+    next.line[l] = line;
     Done {
         answer,
-        start: t.start,
-        count: t.count,
+        start: made.start,
+        count: made.count,
         state: next,
     }
 }
@@ -239,7 +212,7 @@ pub fn open(opening: Opening) -> Opened
         };
     }
     Opened {
-        answer: Answer::Open,
+        answer: Answer::Done(Name::Open),
         state: State::fresh(opening),
     }
 }
@@ -250,12 +223,8 @@ fn is_held(copy: Copy) -> bool
 {
     match copy {
         Copy::None => false,
-        Copy::Shared { wts: _, rts: _ } => true,
-        Copy::Owned {
-            dirty: _,
-            wts: _,
-            rts: _,
-        } => true,
+        Copy::Shared { .. } => true,
+        Copy::Owned { .. } => true,
     }
 }
 
@@ -294,10 +263,10 @@ pub fn show<'a>(s: State, private: &'a [u8], shared: &'a [u8], core: usize, line
     let e = s.cell[i];
     let copy = e.copy;
     if is_held(copy) {
-        let start = places::copy_start(opening, core, line);
+        let start = buffers::copy_start(opening, core, line);
         return part(private, start, width);
     }
-    let start = places::manager_start(opening, core, line);
+    let start = buffers::manager_start(opening, core, line);
     part(shared, start, width)
 }
 

@@ -6,7 +6,7 @@ use native.Mathlib.Omega.{arith}
 use native.Mathlib.Decide.{decLe}
 use lib.Dec.{leb}
 use borrow.Author.Tests.{not-true, not-false, le-leb, lt-leb}
-use Rattle.protocol.specs.Pick.{pick, both}
+use Rattle.protocol.specs.Pick.{pick, both, fails}
 
 -- both of two tests hold
 pub both-true : (a b : Bool) → both a b ≡ true → (a ≡ true) × (b ≡ true)
@@ -36,3 +36,8 @@ was-false {t} p e = sym p ∙ not-true t e
 
 pub was-true : {t b : Bool} → t ≡ b → not t ≡ false → b ≡ true
 was-true {t} p e = sym p ∙ not-false t e
+
+-- a negated answer is a test that fails
+pub not-fails : (b : Bool) → not b ≡ fails b
+not-fails true = refl
+not-fails false = refl

@@ -2,25 +2,26 @@
 // which look at what the call names.
 ghost use mathlib.Core.Path.{_≡_};
 ghost use mathlib.Core.Bool.{true};
-ghost use mathlib.Core.List.{[], _∷_};
 ghost use Prim.Native.Nat.{_≤_};
-ghost use Rattle.protocol.specs.Pick.{first};
 ghost use Rattle.protocol.specs.Limits.{mostCores, mostLines, openingFits};
-ghost use Rattle.protocol.specs.Refusals.{ownerFits, slotFits, ownersFit, slotsFit, stateFits, buffersFit, machineRefusal, coreRule, lineRule, callRefusal};
+ghost use Rattle.protocol.specs.Refusals.{ownerFits, slotFits, ownersFit, slotsFit, stateFits, buffersFit, machineRefusal, noCore, noLine, wrongCount, byNothing, callRefusal};
 ghost use Rattle.refusals.specs.Input.{machineWith, inputRefusal, lengthsFit};
+use protocol::Act;
 use protocol::Call;
 use protocol::Core;
 use protocol::Line;
 use protocol::Manager;
 use protocol::Opening;
 use protocol::Slot;
+use protocol::Which;
+use protocol::Who;
 
 // Whether the core that owns a line, if one does, is one of the cores.
 fn owner_fits(cores: usize, manager: Manager) -> bool
     ensures { λ r. ⌜ r ≡ ownerFits cores manager ⌝ }
 {
     match manager {
-        Manager::Shared { wts: _, rts: _ } => true,
+        Manager::Shared { .. } => true,
         Manager::Owned { core } => core < cores,
     }
 }
@@ -49,18 +50,8 @@ fn slot_fits(lines: usize, slot: Slot) -> bool
 {
     match slot {
         Slot::Empty => true,
-        Slot::Asked {
-            want: _,
-            line,
-            lts: _,
-            held: _,
-        } => line < lines,
-        Slot::Answered {
-            grant: _,
-            line,
-            wts: _,
-            rts: _,
-        } => line < lines,
+        Slot::Asked { line, .. } => line < lines,
+        Slot::Answered { line, .. } => line < lines,
     }
 }
 
@@ -142,77 +133,75 @@ pub fn machine_refusal(
     0
 }
 
-// 3 where there is no such core, else 0.
-fn core_refusal(core: usize, opening: Opening) -> u8
-    ensures { λ r. ⌜ r ≡ first (coreRule core opening ∷ []) ⌝ }
+// 3: whether the core that a call names is none of the opening's.
+fn no_core(core: Who, opening: Opening) -> bool
+    ensures { λ r. ⌜ r ≡ noCore core opening ⌝ }
 {
-    if opening.cores <= core { 3 } else { 0 }
+    match core {
+        Who::Core(c) => opening.cores <= c,
+        Who::Owner => false,
+        Who::Nobody => false,
+    }
 }
 
-// 4 where there is no such line, else 0.
-fn line_refusal(line: usize, opening: Opening) -> u8
-    ensures { λ r. ⌜ r ≡ first (lineRule line opening ∷ []) ⌝ }
+// 4: whether the line that a call names is none of the opening's.
+fn no_line(line: Which, opening: Opening) -> bool
+    ensures { λ r. ⌜ r ≡ noLine line opening ⌝ }
 {
-    if opening.lines <= line { 4 } else { 0 }
+    match line {
+        Which::Line(l) => opening.lines <= l,
+        Which::InSlot => false,
+        Which::Nothing => false,
+    }
 }
 
-// 3 or 4 for a core and a line, or 0 where both are there.
-fn copy_refusal(core: usize, line: usize, opening: Opening) -> u8
-    ensures { λ r. ⌜ r ≡ first (coreRule core opening ∷ lineRule line opening ∷ []) ⌝ }
+// 5: whether the bytes given to a store are not a line's in count.
+fn wrong_count(act: Act, opening: Opening, count: usize) -> bool
+    ensures { λ r. ⌜ r ≡ wrongCount act opening count ⌝ }
 {
-    if opening.cores <= core {
-        return 3;
+    match act {
+        Act::Load => false,
+        Act::Store => count != opening.width,
+        Act::Fence => false,
+        Act::Advance(_) => false,
+        Act::Transfer => false,
     }
-    if opening.lines <= line {
-        return 4;
-    }
-    0
 }
 
-// 3, 4 or 5 for a store, or 0 where none of them applies; count is that of its bytes.
-fn store_refusal(core: usize, line: usize, opening: Opening, count: usize) -> u8
-    ensures { λ r. ⌜ r ≡ callRefusal (Call.Store core line) opening count ⌝ }
+// 6: whether an advance is by 0.
+fn by_nothing(act: Act) -> bool
+    ensures { λ r. ⌜ r ≡ byNothing act ⌝ }
 {
-    if opening.cores <= core {
-        return 3;
+    match act {
+        Act::Load => false,
+        Act::Store => false,
+        Act::Fence => false,
+        Act::Advance(by) => by == 0,
+        Act::Transfer => false,
     }
-    if opening.lines <= line {
-        return 4;
-    }
-    if count != opening.width {
-        return 5;
-    }
-    0
-}
-
-// 3 or 6 for an advance, or 0 where neither applies.
-fn advance_refusal(core: usize, by: u32, opening: Opening) -> u8
-    ensures { λ r. ⌜ r ≡ callRefusal (Call.Advance core by) opening 0 ⌝ }
-{
-    if opening.cores <= core {
-        return 3;
-    }
-    if by == 0 {
-        return 6;
-    }
-    0
 }
 
 // 3, 4, 5 or 6, or 0 where none of them applies; count is that of a store's bytes.
 pub fn call_refusal(call: Call, opening: Opening, count: usize) -> u8
     ensures { λ r. ⌜ r ≡ callRefusal call opening count ⌝ }
 {
-    match call {
-        Call::Load { core, line } => copy_refusal(core, line, opening),
-        Call::Store { core, line } => store_refusal(core, line, opening, count),
-        Call::Fence { core } => core_refusal(core, opening),
-        Call::Evict { core, line } => copy_refusal(core, line, opening),
-        Call::Advance { core, by } => advance_refusal(core, by, opening),
-        Call::Serve { core } => core_refusal(core, opening),
-        Call::Receive { core } => core_refusal(core, opening),
-        Call::Yield { line } => line_refusal(line, opening),
-        Call::Take { line } => line_refusal(line, opening),
+    let about = call.about();
+    let core = about.core;
+    let line = about.line;
+    let act = about.act;
+    if no_core(core, opening) {
+        return 3;
     }
+    if no_line(line, opening) {
+        return 4;
+    }
+    if wrong_count(act, opening, count) {
+        return 5;
+    }
+    if by_nothing(act) {
+        return 6;
+    }
+    0
 }
 
 // The first of 1 to 6 that applies, or 0 where none does; count is that of a store's bytes.

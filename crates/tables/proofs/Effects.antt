@@ -1,5 +1,5 @@
--- What `step` is where a number of 1 to 6 applies and where none does, that the effect's move fits, and that the bytes of a commit lie
--- where `spanOf` says.
+-- One call: what `step` is, by the effect on the pieces of the core and the line that the call is about; that the effect's move fits; and that
+-- the bytes of a commit lie where `spanOf` says.
 use Prim.Native.Nat.{ℕ, _+_, _*_, _≤_}
 use mathlib.Core.Path.{_≡_, refl, sym}
 use mathlib.Core.Bool.{Bool, true, false}
@@ -35,9 +35,9 @@ use Rattle.protocol.specs.declared.Answer.the-variants.{Refused}
 use Rattle.protocol.specs.declared.Move.the-variants.{Still}
 use Rattle.protocol.specs.declared.Effect.{Effect}
 use Rattle.protocol.proofs.Bytes.{part-same}
-use Rattle.protocol.proofs.Refusals.{or-none, Fit, store-width}
+use Rattle.protocol.proofs.Refusals.{or-none, Fit, named, store-width}
 use Rattle.refusals.specs.Input.{inputRefusal}
-use Rattle.places.specs.Moves.{givenFits, moveFits}
+use Rattle.buffers.specs.Moves.{givenFits, moveFits}
 use Rattle.tables.specs.Spans.{spanOf}
 
 -- ---- step
@@ -58,7 +58,7 @@ step-refused m call given h = go (machineRefusal m) (callRefusal call (m .state 
             by false e = rw e
 
 -- the row of a table's refusal leaves the machine as it is
-row-refused : (m : Machine) (call : Call) (given : Bytes) (c l n : ℕ) → accepted m call given c l (row (Refused n) Still (coreAt (m .state) c) (copyAt (m .state) c l) (lineAt (m .state) l)) ≡ record { reply = refused n; machine = m }
+pub row-refused : (m : Machine) (call : Call) (given : Bytes) (c l n : ℕ) → accepted m call given c l (row (Refused n) Still (coreAt (m .state) c) (copyAt (m .state) c l) (lineAt (m .state) l)) ≡ record { reply = refused n; machine = m }
 unfolding accepted applied meaning movedPrivate movedShared
 row-refused m call given c l n =
     rw (set-getD (m .state .core) c freshCore, set-getD (m .state .cell) (c * 64 + l) freshCell, set-getD (m .state .line) l freshLine)
@@ -158,7 +158,7 @@ module _ (o : Opening) (c l : ℕ) (given p q : Bytes) where
   table-sound : (call : Call) (k : Pieces) → callRefusal call o (length given) ≡ 0 → copyStart o c l + o .width ≤ length p → Sound o c l given p q call (tableOf call k o)
   unfolding tableOf fenceTable advanceTable meaning
   table-sound (Load a b) k e h = load-sound (k .copy) a b k
-  table-sound (Store a b) k e h = store-sound (k .copy) a b k (store-width a b o _ e) h
+  table-sound (Store a b) k e h = store-sound (k .copy) a b k (store-width o _ (named (Store a b) o _ e .count)) h
   table-sound (Fence a) k e h = record { fits = refl; bytes = refl }
   table-sound (Evict a b) k e h = evict-sound (k .copy) a b k
   table-sound (Advance a n) k e h = record { fits = refl; bytes = refl }

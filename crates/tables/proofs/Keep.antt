@@ -3,14 +3,12 @@
 use Prim.Native.Nat.{ℕ}
 use mathlib.Core.Path.{_≡_, refl}
 use mathlib.Core.Bool.{Bool, true, false}
-use mathlib.Core.List.{[]}
-use lib.Dec.{ltb, leb, eqb, lit<}
-use borrow.Author.Tests.{lt-ltb, leb-false, eqb-true}
-use Rattle.protocol.specs.Pick.{fails}
+use lib.Dec.{ltb, leb, eqb}
+use borrow.Author.Tests.{lt-ltb, leb-false}
 use Rattle.protocol.specs.Machine.{Pieces}
-use Rattle.protocol.specs.Refusals.{ownerFits, slotFits, callRules, callRefusal, stateRefusal}
+use Rattle.protocol.specs.Refusals.{ownerFits, slotFits, callRefusal, stateRefusal}
 use Rattle.protocol.specs.Tables.{asking, loadTable, loadOwned, storeTable, fenceTable, advanceTable, evictTable, sameVersion, serveLoad, serveAsked, serveTable, receiveRenew, receiveGrant, receiveTable, yieldTable, takeTable, tableOf, effectOf}
-use Rattle.protocol.proofs.Refusals.{not-true, passed}
+use Rattle.protocol.proofs.Refusals.{named, store-width}
 use Rattle.protocol.specs.declared.Stamp.{Stamp}
 use Rattle.protocol.specs.declared.Copy.{Copy}
 use Rattle.protocol.specs.declared.Copy.the-variants.{None as NoCopy, Shared as CopyShared, Owned as CopyOwned}
@@ -116,20 +114,14 @@ module _ (o : Opening) (n : ℕ) (p : Pieces) (slot : slotFits (o .lines) (p .co
 
   -- the row of a call that none of 3 to 6 refuses; n is the count of the store bytes
   pub table-fits : (call : Call) → callRefusal call o n ≡ 0 → Fits o n (tableOf call p o)
-  unfolding tableOf fenceTable advanceTable callRefusal callRules
-  table-fits (Load c l) e =
-      let i = passed (leb (o .cores) c) 3 _ (lit< tt) e .1 in
-      load-fits (p .copy) c l (inside l (o .lines) (passed (leb (o .lines) l) 4 [] (lit< tt) i .0))
+  unfolding tableOf fenceTable advanceTable
+  table-fits (Load c l) e = load-fits (p .copy) c l (inside l (o .lines) (named (Load c l) o n e .line))
   table-fits (Store c l) e =
-      let i = passed (leb (o .cores) c) 3 _ (lit< tt) e .1 in
-      let j = passed (leb (o .lines) l) 4 _ (lit< tt) i in
-      let k = passed (fails (eqb n (o .width))) 5 [] (lit< tt) (j .1) .0 in
-      store-fits (p .copy) c l (inside l (o .lines) (j .0)) (eqb-true n (o .width) (not-true (eqb n (o .width)) k))
+      let a = named (Store c l) o n e in store-fits (p .copy) c l (inside l (o .lines) (a .line)) (store-width o n (a .count))
   table-fits (Fence c) e = record { slot = slot; owner = owner; bytes = tt }
   table-fits (Evict c l) e = evict-fits (p .copy)
   table-fits (Advance c by) e = record { slot = slot; owner = owner; bytes = tt }
-  table-fits (Serve c) e =
-      serve-fits (p .core .slot) slot c (inside c (o .cores) (passed (leb (o .cores) c) 3 [] (lit< tt) e .0))
+  table-fits (Serve c) e = serve-fits (p .core .slot) slot c (inside c (o .cores) (named (Serve c) o n e .core))
   table-fits (Receive c) e = receive-fits (p .core .slot)
   table-fits (Yield l) e = yield-fits (p .copy)
   table-fits (Take l) e = take-fits (p .line .writeback)

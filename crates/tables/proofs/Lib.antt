@@ -2,4 +2,4 @@
 pub mod Keep
 pub mod Effects
 pub mod Allowed
-pub mod Named
+pub mod Making

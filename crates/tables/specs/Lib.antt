@@ -1,2 +1,2 @@
-pub mod About
+pub mod Found
 pub mod Spans

@@ -11,16 +11,16 @@ mod about;
 pub use about::core_of;
 pub use about::line_of;
 pub use about::named_line;
-pub use about::owner_of;
-pub use about::slot_line;
 ghost use mathlib.Core.Path.{_≡_};
 ghost use Rattle.protocol.specs.Tables.{effectOf};
+ghost use Rattle.tables.specs.Found.{effectWith};
 ghost use Rattle.tables.specs.Spans.{spanOf};
 use protocol::Answer;
 use protocol::Call;
 use protocol::Copy;
 use protocol::Core;
 use protocol::Effect;
+use protocol::Kind;
 use protocol::Line;
 use protocol::Opening;
 
@@ -30,22 +30,39 @@ pub struct Span {
     pub count: usize,
 }
 
-// What a call makes of the pieces that it looks at: the row of its table, or the number that it is
-// refused with and the pieces as they are. Each row decides.
-pub fn effect(call: Call, core: Core, copy: Copy, line: Line, opening: Opening) -> Effect
+// What a call makes of the pieces that it looks at: the row of its table, or, with the pieces as they
+// are, one of 20 to 27. Each row decides.
+fn row(call: Call, core: Core, copy: Copy, line: Line, opening: Opening) -> Effect
     ensures { λ r. ⌜ r ≡ effectOf call (record { core = core; copy = copy; line = line }) opening ⌝ }
 {
     match call {
         Call::Load { core: c, line: l } => core_rows::load(c, l, core, copy, line),
         Call::Store { core: c, line: l } => core_rows::store(c, l, core, copy, line),
         Call::Fence { core: c } => core_rows::fence(c, core, copy, line),
-        Call::Evict { .. } => writeback_rows::evict(core, copy, line),
+        Call::Evict { .. } => transfer_rows::evict(core, copy, line),
         Call::Advance { by, .. } => core_rows::advance(by, core, copy, line),
-        Call::Serve { core: c } => request_rows::serve(c, core, copy, line, opening),
-        Call::Receive { .. } => request_rows::receive(core, copy, line),
-        Call::Yield { .. } => writeback_rows::yield_line(core, copy, line),
-        Call::Take { .. } => writeback_rows::take(core, copy, line),
+        Call::Serve { core: c } => transfer_rows::serve(c, core, copy, line, opening),
+        Call::Receive { .. } => transfer_rows::receive(core, copy, line),
+        Call::Yield { .. } => transfer_rows::yield_line(core, copy, line),
+        Call::Take { .. } => transfer_rows::take(core, copy, line),
     }
+}
+
+// The same where `number` is the first of 1 to 6 that applies, or 0: that number comes first.
+pub fn effect(
+    number: u8,
+    call: Call,
+    core: Core,
+    copy: Copy,
+    line: Line,
+    opening: Opening,
+) -> Effect
+    ensures { λ r. ⌜ r ≡ effectWith number call (record { core = core; copy = copy; line = line }) opening ⌝ }
+{
+    if number != 0 {
+        return refusals::refused(number, core, copy, line);
+    }
+    row(call, core, copy, line, opening)
 }
 
 // Where the bytes of a commit lie, if they start at `start`.
@@ -53,34 +70,18 @@ pub fn span_of(answer: Answer, start: usize, width: usize) -> Span
     ensures { λ r. ⌜ r ≡ spanOf answer start width ⌝ }
 {
     match answer {
-        Answer::CommitLoad {
-            core: _,
-            line: _,
-            ts: _,
-        } => Span {
-            start,
-            count: width,
-        },
-        Answer::CommitStore {
-            core: _,
-            line: _,
-            ts: _,
-        } => Span {
-            start,
-            count: width,
-        },
-        Answer::CommitFence { core: _, ts: _ } => Span { start: 0, count: 0 },
         Answer::Refused(_) => Span { start: 0, count: 0 },
-        Answer::Open => Span { start: 0, count: 0 },
-        Answer::Ask => Span { start: 0, count: 0 },
-        Answer::Recall => Span { start: 0, count: 0 },
-        Answer::Share => Span { start: 0, count: 0 },
-        Answer::Renew => Span { start: 0, count: 0 },
-        Answer::Own => Span { start: 0, count: 0 },
-        Answer::Drop => Span { start: 0, count: 0 },
-        Answer::Evict => Span { start: 0, count: 0 },
-        Answer::Advance => Span { start: 0, count: 0 },
-        Answer::Yield => Span { start: 0, count: 0 },
-        Answer::Take => Span { start: 0, count: 0 },
+        Answer::Done(_) => Span { start: 0, count: 0 },
+        Answer::Commit { kind, .. } => match kind {
+            Kind::Load { .. } => Span {
+                start,
+                count: width,
+            },
+            Kind::Store { .. } => Span {
+                start,
+                count: width,
+            },
+            Kind::Fence => Span { start: 0, count: 0 },
+        },
     }
 }

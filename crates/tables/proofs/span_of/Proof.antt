@@ -1,4 +1,4 @@
--- By the answer.
+-- By the answer, and a commit's kind.
 use borrow.Author.Needs.{needs}
 use Rattle.tables.proofs.span_of.Statement.{statement}
 use Rattle.tables.proofs.span_of.Tie as tie
@@ -13,27 +13,8 @@ span-of-spec =
     (λ c. search needs)
     (λ c. search needs)
     (λ c. search needs)
-    (λ c. search needs)
-    (λ c. search needs)
-    (λ c. search needs)
-    (λ c. search needs)
-    (λ c. search needs)
-    (λ c. search needs)
-    (λ c. search needs)
-    (λ c. search needs)
-    (λ c. search needs)
     (λ c. rw (c .enum-told .given .1))
     (λ c. rw (c .enum-told2 .given .1))
-    (λ c. rw (c .enum-told3 .given .1))
-    (λ c. rw (c .enum-told4 .given .1))
-    (λ c. rw (c .enum-told5 .given .1))
-    (λ c. rw (c .enum-told6 .given .1))
-    (λ c. rw (c .enum-told7 .given .1))
-    (λ c. rw (c .enum-told8 .given .1))
-    (λ c. rw (c .enum-told9 .given .1))
-    (λ c. rw (c .enum-told10 .given .1))
-    (λ c. rw (c .enum-told11 .given .1))
-    (λ c. rw (c .enum-told12 .given .1))
-    (λ c. rw (c .enum-told13 .given .1))
-    (λ c. rw (c .enum-told14 .given .1))
-    (λ c. rw (c .enum-told15 .given .1)))
+    (λ c. rw (c .before .before .before .answer .given .1, c .enum-told3 .given .1))
+    (λ c. rw (c .before .before .before .answer .given .1, c .enum-told4 .given .1))
+    (λ c. rw (c .before .before .before .answer .given .1, c .enum-told5 .given .1)))

@@ -1,0 +1,27 @@
+-- What one call makes of its pieces and of the buffers.
+use Prim.Native.Nat.{ℕ}
+use mathlib.Core.Path.{_≡_}
+use Rattle.protocol.specs.Pick.{pick}
+use Rattle.protocol.specs.Buffers.{Bytes, copyStart}
+use Rattle.protocol.specs.Machine.{Pieces}
+use Rattle.protocol.specs.declared.{Core.Core, Cell.Cell, Line.Line, Opening.Opening, Call.Call, Effect.Effect}
+use Rattle.buffers.specs.Moves.{placeFits}
+use Rattle.buffers.specs.Moves.{Moves}
+use Rattle.tables.specs.declared.Span.{Span}
+use Rattle.tables.specs.Found.{effectWith}
+use Rattle.tables.specs.Spans.{spanOf}
+use Rattle.engine.specs.declared.Made.{Made}
+
+-- the buffers p and q become p' and q' by the move of an effect d on core c and line l, and r is what the effect makes of the pieces, with
+-- where the bytes of a commit lie
+pub record MadeBy (d : Effect) (o : Opening) (c l : ℕ) (given p q : Bytes) (r : Made) (p' q' : Bytes) : Type 0 where
+  pub answer : r .answer ≡ d .answer
+  pub core : r .core ≡ d .core
+  pub cell : r .cell .copy ≡ d .copy
+  pub line : r .line ≡ d .line
+  pub span : record { start = r .start; count = r .count } ≡ spanOf (r .answer) (pick (placeFits o c l) (copyStart o c l) 0) (o .width)
+  pub buffers : Moves (d .moves) o c l given p q p' q'
+
+-- the same of a call's effect on core k, copy e and manager line m, where n is the first of 1 to 6 that applies, or 0
+abbrev pub MadeOf : ℕ → Call → Opening → Core → Cell → Line → ℕ → ℕ → Bytes → Bytes → Bytes → Made → Bytes → Bytes → Type 0
+MadeOf n call o k e m c l given p q r p' q' = MadeBy (effectWith n call (record { core = k; copy = e .copy; line = m }) o) o c l given p q r p' q'

@@ -1,0 +1,159 @@
+-- One call made in place: whatever 1 to 6 say of it, the effect on the elements where the core and the line that it is about are found, written
+-- back, with its bytes moved, is `step`. The engine's call and the driver's loop both go by it.
+use Prim.Native.Nat.{ℕ, _+_, _≤_, _<_}
+use mathlib.Core.Path.{_≡_, refl, sym, _∙_, ap, ap₂}
+use mathlib.Core.Bool.{Bool, true, false}
+use lib.Dec.{eqb}
+use lib.ListN.{length}
+use native.Mathlib.Omega.{arith}
+use native.Mathlib.Decide.{ℕ-discrete}
+use borrow.Author.Tests.{le-leb, lt-ltb, eqb-true, eqb-false, ne-eqb}
+use Rattle.protocol.specs.Pick.{pick}
+use Rattle.protocol.specs.Limits.{mostCores, mostLines}
+use Rattle.protocol.specs.Buffers.{Bytes, part, copyStart, Placed, movedPrivate, movedShared}
+use Rattle.protocol.specs.About.{about, namedLine}
+use Rattle.protocol.specs.Machine.{Machine, machine, coreAt, lineAt, Pieces, piecesAt, theCore, theLine, coreOf, lineOf, written, applied}
+use Rattle.protocol.specs.Refusals.{machineRefusal, callRefusal}
+use Rattle.protocol.specs.Tables.{refusedRow, effectOf}
+use Rattle.protocol.specs.Step.{meaning, Outcome, commitBytes, accepted, step}
+use Rattle.protocol.specs.declared.{Opening.Opening, Call.Call, Answer.Answer, Effect.Effect}
+use Rattle.protocol.specs.declared.Move.the-variants.{Still}
+use Rattle.protocol.specs.declared.Answer.the-variants.{Refused, Done, Commit}
+use Rattle.protocol.specs.declared.Kind.the-variants.{Load, Store, Fence}
+use Rattle.protocol.proofs.Places.{copy-ends, Inside, inside}
+use Rattle.protocol.proofs.Refusals.{or-none, Fit, machine-fit, named, named-inside, placed}
+use Rattle.refusals.specs.Input.{inputRefusal}
+use Rattle.buffers.specs.Moves.{placeFits}
+use Rattle.buffers.specs.Moves.{moveFits, Moves}
+use Rattle.buffers.proofs.Laws.{placed-place, place-start}
+use Rattle.tables.specs.Found.{foundAt, Found, effectWith}
+use Rattle.tables.specs.Spans.{spanOf}
+use Rattle.tables.proofs.Effects.{step-refused, row-refused, step-accepted, Sound, effect-sound, effect-moves}
+
+-- what is there is found
+pub found-there : (n count most : ℕ) → n < count → count ≤ most → foundAt n count most ≡ n
+found-there n count most h k = rw (le-leb _ _ k, lt-ltb _ _ h)
+
+-- where a call finds the core and the line that it is about: the line that it names, then the core, then the line
+pub record Finds (m : Machine) (call : Call) (v c l : ℕ) : Type 0 where
+  pub named : v ≡ foundAt (namedLine (about call .line)) (m .state .opening .lines) mostLines
+  pub core : c ≡ foundAt (theCore (about call .core) (lineAt (m .state) v .manager)) (m .state .opening .cores) mostCores
+  pub line : l ≡ foundAt (theLine (about call .line) (coreAt (m .state) c .slot)) (m .state .opening .lines) mostLines
+
+-- a commit's bytes lie in a buffer in which the line's do
+span-inside : (a : Answer) (start width top : ℕ) → start + width ≤ top → spanOf a start width .start + spanOf a start width .count ≤ top
+span-inside (Refused n) start width top h = omega arith
+span-inside (Done d) start width top h = omega arith
+span-inside (Commit c t (Load l)) start width top h = h
+span-inside (Commit c t (Store l)) start width top h = h
+span-inside (Commit c t Fence) start width top h = omega arith
+
+-- where nothing moves, the buffers stay whether the places fit or not
+same-either : {x y : Bytes} (t : Bool) → x ≡ pick t y y → x ≡ y
+same-either true h = h
+same-either false h = h
+
+module _ (m : Machine) (call : Call) (given : Bytes) (n : ℕ) (e : n ≡ inputRefusal m call (length given)) (v c l : ℕ) (f : Finds m call v c l) where
+  abbrev o : Opening
+  o = m .state .opening
+
+  abbrev pub made : Effect
+  made = effectWith n call (piecesAt (m .state) c l) o
+
+  -- ---- none of 1 to 6 applies
+
+  module _ (z : n ≡ 0) where
+    allowed : (machineRefusal m ≡ 0) × (callRefusal call o (length given) ≡ 0)
+    allowed = or-none (machineRefusal m) _ (sym e ∙ z)
+
+    fit : Fit m
+    fit = machine-fit m (allowed .0)
+
+    core-is : c ≡ coreOf call (m .state)
+    core-is =
+        let i = inside o (fit .opening) in
+        let h = named-inside o (about call .line) (i .someLines) (named call o (length given) (allowed .1) .line) in
+        let q = placed fit call (length given) (allowed .1) in
+        f .core ∙ (rw (f .named ∙ found-there _ _ _ h (i .mostLines)) (found-there _ _ _ (q .core) (i .mostCores)))
+
+    line-is : l ≡ lineOf call (m .state)
+    line-is =
+        let q = placed fit call (length given) (allowed .1) in
+        f .line ∙ (rw core-is (found-there _ _ _ (q .line) (inside o (fit .opening) .mostLines)))
+
+    there : Placed o c l
+    there = rw (core-is, line-is) (placed fit call (length given) (allowed .1))
+
+    accepted-effect : made ≡ effectOf call (piecesAt (m .state) c l) o
+    unfolding effectWith
+    accepted-effect = rw z
+
+    sound : Sound o c l given (m .private) (m .shared) call made
+    sound = rw accepted-effect (effect-sound o c l given (m .private) (m .shared) call (piecesAt (m .state) c l) (allowed .1) (rw (fit .nPrivate) (copy-ends there)))
+
+  -- ---- one of them applies
+
+  refused-effect : (n ≡ 0 → ⊥) → made ≡ refusedRow n (piecesAt (m .state) c l)
+  unfolding effectWith
+  refused-effect h = rw (ne-eqb n 0 h)
+
+  -- ---- whatever applies
+
+  -- the call is the effect written back
+  pub is-step : step m call given ≡ accepted m call given c l made
+  is-step = go (ℕ-discrete n 0)
+    where
+      go : Dec (n ≡ 0) → step m call given ≡ accepted m call given c l made
+      go (yes z) = rw (accepted-effect z, core-is z, line-is z) (step-accepted m call given (sym e ∙ z))
+      go (no h) = rw (refused-effect h, row-refused m call given c l n) (step-refused m call given (λ z. h (e ∙ z)) ∙ rw e refl)
+
+  -- the buffers after the effect's move
+  pub is-moved : (p' q' : Bytes) → Moves (made .moves) o c l given (m .private) (m .shared) p' q'
+      → (p' ≡ movedPrivate (made .moves) o c l given (m .private) (m .shared)) × (q' ≡ movedShared (made .moves) o c l (m .private) (m .shared))
+  unfolding movedPrivate movedShared
+  is-moved p' q' b = go (ℕ-discrete n 0)
+    where
+      go : Dec (n ≡ 0) → (p' ≡ movedPrivate (made .moves) o c l given (m .private) (m .shared)) × (q' ≡ movedShared (made .moves) o c l (m .private) (m .shared))
+      go (yes z) = let r = effect-moves m call given c l made (fit z) (there z) (sound z) in (rw r at (b .private), rw r at (b .shared))
+      go (no h) =
+          let y = refused-effect h in
+          let t = moveFits Still o (length (m .private)) (length (m .shared)) c l (length given) in
+          rw y (same-either t (rw y at (b .private)), same-either t (rw y at (b .shared)))
+
+  -- the bytes beside the answer, after the move
+  module _ (start : ℕ) (a : start ≡ pick (placeFits o c l) (copyStart o c l) 0) where
+    started : n ≡ 0 → start ≡ copyStart o c l
+    started z = place-start o c l (placed-place (fit z .opening) (there z)) _ start a
+
+    -- they are the commit's
+    pub is-reply :
+        meaning (made .answer)
+        (part (movedPrivate (made .moves) o c l given (m .private) (m .shared)) (spanOf (made .answer) start (o .width) .start)
+        (spanOf (made .answer) start (o .width) .count))
+        ≡ step m call given .reply
+    unfolding accepted meaning
+    is-reply = go (ℕ-discrete n 0)
+      where
+        go : Dec (n ≡ 0) →
+            meaning (made .answer)
+            (part (movedPrivate (made .moves) o c l given (m .private) (m .shared)) (spanOf (made .answer) start (o .width) .start)
+            (spanOf (made .answer) start (o .width) .count))
+            ≡ step m call given .reply
+        go (yes z) = rw (is-step, started z) (sound z .bytes)
+        go (no h) = rw (is-step, refused-effect h)
+
+    -- they lie where the copy of the core and the line that the call is about does
+    pub is-span : spanOf (made .answer) start (o .width) ≡ spanOf (made .answer) (copyStart o (coreOf call (m .state)) (lineOf call (m .state))) (o .width)
+    is-span = go (ℕ-discrete n 0)
+      where
+        go : Dec (n ≡ 0) → spanOf (made .answer) start (o .width) ≡ spanOf (made .answer) (copyStart o (coreOf call (m .state)) (lineOf call (m .state))) (o .width)
+        go (yes z) = rw (started z) (ap₂ (λ (x y : ℕ). spanOf (made .answer) (copyStart o x y) (o .width)) (core-is z) (line-is z))
+        go (no h) = rw (refused-effect h)
+
+    -- they lie in the buffer
+    pub is-inside : spanOf (made .answer) start (o .width) .start + spanOf (made .answer) start (o .width) .count ≤ length (m .private)
+    is-inside = go (ℕ-discrete n 0)
+      where
+        go : Dec (n ≡ 0) → spanOf (made .answer) start (o .width) .start + spanOf (made .answer) start (o .width) .count ≤ length (m .private)
+        go (yes z) = rw (started z) (span-inside (made .answer) _ _ _ (rw (fit z .nPrivate) (copy-ends (there z))))
+        go (no h) = rw (refused-effect h) (omega arith)
