@@ -12,12 +12,12 @@ use lib.ListN.{length}
 use Rattle.protocol.specs.Pick.{pick, both, fails}
 use Rattle.protocol.specs.Stamps.{fits}
 use Rattle.protocol.specs.Buffers.{Bytes, Placed}
-use Rattle.protocol.specs.Machine.{Machine, Pieces, piecesAt, coreAt, copyAt, lineAt, slotLine, ownerOf, coreOf, lineOf}
+use Rattle.protocol.specs.Machine.{Machine, Pieces, piecesAt, coreAt, copyAt, lineAt, slotLine, ownerOf, coreOf, lineOf, applied}
 use Rattle.protocol.specs.Refusals.{isEmpty, isAsked, isAnswered, isHeld, isOwned, hasOwner, stands, inFlight, loadAsks, storePasses}
 use Rattle.protocol.specs.Refusals.{servePasses, stateRules, stateRefusal, refusal}
-use Rattle.protocol.specs.Tables.{asking, loadOwned, loadShared, loadTable, storeTable, fenceTable, advanceTable, evictTable, sameVersion}
-use Rattle.protocol.specs.Tables.{leasedTo, serveLoad, serveAsked, serveTable, receiveRenew, receiveGrant, receiveTable, yieldTable, takeTable}
-use Rattle.protocol.specs.Tables.{tableOf}
+use Rattle.protocol.specs.Tables.{refusedRow, asking, loadOwned, loadShared, loadTable, storeTable, fenceTable, advanceTable, evictTable}
+use Rattle.protocol.specs.Tables.{sameVersion, leasedTo, serveLoad, serveAsked, serveTable, receiveRenew, receiveGrant, receiveTable}
+use Rattle.protocol.specs.Tables.{yieldTable, takeTable, tableOf, effectOf}
 use Rattle.protocol.specs.Step.{refused, Outcome, accepted, step}
 use Rattle.protocol.specs.declared.{Stamp.Stamp, Copy.Copy, Want.Want, Held.Held, Slot.Slot, Manager.Manager, Writeback.Writeback}
 use Rattle.protocol.specs.declared.{Opening.Opening, State.State, Call.Call, Effect.Effect}
@@ -173,6 +173,17 @@ row-of s (Yield l) h =
     yield-row _ l (copyAt s (coreOf (Yield l) s) l) refl (not-true _ (passed _ 24 [] (omega arith) (a .1) .0)) (owner-is (lineAt s l .manager) (b .0)) (b .1)
 row-of s (Take l) h = take-row _ l (lineAt s l .writeback) refl (not-true _ (passed _ 25 [] (omega arith) h .0))
 
+-- what a call makes of the pieces that it is about: a refusal of 20 to 27, or a row
+pub effect-case : (P : Effect → Type 0) (s : State) (call : Call) → ((n : ℕ) → P (refusedRow n (piecesOf call s))) → ((d : Effect) → RowOn s call d → P d)
+    → P (effectOf call (piecesOf call s) (s .opening))
+unfolding effectOf
+effect-case P s call refuse row = go (eqb (stateRefusal call (piecesOf call s) (s .opening)) 0) refl
+  where
+    go : (b : Bool) → eqb (stateRefusal call (piecesOf call s) (s .opening)) 0 ≡ b
+        → P (pick b (tableOf call (piecesOf call s) (s .opening)) (refusedRow (stateRefusal call (piecesOf call s) (s .opening)) (piecesOf call s)))
+    go true e = row _ (row-of s call (eqb-true _ 0 e))
+    go false e = refuse _
+
 -- the two cases of a call
 pub data Case (m : Machine) (call : Call) (given : Bytes) : Outcome → Type 0 where
   refuses : (n : ℕ) → Case m call given (record { reply = refused n; machine = m })
@@ -191,3 +202,15 @@ case-of m call given = go (eqb (refusal m call (length given)) 0) refl
     go true e =
         let n = not-refused m call (length given) (eqb-true (refusal m call (length given)) 0 e) in
         makes n (placed (machine-fit m (n .machineOk)) call (length given) (n .callOk)) (row-of (m .state) call (n .stateOk))
+
+-- what every row keeps, every step keeps
+pub kept-by-rows : (P : Machine → Type 0) {m : Machine} (call : Call) (given : Bytes)
+    → ((d : Effect) → NotRefused m call (length given) → Placed (m .state .opening) (coreOf call (m .state)) (lineOf call (m .state))
+    → RowOn (m .state) call d → P (applied m (coreOf call (m .state)) (lineOf call (m .state)) given d))
+    → P m → P (step m call given .machine)
+unfolding accepted
+kept-by-rows P {m} call given row h = go (case-of m call given)
+  where
+    go : {r : Outcome} → Case m call given r → P (r .machine)
+    go (refuses n) = h
+    go (makes {d = d} n q w) = row d n q w

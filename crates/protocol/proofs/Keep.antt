@@ -10,14 +10,14 @@ use Rattle.protocol.specs.Machine.{Machine, Pieces, coreOf, lineOf, appl
 use Rattle.protocol.specs.Refusals.{ownerFits, slotFits, ownersFit, slotsFit, wrongCount}
 use Rattle.protocol.specs.Tables.{loadOwned, storeTable, fenceTable, advanceTable, evictTable, serveAsked, serveLoad, receiveGrant}
 use Rattle.protocol.specs.Tables.{receiveRenew, yieldTable, takeTable}
-use Rattle.protocol.specs.Step.{Outcome, accepted, step}
+use Rattle.protocol.specs.Step.{step}
 use Rattle.protocol.specs.declared.{Core.Core, Line.Line, Opening.Opening, Call.Call, Effect.Effect}
 use Rattle.protocol.proofs.Scan.{every-set}
 use Rattle.protocol.proofs.Moves.{Sized, length-movedPrivate, length-movedShared}
 use Rattle.protocol.proofs.Refusals.{Fit, slot-inside, owner-inside, store-width, named, NotRefused}
 use Rattle.protocol.proofs.Cases.{Row, asks-load, reads-shared, reads-dirty, reads-clean, asks-store, writes, fences, advances, evicts-shared}
 use Rattle.protocol.proofs.Cases.{evicts-owned, recalls, renews, shares, grants, gets-share, gets-own, gets-renewal, drops-none, drops-owned}
-use Rattle.protocol.proofs.Cases.{yields, takes, RowOn, Case, refuses, makes, case-of}
+use Rattle.protocol.proofs.Cases.{yields, takes, RowOn, kept-by-rows}
 
 -- what a step makes fits an opening; n is the count of the store bytes
 pub record EffectFits (o : Opening) (n : ℕ) (d : Effect) : Type 0 where
@@ -58,21 +58,19 @@ pub made-fits : {m : Machine} {call : Call} {n : ℕ} {d : Effect} → Fit m →
 made-fits {call = call} f k q w = row-fits q (slot-inside f _ (q .core)) (owner-inside f _ (q .line)) (named call _ _ (k .callOk) .count) w
 
 pub fits-again : {m : Machine} → Fit m → (call : Call) (given : Bytes) → Fit (step m call given .machine)
-unfolding accepted applied ownersFit slotsFit
-fits-again {m} f call given = go (case-of m call given)
-  where
-    go : {r : Outcome} → Case m call given r → Fit (r .machine)
-    go (refuses n) = f
-    go (makes {d = d} k q w) =
-        let o = m .state .opening in
-        let c = coreOf call (m .state) in
-        let l = lineOf call (m .state) in
-        let e = made-fits f k q w in
-        record {
-          opening = f .opening;
-          owners = every-set (λ (x : Line). ownerFits (o .cores) (x .manager)) (m .state .line) (o .lines) l (d .line) (f .owners) (e .owner);
-          slots = every-set (λ (x : Core). slotFits (o .lines) (x .slot)) (m .state .core) (o .cores) c (d .core) (f .slots) (e .slot);
-          nPrivate =
-              length-movedPrivate o (m .private) (m .shared) c l given (f .nPrivate) (f .nShared) (q .core) (q .line) (d .moves) (e .bytes) ∙ f .nPrivate;
-          nShared = length-movedShared o (m .private) (m .shared) c l given (f .nPrivate) (f .nShared) (q .core) (q .line) (d .moves) ∙ f .nShared;
-        }
+unfolding applied ownersFit slotsFit
+fits-again {m} f call given = kept-by-rows Fit call given
+    (λ d k q w.
+    let o = m .state .opening in
+    let c = coreOf call (m .state) in
+    let l = lineOf call (m .state) in
+    let e = made-fits f k q w in
+    record {
+      opening = f .opening;
+      owners = every-set (λ (x : Line). ownerFits (o .cores) (x .manager)) (m .state .line) (o .lines) l (d .line) (f .owners) (e .owner);
+      slots = every-set (λ (x : Core). slotFits (o .lines) (x .slot)) (m .state .core) (o .cores) c (d .core) (f .slots) (e .slot);
+      nPrivate =
+          length-movedPrivate o (m .private) (m .shared) c l given (f .nPrivate) (f .nShared) (q .core) (q .line) (d .moves) (e .bytes) ∙ f .nPrivate;
+      nShared = length-movedShared o (m .private) (m .shared) c l given (f .nPrivate) (f .nShared) (q .core) (q .line) (d .moves) ∙ f .nShared;
+    })
+    f

@@ -11,7 +11,7 @@ use Rattle.protocol.specs.declared.{Cell.Cell, Opening.Opening, State.St
 use Rattle.protocol.specs.declared.Copy.the-variants.{None as NoCopy}
 use Rattle.protocol.proofs.Bytes.{grid-row, grid-column}
 
--- the lists are as long as the arrays that they stand for
+-- the lists are as long as the code's arrays
 pub record Arrays (s : State) : Type 0 where
   pub nCore : length (s .core) ≡ 16
   pub nCell : length (s .cell) ≡ 1024

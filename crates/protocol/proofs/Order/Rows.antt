@@ -1,4 +1,4 @@
--- What the order asks of the tables' rows, each as a small fact: where a commit stands to the leases, and what a grant or a writeback carries.
+-- What the order asks of the tables' rows, each as a small fact: where a commit is to the leases, and what a grant or a writeback carries.
 use Prim.Native.Nat.{ℕ, _≤_, _<_}
 use mathlib.Core.Path.{_≡_, refl, ap}
 use mathlib.Core.Bool.{Bool, true, false}
@@ -52,7 +52,7 @@ writebackRts (Flight w r) = r .0
 -- ---- load
 
 module _ (c l : ℕ) (w r : Stamp) (p : Pieces) where
-  -- an owner's read stands within the lease that its copy has after it
+  -- an owner's read is within the lease that its copy has after it
   pub read-within : (d : Bool) → timeOf (loadOwned d c l w r p .answer) ≤ copyRts (loadOwned d c l w r p .copy)
   unfolding loadOwned
   read-within true = omega arith
@@ -64,7 +64,7 @@ module _ (c l : ℕ) (w r : Stamp) (p : Pieces) where
   lease-grows true = omega arith
   lease-grows false = omega arith
 
-  -- a read stands at or after the core's lts, and at or before its lts after the step
+  -- a read is at or after the core's lts, and at or before its lts after the step
   pub read-after : (d : Bool) → p .core .clocks .lts .0 ≤ timeOf (loadOwned d c l w r p .answer)
   unfolding loadOwned
   read-after true = omega arith
@@ -75,7 +75,7 @@ module _ (c l : ℕ) (w r : Stamp) (p : Pieces) where
   read-clocked true = omega arith
   read-clocked false = omega arith
 
-  -- a read of a copy that is not dirty stands at or after the store that made it
+  -- a read of a copy that is not dirty is at or after the store that made it
   pub read-version : w .0 ≤ timeOf (loadOwned false c l w r p .answer)
   unfolding loadOwned
   read-version = omega arith
@@ -89,7 +89,7 @@ module _ (c l : ℕ) (w r : Stamp) (p : Pieces) where
 
   -- ---- store
 
-  -- a store stands past the lease of its copy, and at or after both clocks
+  -- a store is past the lease of its copy, and at or after both clocks
   pub store-past : (d : Bool) → r .0 < timeOf (storeTable (CopyOwned d w r) c l p .answer)
   unfolding storeTable
   store-past d = omega arith

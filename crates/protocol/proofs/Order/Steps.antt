@@ -129,8 +129,8 @@ module _ (z : Value) (p : ℕ) {H : List (Commit Bytes)} (given : Bytes) {m : Ma
   next d = applied m c l given d
 
   -- what the row makes fits the sizes
-  abbrev Made : Effect → Type 0
-  Made d = EffectFits o (length given) d
+  abbrev Fitting : Effect → Type 0
+  Fitting d = EffectFits o (length given) d
 
   -- the row is good: its answer and the machine after it
   abbrev GoodRow : Call → Effect → Type 0
@@ -167,7 +167,7 @@ module _ (z : Value) (p : ℕ) {H : List (Commit Bytes)} (given : Bytes) {m : Ma
   owner-silent e = rw e at pair
 
   -- ---- the invariant after a row that commits nothing, and after one that commits
-  module _ {d : Effect} (e : Made d) (st : SlotStep m c l given d) (pr : Beside l (d .core .slot) (d .copy))
+  module _ {d : Effect} (e : Fitting d) (st : SlotStep m c l given d) (pr : Beside l (d .core .slot) (d .copy))
       (a : k .clocks .lts .0 ≤ d .core .clocks .lts .0) (b : k .clocks .sts .0 ≤ d .core .clocks .sts .0) where
     keeps : {g′ : Newest LineCell Value} → LineOf z l H (look (next d) l) g′ → Inv z H (next d)
     keeps this = inv-applied I f q given d (e .bytes) H st pr (clocks-applied I f q given d (e .bytes) a b) (λ l′ g n k. k) this
@@ -191,7 +191,7 @@ module _ (z : Value) (p : ℕ) {H : List (Commit Bytes)} (given : Bytes) {m : Ma
   apart : {Z Y : Spot} → Z ≡ Y → eqb (kind Z) (kind Y) ≡ false → ⊥
   apart {Z} {Y} e n = never (sym (eq-eqb (kind Z) (kind Y) (ap kind e)) ∙ n)
 
-  module _ {d : Effect} (e : Made d) where
+  module _ {d : Effect} (e : Fitting d) where
     -- the newest version is where it was; what the row leaves at the four spots agrees with it
     as-was : Leaves I f q given d (e .bytes) H g → LineOf z l H (look (next d) l) g
     as-was x = line-applied I f q given d (e .bytes) ok (λ Y _. at Y) x
@@ -219,7 +219,7 @@ module _ (z : Value) (p : ℕ) {H : List (Commit Bytes)} (given : Bytes) {m : Ma
 
   -- a load by core c at t of the copy's bytes extends the log if they are those to be read, and keeps the invariant if t is within the lease
   -- that the newest version has after it
-  loads : {g′ : Newest LineCell Value} {d : Effect} → Made d → (t : Stamp) → k .clocks .lts .0 ≤ t .0
+  loads : {g′ : Newest LineCell Value} {d : Effect} → Fitting d → (t : Stamp) → k .clocks .lts .0 ≤ t .0
       → ((i : LineCell) → Reading z (Writes l i) c (t .0) H (cells bytes i)) → SlotStep m c l given d → Beside l (d .core .slot) (d .copy)
       → k .clocks .lts .0 ≤ d .core .clocks .lts .0 → k .clocks .sts .0 ≤ d .core .clocks .sts .0 → t .0 ≤ d .core .clocks .lts .0 → t .0 ≤ g′ .r
       → LineOf z l H (look (next d) l) g′ → Good z p H (Load c l) given (commit c t (load l bytes)) (next d)
@@ -256,7 +256,7 @@ module _ (z : Value) (p : ℕ) {H : List (Commit Bytes)} (given : Bytes) {m : Ma
   -- ---- writebacks
 
   -- an owner's version goes to the writeback, with its bytes and its whole lease; u is what its copy becomes
-  writes-back : (a : Answer) (v : Move) (w r r′ : Stamp) (b : Bool) (u : Copy) (t : ℕ) → Made (row a MoveWriteback k u (writtenBack (lineAt (m .state) l) w r′))
+  writes-back : (a : Answer) (v : Move) (w r r′ : Stamp) (b : Bool) (u : Copy) (t : ℕ) → Fitting (row a MoveWriteback k u (writtenBack (lineAt (m .state) l) w r′))
       → copyAt (m .state) c l ≡ CopyOwned b w r → v ≡ MoveWriteback → r .0 ≤ r′ .0 → g .leased ≤ t → t ≤ r′ .0
       → (VersionOf z l H (version atWriteback (w .0) (r′ .0) t (cells bytes))
       → SpotOf z l H (version atWriteback (w .0) (r′ .0) t (cells bytes)) (atCopy c) (viewCopy c u bytes))
@@ -269,7 +269,7 @@ module _ (z : Value) (p : ℕ) {H : List (Commit Bytes)} (given : Bytes) {m : Ma
 
   -- ---- the rows
 
-  row-good : {call : Call} {d : Effect} → Row c l ps o call d → Made d → GoodRow call d
+  row-good : {call : Call} {d : Effect} → Row c l ps o call d → Fitting d → GoodRow call d
   unfolding accepted meaning look loadOwned storeTable fenceTable advanceTable evictTable serveAsked serveLoad receiveGrant receiveRenew yieldTable takeTable
   row-good (asks-load e i) fit =
       keeps fit (inr (λ l′ n. sym n)) (λ _. ask-beside WantLoad l (k .clocks .lts) (copyAt (m .state) c l) i) (omega arith) (omega arith)

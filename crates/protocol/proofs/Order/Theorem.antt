@@ -126,16 +126,16 @@ apart-same (one-more o d) a b (there i) (here q) e = absurd (omega (arith, all-a
 apart-same (one-more o d) a b (there i) (there j) e = apart-same d a b i j e
 
 -- a call makes one commit at its place, or none
-data Made (p : ℕ) : List (Commit Bytes) → Type 0 where
-  no-commit : Made p []
-  one-commit : {e : Commit Bytes} → e .place .0 ≡ p → Made p (e ∷ [])
+data OneAtMost (p : ℕ) : List (Commit Bytes) → Type 0 where
+  no-commit : OneAtMost p []
+  one-commit : {e : Commit Bytes} → e .place .0 ≡ p → OneAtMost p (e ∷ [])
 
-made-at : (p : ℕ) (g : Given) (r : Reply) → Made p (commitOf (place p) g r)
+made-at : (p : ℕ) (g : Given) (r : Reply) → OneAtMost p (commitOf (place p) g r)
 made-at p g (refused n) = no-commit
 made-at p g (done d) = no-commit
 made-at p g (commit c t o) = go (about (g .call) .act)
   where
-    go : (a : Act) → Made p (actCommit a (place p) (namedCore (about (g .call) .core)) (namedLine (about (g .call) .line)) (g .bytes) t o)
+    go : (a : Act) → OneAtMost p (actCommit a (place p) (namedCore (about (g .call) .core)) (namedLine (about (g .call) .line)) (g .bytes) t o)
     go Load = one-commit refl
     go Store = one-commit refl
     go Fence = one-commit refl
@@ -143,13 +143,13 @@ made-at p g (commit c t o) = go (about (g .call) .act)
     go Transfer = no-commit
 
 -- the log before place p, with what is made at p
-record Placed (p : ℕ) (H : List (Commit Bytes)) : Type 0 where
+record Sequenced (p : ℕ) (H : List (Commit Bytes)) : Type 0 where
   apart : Apart H
   old : All (λ a. a .place .0 < p) H
 
-placed-more : (p : ℕ) (H : List (Commit Bytes)) {cs : List (Commit Bytes)} → Made p cs → Placed p H → Placed (suc p) (cs ++ H)
-placed-more p H no-commit P = record { apart = P .apart; old = all-map (λ a h. omega arith) (P .old) }
-placed-more p H (one-commit {e = e} q) P = record {
+sequenced-more : (p : ℕ) (H : List (Commit Bytes)) {cs : List (Commit Bytes)} → OneAtMost p cs → Sequenced p H → Sequenced (suc p) (cs ++ H)
+sequenced-more p H no-commit P = record { apart = P .apart; old = all-map (λ a h. omega arith) (P .old) }
+sequenced-more p H (one-commit {e = e} q) P = record {
   apart = one-more {e = e} (all-map (λ a h. omega arith) (P .old)) (P .apart);
   old = more {e = e} (omega arith) (all-map (λ a h. omega arith) (P .old));
 }
@@ -188,9 +188,9 @@ sort-theorem o gs = record {
     records : List Record
     records = run gs 1 (freshMachine o) .records
 
-    log : (p : ℕ) × Placed p (commits (onto records []))
+    log : (p : ℕ) × Sequenced p (commits (onto records []))
     log =
-        reached (λ p rs m. Placed p (commits rs)) (λ p rs m g P. placed-more p (commits rs) (made-at p g (step m (g .call) (g .bytes) .reply)) P)
+        reached (λ p rs m. Sequenced p (commits rs)) (λ p rs m g P. sequenced-more p (commits rs) (made-at p g (step m (g .call) (g .bytes) .reply)) P)
         gs 1 [] (freshMachine o) (record { apart = no-commits; old = none })
 
 -- ---- the test of keys
