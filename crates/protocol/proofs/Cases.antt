@@ -28,7 +28,7 @@ use Rattle.protocol.specs.declared.Slot.the-variants.{Empty, Asked, Answ
 use Rattle.protocol.specs.declared.Manager.the-variants.{Shared, Owned}
 use Rattle.protocol.specs.declared.Writeback.the-variants.{None as NoWriteback, Flight}
 use Rattle.protocol.specs.declared.Call.the-variants.{Load, Store, Fence, Evict, Advance, Serve, Receive, Yield, Take}
-use Rattle.protocol.proofs.Tests.{both-true}
+use Rattle.protocol.proofs.Tests.{never, both-true, both-false}
 use Rattle.protocol.proofs.Refusals.{not-true, passed, machine-fit, placed, NotRefused, not-refused}
 
 -- a row of the table of a call about core c and line l, on the pieces p of these two
@@ -62,14 +62,6 @@ pub data Row (c l : ℕ) (p : Pieces) (o : Opening) : Call → Effect → Type 0
   yields : {d : Bool} {w r : Stamp} → p .copy ≡ CopyOwned d w r → p .line .manager ≡ Owned c → stands (p .line .recall) ≡ true
       → Row c l p o (Yield l) (yieldTable (CopyOwned d w r) p)
   takes : {w r : Stamp} → p .line .writeback ≡ Flight w r → Row c l p o (Take l) (takeTable (Flight w r) p)
-
--- a test that is both true and false
-pub never : {X : Type 0} → true ≡ false → X
-never e = let z : _≡_ {A = ℕ} 0 1 = cc in absurd (omega arith)
-
-pub both-false : (a b : Bool) → both a b ≡ false → a ≡ true → b ≡ false
-both-false true b e i = e
-both-false false b e i = never (sym i)
 
 -- the owner of an owned line
 owner-is : (v : Manager) → hasOwner v ≡ true → v ≡ Owned (ownerOf v)

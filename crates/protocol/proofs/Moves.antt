@@ -5,8 +5,7 @@ use native.Mathlib.Omega.{arith}
 use lib.ListN.{length}
 use Rattle.protocol.specs.Buffers.{Bytes, part, splice, privateLength, sharedLength, copyBytes, managerBytes, writebackBytes, answerBytes}
 use Rattle.protocol.specs.Buffers.{movedPrivate, movedShared}
-use Rattle.protocol.specs.declared.Opening.{Opening}
-use Rattle.protocol.specs.declared.Move.{Move}
+use Rattle.protocol.specs.declared.{Opening.Opening, Move.Move}
 use Rattle.protocol.specs.declared.Move.the-variants.{Still, Store as MoveStore, Answer as MoveAnswer, Receive as MoveReceive}
 use Rattle.protocol.specs.declared.Move.the-variants.{Writeback as MoveWriteback, Take as MoveTake}
 use Rattle.protocol.proofs.Bytes.{row-le, row-other, length-part, length-splice, part-same, grid-row, grid-column}

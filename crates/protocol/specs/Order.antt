@@ -23,8 +23,7 @@ use Rattle.protocol.specs.Machine.{freshMachine}
 use Rattle.protocol.specs.Refusals.{openRefusal}
 use Rattle.protocol.specs.Step.{Op, load, store, fence, opened}
 use Rattle.protocol.specs.Run.{Given, run, Commit, commits}
-use Rattle.protocol.specs.declared.Key.{Key}
-use Rattle.protocol.specs.declared.Opening.{Opening}
+use Rattle.protocol.specs.declared.{Key.Key, Opening.Opening}
 
 -- a is in the list
 pub data In {A : Type 0} (a : A) : List A → Type 0 where

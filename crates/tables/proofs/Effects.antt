@@ -15,11 +15,9 @@ use Rattle.protocol.specs.Refusals.{wrongCount, buffersFit, machineRefusal, cal
 use Rattle.protocol.specs.Tables.{row, loadOwned, storeTable, fenceTable, advanceTable, evictTable, serveLoad, serveAsked, receiveRenew, receiveGrant}
 use Rattle.protocol.specs.Tables.{yieldTable, takeTable, effectOf}
 use Rattle.protocol.specs.Step.{refused, meaning, Outcome, commitBytes, accepted, step}
-use Rattle.protocol.specs.declared.Opening.{Opening}
-use Rattle.protocol.specs.declared.Call.{Call}
+use Rattle.protocol.specs.declared.{Opening.Opening, Call.Call, Effect.Effect}
 use Rattle.protocol.specs.declared.Answer.the-variants.{Refused}
 use Rattle.protocol.specs.declared.Move.the-variants.{Still}
-use Rattle.protocol.specs.declared.Effect.{Effect}
 use Rattle.protocol.proofs.Bytes.{part-same}
 use Rattle.protocol.specs.About.{about}
 use Rattle.protocol.proofs.Places.{copy-ends}

@@ -78,10 +78,14 @@ pub record Inv (z : Value) (H : List (Commit Bytes)) (m : Machine) : Type 0 wher
   pub pairs : (c l : ℕ) → l < m .state .opening .lines → Beside l (coreAt (m .state) c .slot) (copyAt (m .state) c l)
   pub lines : (l : ℕ) → l < m .state .opening .lines → (g : Newest LineCell Value) × LineOf z l H (look m l) g
 
-clock-up : (o : Op Bytes) (t : ℕ) (k k′ : Clocks) → k .lts .0 ≤ k′ .lts .0 → k .sts .0 ≤ k′ .sts .0 → Passed o t k → Passed o t k′
-clock-up (load l b) t k k′ p q h = omega arith
-clock-up (store l b) t k k′ p q h = omega arith
-clock-up fence t k k′ p q h = omega arith
+-- clocks that do not go back hold the commits so far
+abbrev pub Onward : Clocks → Clocks → Type 0
+Onward k k′ = (k .lts .0 ≤ k′ .lts .0) × (k .sts .0 ≤ k′ .sts .0)
+
+clock-up : (o : Op Bytes) (t : ℕ) (k k′ : Clocks) → Onward k k′ → Passed o t k → Passed o t k′
+clock-up (load l b) t k k′ p h = omega (arith, p .0)
+clock-up (store l b) t k k′ p h = omega (arith, p .1)
+clock-up fence t k k′ p h = omega (arith, p .0)
 
 -- ---- a step's effect d on core c and line l
 
@@ -93,16 +97,14 @@ module _ {z : Value} {H : List (Commit Bytes)} {m : Machine} (I : Inv z H m) (f 
   abbrev m′ : Machine
   m′ = applied m c l given d
 
-  -- clocks that only grow hold the commits so far
-  pub clocks-applied : coreAt (m .state) c .clocks .lts .0 ≤ d .core .clocks .lts .0 → coreAt (m .state) c .clocks .sts .0 ≤ d .core .clocks .sts .0
-      → (c′ : ℕ) → Within H m′ c′
+  pub clocks-applied : Onward (coreAt (m .state) c .clocks) (d .core .clocks) → (c′ : ℕ) → Within H m′ c′
   unfolding applied
-  clocks-applied a b c′ = go (ℕ-discrete c′ c)
+  clocks-applied a c′ = go (ℕ-discrete c′ c)
     where
       go : Dec (c′ ≡ c) → Within H m′ c′
       go (yes e) =
           rw (e, core-at (I .arrays) q d)
-          (all-map (λ x k i. clock-up (x .op) (x .ts .0) (coreAt (m .state) c .clocks) (d .core .clocks) a b (k i)) (I .clocks c))
+          (all-map (λ x k i. clock-up (x .op) (x .ts .0) (coreAt (m .state) c .clocks) (d .core .clocks) a (k i)) (I .clocks c))
       go (no n) = rw (core-off (I .arrays) q d c′ n) (I .clocks c′)
 
   pairs-applied : SlotStep m c l given d → Beside l (d .core .slot) (d .copy) → (c′ l′ : ℕ) → l′ < o .lines

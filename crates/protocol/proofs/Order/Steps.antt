@@ -32,11 +32,12 @@ use Rattle.protocol.specs.declared.Answer.the-variants.{Done}
 use Rattle.protocol.specs.declared.Call.the-variants.{Load}
 use Rattle.protocol.specs.declared.Name.the-variants.{Evict as Evicted, Yield as Yielded}
 use Rattle.protocol.specs.declared.Move.the-variants.{Writeback as MoveWriteback}
+use Rattle.protocol.proofs.Tests.{never}
 use Rattle.protocol.proofs.Refusals.{Fit, machine-fit}
 use Rattle.protocol.proofs.Written.{core-at}
 use Rattle.protocol.proofs.Cases.{Row, asks-load, reads-shared, reads-dirty, reads-clean, asks-store, writes, fences, advances, evicts-shared}
 use Rattle.protocol.proofs.Cases.{evicts-owned, recalls, renews, shares, grants, gets-share, gets-own, gets-renewal, drops-none, drops-owned}
-use Rattle.protocol.proofs.Cases.{yields, takes, never, Case, refuses, makes, case-of}
+use Rattle.protocol.proofs.Cases.{yields, takes, Case, refuses, makes, case-of}
 use Rattle.protocol.proofs.Keep.{EffectFits, made-fits}
 use Rattle.protocol.proofs.Order.Log.{more, all-map, Touches, Reading, Extends}
 use Rattle.protocol.proofs.Order.Versions.{Spot, atManager, atWriteback, atCopy, atSlot, kind, HeldBy, Elsewhere, not-here, mine, newest}
@@ -47,8 +48,8 @@ use Rattle.protocol.proofs.Order.Look.{SpeaksOf, SlotStep}
 use Rattle.protocol.proofs.Order.Rows.{read-within, lease-grows, read-after, read-clocked, read-version, shared-version, shared-within}
 use Rattle.protocol.proofs.Order.Rows.{store-past, store-after-loads, store-after-stores, same-version, grant-within, manager-grows}
 use Rattle.protocol.proofs.Order.Rows.{evict-lease, yield-lease, evict-moves, yield-moves}
-use Rattle.protocol.proofs.Order.Invariant.{Writes, On, Passed, Allowed, Beside, VersionOf, SpotOf, LineOf, Inv, clocks-applied, inv-applied}
-use Rattle.protocol.proofs.Order.Invariant.{Leaves, line-applied}
+use Rattle.protocol.proofs.Order.Invariant.{Onward, Writes, On, Passed, Allowed, Beside, VersionOf, SpotOf, LineOf, Inv, clocks-applied}
+use Rattle.protocol.proofs.Order.Invariant.{inv-applied, Leaves, line-applied}
 
 -- the commit of core c at t
 abbrev pub commitBy : ℕ → ℕ → Stamp → Op Bytes → Commit Bytes
@@ -168,9 +169,9 @@ module _ (z : Value) (p : ℕ) {H : List (Commit Bytes)} (given : Bytes) {m : Ma
 
   -- ---- the invariant after a row that commits nothing, and after one that commits
   module _ {d : Effect} (e : Fitting d) (st : SlotStep m c l given d) (pr : Beside l (d .core .slot) (d .copy))
-      (a : k .clocks .lts .0 ≤ d .core .clocks .lts .0) (b : k .clocks .sts .0 ≤ d .core .clocks .sts .0) where
+      (a : Onward (k .clocks) (d .core .clocks)) where
     keeps : {g′ : Newest LineCell Value} → LineOf z l H (look (next d) l) g′ → Inv z H (next d)
-    keeps this = inv-applied I f q given d (e .bytes) H st pr (clocks-applied I f q given d (e .bytes) a b) (λ l′ g n k. k) this
+    keeps this = inv-applied I f q given d (e .bytes) H st pr (clocks-applied I f q given d (e .bytes) a) (λ l′ g n k. k) this
 
     commits-keeps : {g′ : Newest LineCell Value} (t : Stamp) (x : Op Bytes) → Passed x (t .0) (d .core .clocks)
         → ((l′ : ℕ) → (l′ ≡ l → ⊥) → (y : Bytes) → x ≡ store l′ y → ⊥) → ((l′ : ℕ) → (l′ ≡ l → ⊥) → Touches l′ x → ⊥)
@@ -178,7 +179,7 @@ module _ (z : Value) (p : ℕ) {H : List (Commit Bytes)} (given : Bytes) {m : Ma
     unfolding applied
     commits-keeps t x ck nw nt this =
         inv-applied I f q given d (e .bytes) (commitBy p c t x ∷ H) st pr
-        (λ c′. more {e = commitBy p c t x} (λ i. own c′ i) (clocks-applied I f q given d (e .bytes) a b c′))
+        (λ c′. more {e = commitBy p c t x} (λ i. own c′ i) (clocks-applied I f q given d (e .bytes) a c′))
         (λ l′ g′ n k. quiet z (Writes l′) (On l′) (commitBy p c t x) (λ i. nw l′ n) (λ i. absurd (nt l′ n i)) k)
         this
       where
@@ -221,16 +222,16 @@ module _ (z : Value) (p : ℕ) {H : List (Commit Bytes)} (given : Bytes) {m : Ma
   -- that the newest version has after it
   loads : {g′ : Newest LineCell Value} {d : Effect} → Fitting d → (t : Stamp) → k .clocks .lts .0 ≤ t .0
       → ((i : LineCell) → Reading z (Writes l i) c (t .0) H (cells bytes i)) → SlotStep m c l given d → Beside l (d .core .slot) (d .copy)
-      → k .clocks .lts .0 ≤ d .core .clocks .lts .0 → k .clocks .sts .0 ≤ d .core .clocks .sts .0 → t .0 ≤ d .core .clocks .lts .0 → t .0 ≤ g′ .r
+      → Onward (k .clocks) (d .core .clocks) → t .0 ≤ d .core .clocks .lts .0 → t .0 ≤ g′ .r
       → LineOf z l H (look (next d) l) g′ → Good z p H (Load c l) given (commit c t (load l bytes)) (next d)
-  loads fit t h s st pr a b ck w this = (
+  loads fit t h s st pr a ck w this = (
     refl,
     record {
       inOrder = all-map (λ x i j e. kept-load (x .op) (x .ts .0) (t .0) l bytes (k .clocks) h (i j) e) (I .clocks c);
       sees = seen;
       above = λ l′ x e. absurd (load-still l′ x e);
     },
-    commits-keeps fit st pr a b t (load l bytes) ck (λ l′ n x e. load-still l′ x e) (λ l′ n i. n (sym i))
+    commits-keeps fit st pr a t (load l bytes) ck (λ l′ n x e. load-still l′ x e) (λ l′ n i. n (sym i))
         (quiet z (Writes l) (On l) (commitBy p c t (load l bytes)) (λ i x e. load-still l x e) (λ _. w) this),
   )
     where
@@ -263,7 +264,7 @@ module _ (z : Value) (p : ℕ) {H : List (Commit Bytes)} (given : Bytes) {m : Ma
       → Inv z H (next (row a v k u (writtenBack (lineAt (m .state) l) w r′)))
   unfolding look
   writes-back a v w r r′ b u t fit e i h₁ h₂ h₃ copy = rw i
-      (keeps fit (inl (refl, tt)) (λ s. absurd (owner-silent e s)) (omega arith) (omega arith)
+      (keeps fit (inl (refl, tt)) (λ s. absurd (owner-silent e s)) (omega arith)
       (goes fit (at-copy (CopyOwned b w r) e .0) (λ n. n refl) atWriteback (r′ .0) t h₁ h₂ h₃
       (λ ok′ stay. (stay atManager refl, (here, λ j. tt), copy ok′, stay (atSlot c) refl))))
 
@@ -272,24 +273,24 @@ module _ (z : Value) (p : ℕ) {H : List (Commit Bytes)} (given : Bytes) {m : Ma
   row-good : {call : Call} {d : Effect} → Row c l ps o call d → Fitting d → GoodRow call d
   unfolding accepted meaning look loadOwned storeTable fenceTable advanceTable evictTable serveAsked serveLoad receiveGrant receiveRenew yieldTable takeTable
   row-good (asks-load e i) fit =
-      keeps fit (inr (λ l′ n. sym n)) (λ _. ask-beside WantLoad l (k .clocks .lts) (copyAt (m .state) c l) i) (omega arith) (omega arith)
+      keeps fit (inr (λ l′ n. sym n)) (λ _. ask-beside WantLoad l (k .clocks .lts) (copyAt (m .state) c l) i) (omega arith)
       (as-was fit (at atManager, at atWriteback, at (atCopy c), tt))
   row-good (asks-store e i) fit =
-      keeps fit (inr (λ l′ n. sym n)) (λ _. ask-beside WantStore l (k .clocks .lts) (copyAt (m .state) c l) i) (omega arith) (omega arith)
+      keeps fit (inr (λ l′ n. sym n)) (λ _. ask-beside WantStore l (k .clocks .lts) (copyAt (m .state) c l) i) (omega arith)
       (as-was fit (at atManager, at atWriteback, at (atCopy c), tt))
   row-good (reads-shared {w = w} {r = r} e h) fit =
       let lease = at-copy (CopyShared w r) e in
       let t = shared-within c l w r ps (lease .wr) h in
       loads fit (later (k .clocks .lts) w) (omega arith)
       (reads-snapshot z (Writes l) (On l) (later (k .clocks .lts) w .0) (shared-version c l w r ps) t lease)
-      (inl (refl, tt)) pair (omega arith) (omega arith) (omega arith) (omega (arith, t, lease .top, ok .lr))
+      (inl (refl, tt)) pair (omega arith) (omega arith) (omega (arith, t, lease .top, ok .lr))
       (as-was fit (at atManager, at atWriteback, at (atCopy c), at (atSlot c)))
   row-good (reads-dirty {w = w} {r = r} e) fit =
       let t = k .clocks .lts in
       let v = at-copy (CopyOwned true w r) e in
       let h = lease-grows c l w r ps true in
       loads fit t (read-after c l w r ps true) (λ i. reads-mine z (Writes l) (On l) c (t .0) (v .1 i .0))
-      (inl (refl, tt)) (λ s. absurd (owner-silent e s)) (omega arith) (omega arith) (read-clocked c l w r ps true) (read-within c l w r ps true)
+      (inl (refl, tt)) (λ s. absurd (owner-silent e s)) (omega arith) (read-clocked c l w r ps true) (read-within c l w r ps true)
       (goes fit (v .0) (λ n. n refl) (atCopy c) (later r t .0) (g .leased) h (omega arith) (omega (arith, ok .lr, v .0 .isR, h))
       (λ ok′ stay. (stay atManager refl, stay atWriteback refl, (here, same-marks true (later r t .0) v), stay (atSlot c) refl)))
   row-good (reads-clean {w = w} {r = r} e) fit =
@@ -298,7 +299,7 @@ module _ (z : Value) (p : ℕ) {H : List (Commit Bytes)} (given : Bytes) {m : Ma
       let h = lease-grows c l w r ps false in
       loads fit t (read-after c l w r ps false)
       (λ i. rw (v .0 .isX i) at (reads-newest z (Writes l) (On l) {H = H} {g = g} c (t .0) (omega (arith, v .0 .isW, read-version c l w r ps)) ok i))
-      (inl (refl, tt)) (λ s. absurd (owner-silent e s)) (omega arith) (omega arith) (read-clocked c l w r ps false) (read-within c l w r ps false)
+      (inl (refl, tt)) (λ s. absurd (owner-silent e s)) (omega arith) (read-clocked c l w r ps false) (read-within c l w r ps false)
       (goes fit (v .0) (λ n. n refl) (atCopy c) (later r t .0) (g .leased) h (omega arith) (omega (arith, ok .lr, v .0 .isR, h))
       (λ ok′ stay. (stay atManager refl, stay atWriteback refl, (here, same-marks false (later r t .0) v), stay (atSlot c) refl)))
   row-good (writes {d = b} {w = w} {r = r} e h) fit = (
@@ -308,7 +309,7 @@ module _ (z : Value) (p : ℕ) {H : List (Commit Bytes)} (given : Bytes) {m : Ma
       sees = λ l′ y i. absurd (let n : _≡_ {A = ℕ} 0 1 = cc in omega arith);
       above = λ l′ y i. all-map (λ a j u n. omega (arith, j (on-line l′ a u (cc) n), v .isR, store-past c l w r ps b)) (ok .top);
     },
-    commits-keeps fit (inl (refl, tt)) (λ s. absurd (owner-silent e s)) (omega arith) (store-after-stores c l w r ps b) t (store l given) (omega arith)
+    commits-keeps fit (inl (refl, tt)) (λ s. absurd (owner-silent e s)) (omega arith, store-after-stores c l w r ps b) t (store l given) (omega arith)
         (λ l′ n y i. n (cc)) (λ l′ n i. n (sym i))
         (line-applied I f q given (storeTable (CopyOwned b w r) c l ps) (fit .bytes) (write-version z (Writes l) (On l) ok x (cells given) (marks c true) all h₁ h₂)
         (λ Y n. stay Y (λ i. (rw (← i) at n) refl) (not-here c Y n)) (
@@ -349,7 +350,7 @@ module _ (z : Value) (p : ℕ) {H : List (Commit Bytes)} (given : Bytes) {m : Ma
       sees = λ l′ x e. absurd (let n : _≡_ {A = ℕ} 0 1 = cc in omega arith);
       above = λ l′ x e. absurd (still l′ x e);
     },
-    commits-keeps fit (inl (refl, tt)) pair (omega arith) (omega arith) t fence (omega arith) (λ l′ n x e. still l′ x e) (λ l′ n i. i)
+    commits-keeps fit (inl (refl, tt)) pair (omega arith) t fence (omega arith) (λ l′ n x e. still l′ x e) (λ l′ n i. i)
         (quiet z (Writes l) (On l) (commitBy p c t fence) (λ i x e. still l x e) (λ i. absurd i)
         (as-was fit (at atManager, at atWriteback, at (atCopy c), at (atSlot c)))),
   )
@@ -360,19 +361,19 @@ module _ (z : Value) (p : ℕ) {H : List (Commit Bytes)} (given : Bytes) {m : Ma
       still : (l′ : ℕ) (x : Bytes) → fence ≡ store l′ x → ⊥
       still l′ x e = let n : _≡_ {A = ℕ} 0 1 = cc in omega arith
   row-good (advances h) fit =
-      keeps fit (inl (refl, tt)) pair (omega arith) (omega arith) (as-was fit (at atManager, at atWriteback, at (atCopy c), at (atSlot c)))
+      keeps fit (inl (refl, tt)) pair (omega arith) (as-was fit (at atManager, at atWriteback, at (atCopy c), at (atSlot c)))
   row-good (evicts-shared e) fit =
-      keeps fit (inl (refl, tt)) (λ _. tt) (omega arith) (omega arith) (as-was fit (at atManager, at atWriteback, tt, at (atSlot c)))
+      keeps fit (inl (refl, tt)) (λ _. tt) (omega arith) (as-was fit (at atManager, at atWriteback, tt, at (atSlot c)))
   row-good (evicts-owned {d = b} {w = w} {r = r} e) fit =
       writes-back (Done Evicted) (evictTable (CopyOwned b w r) ps .moves) w r r b NoCopy (g .leased) fit e (evict-moves w r b ps) (evict-lease w r b ps)
       (omega arith) (omega (arith, ok .lr, at-copy (CopyOwned b w r) e .0 .isR)) (λ _. tt)
   row-good (recalls e i) fit =
-      keeps fit (inl (refl, tt)) pair (omega arith) (omega arith) (as-was fit (at atManager, at atWriteback, at (atCopy c), at (atSlot c)))
+      keeps fit (inl (refl, tt)) pair (omega arith) (as-was fit (at atManager, at atWriteback, at (atCopy c), at (atSlot c)))
   row-good (renews {t = t} {h = y} {w = w} {r = r} e i v h) fit =
       let r′ = leasedTo r t (o .lease) in
       let n = manager-grows l w r t (o .lease) ps true in
       let u = at-manager (Shared w r) i .0 in
-      keeps fit (inr (λ l′ n. sym n)) (λ _. renewal-beside WantLoad l t y w r′ (copyAt (m .state) c l) (same-version y w v) (asked e)) (omega arith) (omega arith)
+      keeps fit (inr (λ l′ n. sym n)) (λ _. renewal-beside WantLoad l t y w r′ (copyAt (m .state) c l) (same-version y w v) (asked e)) (omega arith)
       (goes fit u (λ n. n) atManager (r′ .0) (r′ .0) n (omega (arith, ok .lr, u .isR, n)) (omega arith)
       (λ ok′ stay. (
         (here, λ j. tt),
@@ -384,7 +385,7 @@ module _ (z : Value) (p : ℕ) {H : List (Commit Bytes)} (given : Bytes) {m : Ma
       let r′ = leasedTo r t (o .lease) in
       let n = manager-grows l w r t (o .lease) ps false in
       let u = at-manager (Shared w r) i .0 in
-      keeps fit (inr (λ l′ n. sym n)) (λ _. share-beside WantLoad l t y w r′ (copyAt (m .state) c l) (asked e)) (omega arith) (omega arith)
+      keeps fit (inr (λ l′ n. sym n)) (λ _. share-beside WantLoad l t y w r′ (copyAt (m .state) c l) (asked e)) (omega arith)
       (goes fit u (λ n. n) atManager (r′ .0) (r′ .0) n (omega (arith, ok .lr, u .isR, n)) (omega arith)
       (λ ok′ stay. (
         (here, λ j. tt),
@@ -394,20 +395,20 @@ module _ (z : Value) (p : ℕ) {H : List (Commit Bytes)} (given : Bytes) {m : Ma
       )))
   row-good (grants {t = t} {h = y} {w = w} {r = r} e i) fit =
       let u = at-manager (Shared w r) i .0 in
-      keeps fit (inr (λ l′ n. sym n)) (λ _. own-beside WantStore l t y w r (copyAt (m .state) c l) (asked e)) (omega arith) (omega arith)
+      keeps fit (inr (λ l′ n. sym n)) (λ _. own-beside WantStore l t y w r (copyAt (m .state) c l) (asked e)) (omega arith)
       (goes fit u (λ n. n) (atSlot c) (r .0) (g .leased) (omega arith) (omega arith) (omega (arith, ok .lr, u .isR))
       (λ ok′ stay. (tt, stay atWriteback refl, stay (atCopy c) refl, rw (view-at l GrantOwn w r line) (here, λ j. tt))))
   row-good (gets-share {w = w} {r = r} e) fit =
-      keeps fit (inr (λ l′ n. absurd n)) (λ n. absurd n) (omega arith) (omega arith) (as-was fit (at atManager, at atWriteback, at-slot GrantShare w r e, tt))
+      keeps fit (inr (λ l′ n. absurd n)) (λ n. absurd n) (omega arith) (as-was fit (at atManager, at atWriteback, at-slot GrantShare w r e, tt))
   row-good (gets-own {w = w} {r = r} e) fit =
       let u = at-slot GrantOwn w r e .0 in
-      keeps fit (inr (λ l′ n. absurd n)) (λ n. absurd n) (omega arith) (omega arith)
+      keeps fit (inr (λ l′ n. absurd n)) (λ n. absurd n) (omega arith)
       (goes fit u (λ n. n refl) (atCopy c) (r .0) (g .leased) (omega arith) (omega arith) (omega (arith, ok .lr, u .isR))
       (λ ok′ stay. (stay atManager refl, stay atWriteback refl, (here, λ j. tt), tt)))
   row-good (gets-renewal {w = w} {r = r} {v = w₁} {q = r₁} e i) fit =
       let j : w ≡ w₁ = (rw (e, i) at pair) refl in
       let y = at-slot GrantRenew w r e in
-      keeps fit (inr (λ l′ n. absurd n)) (λ n. absurd n) (omega arith) (omega arith)
+      keeps fit (inr (λ l′ n. absurd n)) (λ n. absurd n) (omega arith)
       (as-was fit (
         at atManager,
         at atWriteback,
@@ -415,9 +416,9 @@ module _ (z : Value) (p : ℕ) {H : List (Commit Bytes)} (given : Bytes) {m : Ma
         tt,
       ))
   row-good (drops-none e i) fit =
-      keeps fit (inr (λ l′ n. absurd n)) (λ n. absurd n) (omega arith) (omega arith) (as-was fit (at atManager, at atWriteback, at (atCopy c), tt))
+      keeps fit (inr (λ l′ n. absurd n)) (λ n. absurd n) (omega arith) (as-was fit (at atManager, at atWriteback, at (atCopy c), tt))
   row-good (drops-owned e i) fit =
-      keeps fit (inr (λ l′ n. absurd n)) (λ n. absurd n) (omega arith) (omega arith) (as-was fit (at atManager, at atWriteback, at (atCopy c), tt))
+      keeps fit (inr (λ l′ n. absurd n)) (λ n. absurd n) (omega arith) (as-was fit (at atManager, at atWriteback, at (atCopy c), tt))
   row-good (yields {d = b} {w = w} {r = r} e i h) fit = go (lineAt (m .state) l .recall)
     where
       v : Stands g (atCopy c) (w .0) (r .0) (cells bytes)
@@ -436,7 +437,7 @@ module _ (z : Value) (p : ℕ) {H : List (Commit Bytes)} (given : Bytes) {m : Ma
       go Downgrade = yields-to (CopyShared w r) (r .0) (omega (arith, ok .lr, v .isR)) (omega arith) (lease-of z (Writes l) (On l) c (omega arith))
   row-good (takes {w = w} {r = r} e) fit =
       let u = at-writeback (Flight w r) e .0 in
-      keeps fit (inl (refl, tt)) pair (omega arith) (omega arith)
+      keeps fit (inl (refl, tt)) pair (omega arith)
       (goes fit u (λ n. n) atManager (r .0) (g .leased) (omega arith) (omega arith) (omega (arith, ok .lr, u .isR))
       (λ ok′ stay. ((here, λ j. tt), tt, stay (atCopy c) refl, stay (atSlot c) refl)))
 

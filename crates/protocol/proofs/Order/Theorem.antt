@@ -22,6 +22,7 @@ use Rattle.protocol.specs.Order.{In, here, there, Before, Earlier, TsoKe
 use Rattle.protocol.specs.Order.{SortTheorem, KeyTheorem}
 use Rattle.protocol.specs.declared.{Opening.Opening, Act.Act}
 use Rattle.protocol.specs.declared.Act.the-variants.{Load, Store, Fence, Advance, Transfer}
+use Rattle.protocol.proofs.Tests.{never}
 use Rattle.protocol.proofs.Bytes.{row-le, zeros, zeros-part}
 use Rattle.protocol.proofs.Places.{inside}
 use Rattle.protocol.proofs.Refusals.{opening-fit}
@@ -202,7 +203,7 @@ key-theorem a b = (holds (ltb (a .0 .0) (b .0 .0)) (eqb (a .0 .0) (b .0 .0)) ref
         → pick x true (pick y (ltb (a .1 .0) (b .1 .0)) false) ≡ true → Precedes a b
     holds true y e i h = inl (ltb-true (a .0 .0) (b .0 .0) e)
     holds false true e i h = inr (eqb-true (a .0 .0) (b .0 .0) i, ltb-true (a .1 .0) (b .1 .0) h)
-    holds false false e i h = let z : _≡_ {A = ℕ} 0 1 = cc in absurd (omega arith)
+    holds false false e i h = never (sym h)
 
     tests : Precedes a b → precedes a b ≡ true
     tests (inl p) = rw (lt-ltb (a .0 .0) (b .0 .0) p) refl
