@@ -1,20 +1,22 @@
--- Every step leaves a machine that fits, so that none of 1 and 2 refuses the next call: its slot's line, its line's owner and the bytes that it
--- moves lie inside the sizes. So a state that fits need be looked through only once.
+-- Every step leaves a machine that fits if it got one: the line of its slot, the owner of its line and the bytes that it moves lie inside the
+-- sizes. So what 1 and 2 say of a machine need be found only once.
 use Prim.Native.Nat.{ℕ}
-use mathlib.Core.Path.{_≡_, refl, _∙_}
+use mathlib.Core.Path.{_≡_, refl, sym, _∙_}
 use mathlib.Core.Bool.{true, false}
-use borrow.Author.Tests.{lt-ltb}
+use lib.ListN.{length}
+use borrow.Author.Tests.{lt-ltb, eq-eqb}
+use Rattle.protocol.specs.Pick.{first}
 use Rattle.protocol.specs.Buffers.{Bytes, Placed}
 use Rattle.protocol.specs.About.{about}
 use Rattle.protocol.specs.Machine.{Machine, Pieces, coreOf, lineOf, applied}
-use Rattle.protocol.specs.Refusals.{ownerFits, slotFits, ownersFit, slotsFit, wrongCount}
+use Rattle.protocol.specs.Refusals.{ownerFits, slotFits, ownersFit, slotsFit, stateFits, buffersFit, machineRefusal, wrongCount}
 use Rattle.protocol.specs.Tables.{loadOwned, storeTable, fenceTable, advanceTable, evictTable, serveAsked, serveLoad, receiveGrant}
 use Rattle.protocol.specs.Tables.{receiveRenew, yieldTable, takeTable}
 use Rattle.protocol.specs.Step.{step}
 use Rattle.protocol.specs.declared.{Core.Core, Line.Line, Opening.Opening, Call.Call, Effect.Effect}
 use Rattle.protocol.proofs.Scan.{every-set}
 use Rattle.protocol.proofs.Moves.{Sized, length-movedPrivate, length-movedShared}
-use Rattle.protocol.proofs.Refusals.{Fit, slot-inside, owner-inside, store-width, named, NotRefused}
+use Rattle.protocol.proofs.Refusals.{Fit, machine-fit, slot-inside, owner-inside, store-width, named, NotRefused}
 use Rattle.protocol.proofs.Cases.{Row, asks-load, reads-shared, reads-dirty, reads-clean, asks-store, writes, fences, advances, evicts-shared}
 use Rattle.protocol.proofs.Cases.{evicts-owned, recalls, renews, shares, grants, gets-share, gets-own, gets-renewal, drops-none, drops-owned}
 use Rattle.protocol.proofs.Cases.{yields, takes, RowOn, kept-by-rows}
@@ -57,10 +59,12 @@ pub made-fits : {m : Machine} {call : Call} {n : ℕ} {d : Effect} → Fit m →
     → RowOn (m .state) call d → EffectFits (m .state .opening) n d
 made-fits {call = call} f k q w = row-fits q (slot-inside f _ (q .core)) (owner-inside f _ (q .line)) (named call _ _ (k .callOk) .count) w
 
-pub fits-again : {m : Machine} → Fit m → (call : Call) (given : Bytes) → Fit (step m call given .machine)
+-- and the machine after it
+row-kept : {m : Machine} {call : Call} (given : Bytes) {d : Effect} → Fit m → NotRefused m call (length given)
+    → Placed (m .state .opening) (coreOf call (m .state)) (lineOf call (m .state)) → RowOn (m .state) call d
+    → Fit (applied m (coreOf call (m .state)) (lineOf call (m .state)) given d)
 unfolding applied ownersFit slotsFit
-fits-again {m} f call given = kept-by-rows Fit call given
-    (λ d k q w.
+row-kept {m} {call} given {d} f k q w =
     let o = m .state .opening in
     let c = coreOf call (m .state) in
     let l = lineOf call (m .state) in
@@ -72,5 +76,14 @@ fits-again {m} f call given = kept-by-rows Fit call given
       nPrivate =
           length-movedPrivate o (m .private) (m .shared) c l given (f .nPrivate) (f .nShared) (q .core) (q .line) (d .moves) (e .bytes) ∙ f .nPrivate;
       nShared = length-movedShared o (m .private) (m .shared) c l given (f .nPrivate) (f .nShared) (q .core) (q .line) (d .moves) ∙ f .nShared;
-    })
-    f
+    }
+
+-- neither 1 nor 2 refuses a machine that fits
+pub fitted : {m : Machine} → Fit m → machineRefusal m ≡ 0
+unfolding machineRefusal first stateFits buffersFit
+fitted f = rw (f .opening, f .owners, f .slots, eq-eqb _ _ (f .nPrivate), eq-eqb _ _ (f .nShared))
+
+-- 1 and 2 say of the machine after a call what they said of it before
+pub still : (m : Machine) (call : Call) (given : Bytes) → machineRefusal m ≡ machineRefusal (step m call given .machine)
+still m call given = kept-by-rows (λ x. machineRefusal m ≡ machineRefusal x) call given
+    (λ d k q w. k .machineOk ∙ sym (fitted (row-kept given (machine-fit m (k .machineOk)) k q w))) refl
