@@ -2,12 +2,14 @@
 // were refused.
 //
 // Its arguments are the count of calls, and the engine's cores, lines and width. The lease is 10 and
-// the buffers are zeros.
+// the buffers are zeros. Whether the calls are made by `engine::step` or by their names is no argument
+// but a constant: the compiler puts `step` in line where a program calls it at one place only.
 use engine::Done;
 use libc::STDERR_FILENO;
 use libc::STDOUT_FILENO;
 use protocol::Call;
 use protocol::Opening;
+use protocol::State;
 use spelling::Number;
 
 // A pseudo-random number after another.
@@ -54,6 +56,24 @@ fn call_of(kind: u64, core: usize, line: usize) -> Call {
     Call::Advance { core, by: 1 }
 }
 
+// Whether the calls are made by their names; the benchmark builds the program both ways.
+const NAMED: bool = false;
+
+// Makes a call by its name.
+fn named(s: State, private: &mut [u8], shared: &mut [u8], call: Call, given: &[u8]) -> Done {
+    match call {
+        Call::Load { core, line } => engine::load(s, private, shared, core, line),
+        Call::Store { core, line } => engine::store(s, private, shared, core, line, given),
+        Call::Fence { core } => engine::fence(s, private, shared, core),
+        Call::Evict { core, line } => engine::evict(s, private, shared, core, line),
+        Call::Advance { core, by } => engine::advance(s, private, shared, core, by),
+        Call::Serve { core } => engine::serve(s, private, shared, core),
+        Call::Receive { core } => engine::receive(s, private, shared, core),
+        Call::Yield { line } => engine::yield_line(s, private, shared, line),
+        Call::Take { line } => engine::take(s, private, shared, line),
+    }
+}
+
 // Makes `count` calls on a fresh engine: 25 in 100 loads, 20 stores, 15 serves, 15 receives, and 5
 // each of evict, yield, take, fence and advance. Answers how many of them were refused.
 fn calls(count: u64, opening: Opening, private: &mut [u8], shared: &mut [u8], given: &[u8]) -> u64 {
@@ -79,7 +99,12 @@ fn calls(count: u64, opening: Opening, private: &mut [u8], shared: &mut [u8], gi
         let kind = (x % 4294967296) % 20;
         let core = below(x >> 32, cores);
         let line = below(x >> 40, lines);
-        d = engine::step(d.state, private, shared, call_of(kind, core, line), given);
+        let call = call_of(kind, core, line);
+        if NAMED {
+            d = named(d.state, private, shared, call, given);
+        } else {
+            d = engine::step(d.state, private, shared, call, given);
+        }
     }
     let a = d.answer;
     std::num::wrapping_add_u64(refused, answers::refusals_of(a))

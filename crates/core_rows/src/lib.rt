@@ -7,6 +7,7 @@ ghost use Prim.Native.Nat.{ℕ};
 ghost use mathlib.Core.Path.{_≡_};
 ghost use Rattle.protocol.specs.Pick.{pick, fails};
 ghost use Rattle.protocol.specs.Refusals.{isEmpty};
+ghost use Rattle.protocol.specs.Machine.{pieces};
 ghost use Rattle.protocol.specs.Tables.{heldOf, asking, refusedRow, effectOf};
 use protocol::Answer;
 use protocol::Call;
@@ -36,7 +37,7 @@ fn held_of(copy: Copy) -> Held
 
 // The slot becomes asked, or 20 where it is in use.
 fn ask(want: Want, l: usize, core: Core, copy: Copy, line: Line) -> Effect
-    ensures { λ r. ⌜ r ≡ pick (fails (isEmpty (core .slot))) (refusedRow 20 (record { core = core; copy = copy; line = line })) (asking want l (record { core = core; copy = copy; line = line })) ⌝ }
+    ensures { λ r. ⌜ r ≡ pick (fails (isEmpty (core .slot))) (refusedRow 20 (pieces core copy line)) (asking want l (pieces core copy line)) ⌝ }
 {
     let slot = core.slot;
     match slot {
@@ -67,7 +68,7 @@ fn ask(want: Want, l: usize, core: Core, copy: Copy, line: Line) -> Effect
 
 // load: commits on an owned copy and within a shared one's lease; else asks, or 20.
 pub fn load(c: usize, l: usize, core: Core, copy: Copy, line: Line) -> Effect
-    ensures { λ r. ⌜ ((o : Opening) → r ≡ effectOf (Call.Load c l) (record { core = core; copy = copy; line = line }) o) ⌝ }
+    ensures { λ r. ⌜ ((o : Opening) → r ≡ effectOf (Call.Load c l) (pieces core copy line) o) ⌝ }
 {
     let slot = core.slot;
     let before = core.clocks;
@@ -138,7 +139,7 @@ pub fn load(c: usize, l: usize, core: Core, copy: Copy, line: Line) -> Effect
 // store: commits on an owned copy, past its lease, or 27 where that passes the greatest timestamp; else
 // asks, or 20.
 pub fn store(c: usize, l: usize, core: Core, copy: Copy, line: Line) -> Effect
-    ensures { λ r. ⌜ ((o : Opening) → r ≡ effectOf (Call.Store c l) (record { core = core; copy = copy; line = line }) o) ⌝ }
+    ensures { λ r. ⌜ ((o : Opening) → r ≡ effectOf (Call.Store c l) (pieces core copy line) o) ⌝ }
 {
     let slot = core.slot;
     let before = core.clocks;
@@ -172,7 +173,7 @@ pub fn store(c: usize, l: usize, core: Core, copy: Copy, line: Line) -> Effect
 
 // fence: commits at the later of the core's clocks.
 pub fn fence(c: usize, core: Core, copy: Copy, line: Line) -> Effect
-    ensures { λ r. ⌜ ((o : Opening) → r ≡ effectOf (Call.Fence c) (record { core = core; copy = copy; line = line }) o) ⌝ }
+    ensures { λ r. ⌜ ((o : Opening) → r ≡ effectOf (Call.Fence c) (pieces core copy line) o) ⌝ }
 {
     let slot = core.slot;
     let before = core.clocks;
@@ -193,7 +194,7 @@ pub fn fence(c: usize, core: Core, copy: Copy, line: Line) -> Effect
 
 // advance: lts grows, or 27 where it passes the greatest timestamp.
 pub fn advance(by: u32, core: Core, copy: Copy, line: Line) -> Effect
-    ensures { λ r. ⌜ ((c : ℕ) (o : Opening) → r ≡ effectOf (Call.Advance c by) (record { core = core; copy = copy; line = line }) o) ⌝ }
+    ensures { λ r. ⌜ ((c : ℕ) (o : Opening) → r ≡ effectOf (Call.Advance c by) (pieces core copy line) o) ⌝ }
 {
     let slot = core.slot;
     let before = core.clocks;

@@ -2,20 +2,19 @@
 -- place of a commit's bytes put together.
 use Prim.Native.Nat.{ℕ}
 use mathlib.Core.Path.{_≡_, refl, ap, _∙_}
-use lib.ListN.{length, getD, set, length-replicate}
+use lib.ListN.{length, set, length-replicate}
 use Rattle.protocol.specs.Pick.{pick}
-use Rattle.protocol.specs.Fresh.{freshCell}
 use Rattle.protocol.specs.Buffers.{Bytes, copyStart}
-use Rattle.protocol.specs.Machine.{machine, coreAt, lineAt, cellOf, applied}
+use Rattle.protocol.specs.Machine.{machine, piecesAt, cellOf, applied}
 use Rattle.protocol.specs.Refusals.{stateFits, machineRefusal}
 use Rattle.protocol.specs.Step.{accepted}
 use Rattle.protocol.specs.declared.{State.State, Call.Call}
 use Rattle.refusals.specs.Input.{machineWith, inputRefusal}
-use Rattle.places.specs.Kept.{placeFits}
-use Rattle.tables.specs.declared.Span.{Span}
+use Rattle.buffers.specs.Moves.{placeFits}
+use Rattle.tables.specs.{declared.Span.Span, Found.effectWith}
 use Rattle.tables.proofs.Making.{Finds, is-step, is-moved, is-reply, is-span}
 use Rattle.engine.specs.declared.{Made.Made, Done.Done}
-use Rattle.engine.specs.Pieces.{MadeOf}
+use Rattle.engine.specs.Pieces.{MadeBy}
 use Rattle.engine.specs.Calls.{Performs}
 
 module _ (s : State) (p q : Bytes) (call : Call) (given : Bytes) (n : ℕ) (e : n ≡ inputRefusal (machineWith (s .opening) (s .core) (s .line) (length p) (length q)) call (length given)) where
@@ -25,7 +24,7 @@ module _ (s : State) (p q : Bytes) (call : Call) (given : Bytes) (n : ℕ) (e : 
 
   pub performs :
       (v c l : ℕ) → Finds (machine s p q) call v c l → (t : Made) (p' q' : Bytes)
-      → MadeOf n call (s .opening) (coreAt s c) (getD (s .cell) (cellOf c l) freshCell) (lineAt s l) c l given p q t p' q'
+      → MadeBy (effectWith n call (piecesAt s c l) (s .opening)) (s .opening) c l given p q t p' q'
       → Performs (machine s p q) call given
       (record {
         answer = t .answer;

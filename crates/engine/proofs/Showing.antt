@@ -15,8 +15,8 @@ use Rattle.protocol.specs.declared.State.{State}
 use Rattle.protocol.specs.declared.Call.the-variants.{Load}
 use Rattle.protocol.proofs.Refusals.{Fit, or-none, machine-fit, placed}
 use Rattle.refusals.specs.Input.{machineWith, inputRefusal}
-use Rattle.places.specs.Kept.{placeFits}
-use Rattle.places.proofs.Places.{placed-place, place-start}
+use Rattle.buffers.specs.Moves.{placeFits}
+use Rattle.buffers.proofs.Laws.{placed-place, place-start}
 use Rattle.engine.specs.Calls.{PartOf, Shows}
 
 -- the part of so many bytes is the part up to their end

@@ -24,6 +24,10 @@ pub record Performs (m : Machine) (call : Call) (given : Bytes) (r : Done) (p q 
       record { start = r .start; count = r .count }
       ≡ spanOf (r .answer) (copyStart (m .state .opening) (coreOf call (m .state)) (lineOf call (m .state))) (m .state .opening .width)
 
+-- what each call promises: the same of the lent buffers, as they come and as they are left
+abbrev pub Makes : Call → Bytes → State → RefT Bytes → RefT Bytes → Done → RefT Bytes → RefT Bytes → Type 0
+Makes call given s p q r p' q' = Performs (machine s (now p) (now q)) call given r (now p') (now q')
+
 -- open: the answer in the scope document's terms, and the fresh state
 pub record Opens (o : Opening) (r : Opened) : Type 0 where
   pub reply : meaning (r .answer) [] ≡ openReply o

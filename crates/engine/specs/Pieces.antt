@@ -1,12 +1,13 @@
 -- What one call makes of its pieces and of the buffers.
 use Prim.Native.Nat.{ℕ}
 use mathlib.Core.Path.{_≡_}
+use denote.Ref.{RefT, now}
 use Rattle.protocol.specs.Pick.{pick}
 use Rattle.protocol.specs.Buffers.{Bytes, copyStart}
 use Rattle.protocol.specs.Machine.{Pieces}
-use Rattle.protocol.specs.declared.{Core.Core, Cell.Cell, Line.Line, Opening.Opening, Call.Call, Effect.Effect}
-use Rattle.places.specs.Kept.{placeFits}
-use Rattle.places.specs.Moves.{Moves}
+use Rattle.protocol.specs.declared.{Opening.Opening, Call.Call, Effect.Effect}
+use Rattle.buffers.specs.Moves.{placeFits}
+use Rattle.buffers.specs.Moves.{Moves}
 use Rattle.tables.specs.declared.Span.{Span}
 use Rattle.tables.specs.Found.{effectWith}
 use Rattle.tables.specs.Spans.{spanOf}
@@ -22,6 +23,6 @@ pub record MadeBy (d : Effect) (o : Opening) (c l : ℕ) (given p q : Bytes) (r 
   pub span : record { start = r .start; count = r .count } ≡ spanOf (r .answer) (pick (placeFits o c l) (copyStart o c l) 0) (o .width)
   pub buffers : Moves (d .moves) o c l given p q p' q'
 
--- the same of a call's effect on core k, copy e and manager line m, where n is the first of 1 to 6 that applies, or 0
-abbrev pub MadeOf : ℕ → Call → Opening → Core → Cell → Line → ℕ → ℕ → Bytes → Bytes → Bytes → Made → Bytes → Bytes → Type 0
-MadeOf n call o k e m c l given p q r p' q' = MadeBy (effectWith n call (record { core = k; copy = e .copy; line = m }) o) o c l given p q r p' q'
+-- the same of a call's effect on the pieces x, where n is the first of 1 to 6 that applies, or 0, and of lent buffers
+abbrev pub OnPieces : ℕ → Call → Opening → Pieces → ℕ → ℕ → RefT Bytes → RefT Bytes → RefT Bytes → Made → RefT Bytes → RefT Bytes → Type 0
+OnPieces n call o x c l given p q r p' q' = MadeBy (effectWith n call x o) o c l (now given) (now p) (now q) r (now p') (now q')

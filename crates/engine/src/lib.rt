@@ -7,10 +7,10 @@
 // `step` saves another copy against the nine.
 ghost use mathlib.Core.Path.{_≡_};
 ghost use mathlib.Core.List.{[]};
-ghost use Rattle.protocol.specs.Machine.{machine};
+ghost use Rattle.protocol.specs.Machine.{pieces};
 ghost use Rattle.protocol.specs.Refusals.{isHeld};
-ghost use Rattle.engine.specs.Pieces.{MadeOf};
-ghost use Rattle.engine.specs.Calls.{Performs, Opens, Shows, PartOf};
+ghost use Rattle.engine.specs.Pieces.{OnPieces};
+ghost use Rattle.engine.specs.Calls.{Makes, Opens, Shows, PartOf};
 use protocol::Answer;
 use protocol::Call;
 use protocol::Cell;
@@ -42,33 +42,32 @@ pub struct Done {
     pub state: State,
 }
 
-// What a call makes of the pieces of a core and a line, with its line of bytes moved. `number` is the
-// first of 1 to 6 that applies, or 0; `given` are the bytes given to a store.
+// What a call makes of the pieces of a core and a line, with its line of bytes moved. `n` is the first
+// of 1 to 6 that applies, or 0; `given` are the bytes given to a store.
 fn on_pieces(
-    number: u8,
+    n: u8,
     call: Call,
     opening: Opening,
     k: Core,
-    e: Cell,
+    copy: Copy,
     m: Line,
     private: &mut [u8],
     shared: &mut [u8],
-    core: usize,
-    line: usize,
+    c: usize,
+    l: usize,
     given: &[u8],
 ) -> Made
-    ensures { λ r. ⌜ MadeOf number call opening k e m core line (now (given .entry)) (now («private» .entry)) (now (shared .entry)) r (now («private» .exit)) (now (shared .exit)) ⌝ }
+    ensures { λ r. ⌜ OnPieces n call opening (pieces k copy m) c l (given .entry) («private» .entry) (shared .entry) r («private» .exit) (shared .exit) ⌝ }
 {
-    let copy = e.copy;
-    let d = tables::effect(number, call, k, copy, m, opening);
+    let d = tables::effect(n, call, k, copy, m, opening);
     let answer = d.answer;
     let moves = d.moves;
     let next_core = d.core;
     let next_copy = d.copy;
     let next_line = d.line;
-    let start = places::copy_start(opening, core, line);
+    let start = buffers::copy_start(opening, c, l);
     let b = tables::span_of(answer, start, opening.width);
-    places::move_bytes(moves, opening, private, shared, core, line, given);
+    buffers::move_bytes(moves, opening, private, shared, c, l, given);
     Made {
         answer,
         start: b.start,
@@ -82,7 +81,7 @@ fn on_pieces(
 // Makes a call; `given` are the bytes given to a store, which any other call passes over. A refused call
 // takes the same way: its pieces are written back as they are.
 pub fn step(s: State, private: &mut [u8], shared: &mut [u8], call: Call, given: &[u8]) -> Done
-    ensures { λ r. ⌜ Performs (machine s (now («private» .entry)) (now (shared .entry))) call (now (given .entry)) r (now («private» .exit)) (now (shared .exit)) ⌝ }
+    ensures { λ r. ⌜ Makes call (now (given .entry)) s («private» .entry) (shared .entry) r («private» .exit) (shared .exit) ⌝ }
 {
     let opening = s.opening;
     let cores = s.core;
@@ -108,7 +107,8 @@ pub fn step(s: State, private: &mut [u8], shared: &mut [u8], call: Call, given: 
     let i = c * Opening::MOST_LINES + l;
     let e = next.cell[i];
     let m = next.line[l];
-    let made = on_pieces(n, call, opening, k, e, m, private, shared, c, l, given);
+    let copy = e.copy;
+    let made = on_pieces(n, call, opening, k, copy, m, private, shared, c, l, given);
     let answer = made.answer;
     let core = made.core;
     let cell = made.cell;
@@ -126,7 +126,7 @@ pub fn step(s: State, private: &mut [u8], shared: &mut [u8], call: Call, given: 
 
 // A core loads a line.
 pub fn load(s: State, private: &mut [u8], shared: &mut [u8], core: usize, line: usize) -> Done
-    ensures { λ r. ⌜ Performs (machine s (now («private» .entry)) (now (shared .entry))) (Call.Load core line) [] r (now («private» .exit)) (now (shared .exit)) ⌝ }
+    ensures { λ r. ⌜ Makes (Call.Load core line) [] s («private» .entry) (shared .entry) r («private» .exit) (shared .exit) ⌝ }
 {
     step(s, private, shared, Call::Load { core, line }, b"")
 }
@@ -140,56 +140,56 @@ pub fn store(
     line: usize,
     given: &[u8],
 ) -> Done
-    ensures { λ r. ⌜ Performs (machine s (now («private» .entry)) (now (shared .entry))) (Call.Store core line) (now (given .entry)) r (now («private» .exit)) (now (shared .exit)) ⌝ }
+    ensures { λ r. ⌜ Makes (Call.Store core line) (now (given .entry)) s («private» .entry) (shared .entry) r («private» .exit) (shared .exit) ⌝ }
 {
     step(s, private, shared, Call::Store { core, line }, given)
 }
 
 // A core's later loads come after its earlier stores.
 pub fn fence(s: State, private: &mut [u8], shared: &mut [u8], core: usize) -> Done
-    ensures { λ r. ⌜ Performs (machine s (now («private» .entry)) (now (shared .entry))) (Call.Fence core) [] r (now («private» .exit)) (now (shared .exit)) ⌝ }
+    ensures { λ r. ⌜ Makes (Call.Fence core) [] s («private» .entry) (shared .entry) r («private» .exit) (shared .exit) ⌝ }
 {
     step(s, private, shared, Call::Fence { core }, b"")
 }
 
 // A core gives its copy of a line up.
 pub fn evict(s: State, private: &mut [u8], shared: &mut [u8], core: usize, line: usize) -> Done
-    ensures { λ r. ⌜ Performs (machine s (now («private» .entry)) (now (shared .entry))) (Call.Evict core line) [] r (now («private» .exit)) (now (shared .exit)) ⌝ }
+    ensures { λ r. ⌜ Makes (Call.Evict core line) [] s («private» .entry) (shared .entry) r («private» .exit) (shared .exit) ⌝ }
 {
     step(s, private, shared, Call::Evict { core, line }, b"")
 }
 
 // A core's clock of loads grows.
 pub fn advance(s: State, private: &mut [u8], shared: &mut [u8], core: usize, by: u32) -> Done
-    ensures { λ r. ⌜ Performs (machine s (now («private» .entry)) (now (shared .entry))) (Call.Advance core by) [] r (now («private» .exit)) (now (shared .exit)) ⌝ }
+    ensures { λ r. ⌜ Makes (Call.Advance core by) [] s («private» .entry) (shared .entry) r («private» .exit) (shared .exit) ⌝ }
 {
     step(s, private, shared, Call::Advance { core, by }, b"")
 }
 
 // The manager serves the request of a core.
 pub fn serve(s: State, private: &mut [u8], shared: &mut [u8], core: usize) -> Done
-    ensures { λ r. ⌜ Performs (machine s (now («private» .entry)) (now (shared .entry))) (Call.Serve core) [] r (now («private» .exit)) (now (shared .exit)) ⌝ }
+    ensures { λ r. ⌜ Makes (Call.Serve core) [] s («private» .entry) (shared .entry) r («private» .exit) (shared .exit) ⌝ }
 {
     step(s, private, shared, Call::Serve { core }, b"")
 }
 
 // A core receives the answer to its request.
 pub fn receive(s: State, private: &mut [u8], shared: &mut [u8], core: usize) -> Done
-    ensures { λ r. ⌜ Performs (machine s (now («private» .entry)) (now (shared .entry))) (Call.Receive core) [] r (now («private» .exit)) (now (shared .exit)) ⌝ }
+    ensures { λ r. ⌜ Makes (Call.Receive core) [] s («private» .entry) (shared .entry) r («private» .exit) (shared .exit) ⌝ }
 {
     step(s, private, shared, Call::Receive { core }, b"")
 }
 
 // The owner of a recalled line yields it; `yield` alone is a reserved word.
 pub fn yield_line(s: State, private: &mut [u8], shared: &mut [u8], line: usize) -> Done
-    ensures { λ r. ⌜ Performs (machine s (now («private» .entry)) (now (shared .entry))) (Call.Yield line) [] r (now («private» .exit)) (now (shared .exit)) ⌝ }
+    ensures { λ r. ⌜ Makes (Call.Yield line) [] s («private» .entry) (shared .entry) r («private» .exit) (shared .exit) ⌝ }
 {
     step(s, private, shared, Call::Yield { line }, b"")
 }
 
 // The manager takes a line's writeback.
 pub fn take(s: State, private: &mut [u8], shared: &mut [u8], line: usize) -> Done
-    ensures { λ r. ⌜ Performs (machine s (now («private» .entry)) (now (shared .entry))) (Call.Take line) [] r (now («private» .exit)) (now (shared .exit)) ⌝ }
+    ensures { λ r. ⌜ Makes (Call.Take line) [] s («private» .entry) (shared .entry) r («private» .exit) (shared .exit) ⌝ }
 {
     step(s, private, shared, Call::Take { line }, b"")
 }
@@ -263,10 +263,10 @@ pub fn show<'a>(s: State, private: &'a [u8], shared: &'a [u8], core: usize, line
     let e = s.cell[i];
     let copy = e.copy;
     if is_held(copy) {
-        let start = places::copy_start(opening, core, line);
+        let start = buffers::copy_start(opening, core, line);
         return part(private, start, width);
     }
-    let start = places::manager_start(opening, core, line);
+    let start = buffers::manager_start(opening, core, line);
     part(shared, start, width)
 }
 

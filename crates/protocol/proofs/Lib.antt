@@ -6,4 +6,8 @@ pub mod Bytes
 pub mod Places
 pub mod Moves
 pub mod Refusals
+pub mod Cases
+pub mod Written
+pub mod Reached
 pub mod Order
+pub mod Keep

@@ -3,11 +3,21 @@ use Prim.Native.Nat.{ℕ, _+_, _*_, _≤_, _<_}
 use mathlib.Core.Path.{_≡_, refl}
 use native.Mathlib.Omega.{arith}
 use lib.ListN.{length}
-use Rattle.protocol.specs.Buffers.{Bytes, part, splice, privateLength, sharedLength, copyBytes, managerBytes, writebackBytes, answerBytes, movedPrivate, movedShared}
-use Rattle.protocol.specs.declared.Opening.{Opening}
-use Rattle.protocol.specs.declared.Move.{Move}
-use Rattle.protocol.specs.declared.Move.the-variants.{Still, Store as MoveStore, Answer as MoveAnswer, Receive as MoveReceive, Writeback as MoveWriteback, Take as MoveTake}
+use Rattle.protocol.specs.Buffers.{Bytes, part, splice, privateLength, sharedLength, copyBytes, managerBytes, writebackBytes, answerBytes}
+use Rattle.protocol.specs.Buffers.{movedPrivate, movedShared}
+use Rattle.protocol.specs.declared.{Opening.Opening, Move.Move}
+use Rattle.protocol.specs.declared.Move.the-variants.{Still, Store as MoveStore, Answer as MoveAnswer, Receive as MoveReceive}
+use Rattle.protocol.specs.declared.Move.the-variants.{Writeback as MoveWriteback, Take as MoveTake}
 use Rattle.protocol.proofs.Bytes.{row-le, row-other, length-part, length-splice, part-same, grid-row, grid-column}
+
+-- the bytes that move are a line: those given to a store, n of them, are as many as the width; the others lie in the buffers
+abbrev pub Sized : Opening → ℕ → Move → Type 0
+Sized o n Still = Unit {0}
+Sized o n MoveStore = n ≡ o .width
+Sized o n MoveAnswer = Unit {0}
+Sized o n MoveReceive = Unit {0}
+Sized o n MoveWriteback = Unit {0}
+Sized o n MoveTake = Unit {0}
 
 -- the bytes at the four spots that a move for core c and line l may touch; p and q are the private and the shared buffer
 module _ (o : Opening) (p q : Bytes) (c l : ℕ) (given : Bytes) where
@@ -61,15 +71,6 @@ module _ (o : Opening) (p q : Bytes) (c l : ℕ) (given : Bytes) where
   AnswerStays MoveWriteback = Unit {0}
   AnswerStays MoveTake = Unit {0}
 
-  -- the bytes given to a store are a whole line
-  abbrev pub GivenFits : Move → Type 0
-  GivenFits Still = Unit {0}
-  GivenFits MoveStore = length given ≡ o .width
-  GivenFits MoveAnswer = Unit {0}
-  GivenFits MoveReceive = Unit {0}
-  GivenFits MoveWriteback = Unit {0}
-  GivenFits MoveTake = Unit {0}
-
   module _ (hp : length p ≡ privateLength o) (hq : length q ≡ sharedLength o) (hc : c < o .cores) (hl : l < o .lines) where
     -- a row of the shared buffer, and a copy's row of the private one, lie inside
     pub shared-in : (j : ℕ) → j < 2 * o .lines + o .cores → j * o .width + o .width ≤ length q
@@ -105,7 +106,7 @@ module _ (o : Opening) (p q : Bytes) (c l : ℕ) (given : Bytes) where
     shared-same i b h e = part-same q (i * o .width) b (omega (arith, shared-in i h)) (o .width) e
 
     -- another core's or line's copy, or this one
-    pub private-other : (v : Move) → GivenFits v → (c′ l′ : ℕ) → l′ < o .lines → (c′ ≡ c → l′ ≡ l → ⊥)
+    pub private-other : (v : Move) → Sized o (length given) v → (c′ l′ : ℕ) → l′ < o .lines → (c′ ≡ c → l′ ≡ l → ⊥)
         → copyBytes o (movedPrivate v o c l given p q) c′ l′ ≡ copyBytes o p c′ l′
     unfolding movedPrivate
     private-other Still g c′ l′ h n = refl
@@ -142,7 +143,7 @@ module _ (o : Opening) (p q : Bytes) (c l : ℕ) (given : Bytes) where
     writeback-after MoveWriteback = shared-same (o .lines + l) (copyBytes o p c l) (omega arith) length-copy
     writeback-after MoveTake = shared-other MoveTake (o .lines + l) (λ e. omega arith)
 
-    pub copy-after : (v : Move) → GivenFits v → copyBytes o (movedPrivate v o c l given p q) c l ≡ copyAfter v
+    pub copy-after : (v : Move) → Sized o (length given) v → copyBytes o (movedPrivate v o c l given p q) c l ≡ copyAfter v
     unfolding movedPrivate
     copy-after Still g = refl
     copy-after MoveStore g = private-same given g
@@ -207,7 +208,7 @@ module _ (o : Opening) (p q : Bytes) (c l : ℕ) (given : Bytes) where
     length-movedShared MoveTake =
         length-splice q (l * o .width) (writebackBytes o q l) (omega (arith, length-row (o .lines + l) (omega arith), shared-in l (omega arith)))
 
-    pub length-movedPrivate : (v : Move) → GivenFits v → length (movedPrivate v o c l given p q) ≡ length p
+    pub length-movedPrivate : (v : Move) → Sized o (length given) v → length (movedPrivate v o c l given p q) ≡ length p
     unfolding movedPrivate
     length-movedPrivate Still g = refl
     length-movedPrivate MoveStore g = length-splice p ((c * o .lines + l) * o .width) given (omega (arith, private-in))

@@ -4,8 +4,8 @@ use mathlib.Core.Path.{_≡_, refl, sym, _∙_}
 use mathlib.Core.Bool.{Bool, true, false}
 use mathlib.Core.List.{List, [], _∷_}
 use native.Mathlib.Omega.{arith}
-use lib.Dec.{leb, eqb}
-use borrow.Author.Tests.{ltb-true, leb-false, eqb-true}
+use lib.Dec.{eqb}
+use borrow.Author.Tests.{ltb-true, leb-false, eqb-true, eq-eqb}
 use lib.ListN.{length}
 use Rattle.protocol.specs.Pick.{pick, fails, Rule, first, _gives_}
 use Rattle.protocol.specs.Limits.{openingFits}
@@ -13,21 +13,17 @@ use Rattle.protocol.specs.Fresh.{freshCore, freshLine}
 use Rattle.protocol.specs.Buffers.{privateLength, sharedLength, Placed}
 use Rattle.protocol.specs.About.{about, namedLine}
 use Rattle.protocol.specs.Machine.{Machine, Pieces, coreAt, lineAt, theCore, theLine, coreOf, lineOf, piecesAt}
-use Rattle.protocol.specs.Refusals.{openRefusal, ownerFits, slotFits, ownersFit, slotsFit, stateFits, buffersFit, machineRefusal, noCore, noLine, wrongCount, byNothing, callRules, callRefusal, stateRefusal, orElse, refusal}
+use Rattle.protocol.specs.Refusals.{openRefusal, ownerFits, slotFits, ownersFit, slotsFit, stateFits, buffersFit, machineRefusal, noCore}
+use Rattle.protocol.specs.Refusals.{noLine, wrongCount, byNothing, callRules, callRefusal, stateRefusal, orElse, refusal}
 use Rattle.protocol.specs.Tables.{refusedRow}
-use Rattle.protocol.specs.declared.Slot.{Slot}
+use Rattle.protocol.specs.declared.{Slot.Slot, Core.Core, Manager.Manager, Line.Line, Opening.Opening, Call.Call, Who.Who, Which.Which}
+use Rattle.protocol.specs.declared.{About.About, Effect.Effect}
 use Rattle.protocol.specs.declared.Slot.the-variants.{Empty, Asked, Answered}
-use Rattle.protocol.specs.declared.Core.{Core}
-use Rattle.protocol.specs.declared.Manager.{Manager}
 use Rattle.protocol.specs.declared.Manager.the-variants.{Shared, Owned}
-use Rattle.protocol.specs.declared.Line.{Line}
-use Rattle.protocol.specs.declared.Opening.{Opening}
-use Rattle.protocol.specs.declared.{Call.Call, Who.Who, Which.Which, About.About}
 use Rattle.protocol.specs.declared.Who.the-variants.{Core as NamedCore, Owner, Nobody}
 use Rattle.protocol.specs.declared.Which.the-variants.{Line as NamedLine, InSlot, Nothing}
 use Rattle.protocol.specs.declared.Act.the-variants.{Store as Stores}
-use Rattle.protocol.specs.declared.Effect.{Effect}
-use Rattle.protocol.proofs.Tests.{both-true}
+use Rattle.protocol.proofs.Tests.{never, both-true}
 use Rattle.protocol.proofs.Scan.{every-at}
 use Rattle.protocol.proofs.Places.{Inside, inside, placed-at}
 
@@ -35,7 +31,7 @@ use Rattle.protocol.proofs.Places.{Inside, inside, placed-at}
 
 pub not-true : (a : Bool) → fails a ≡ false → a ≡ true
 not-true true e = refl
-not-true false e = let z : _≡_ {A = ℕ} 0 1 = cc in absurd (omega arith)
+not-true false e = never e
 
 -- a number that is not given, and what comes after it
 pub spared : (a : Bool) (n x : ℕ) → 0 < n → pick a n x ≡ 0 → (a ≡ false) × (x ≡ 0)
@@ -59,10 +55,7 @@ or-none a b e = go (eqb a 0) refl e
   where
     go : (t : Bool) → eqb a 0 ≡ t → pick t b a ≡ 0 → (a ≡ 0) × (b ≡ 0)
     go true q i = (eqb-true a 0 q, i)
-    go false q i = absurd (let z : _≡_ {A = Bool} true false = sym (zero-test a i) ∙ q in let n : _≡_ {A = ℕ} 0 1 = cc in omega arith)
-      where
-        zero-test : (a : ℕ) → a ≡ 0 → eqb a 0 ≡ true
-        zero-test a i = rw i refl
+    go false q i = never (sym (eq-eqb a 0 i) ∙ q)
 
 -- ---- 1 and 2
 

@@ -8,10 +8,18 @@ use lib.Dec.{leb}
 use borrow.Author.Tests.{not-true, not-false, le-leb, lt-leb}
 use Rattle.protocol.specs.Pick.{pick, both, fails}
 
--- both of two tests hold
+-- a test that is both true and false
+pub never : {X : Type 0} → true ≡ false → X
+never e = let z : _≡_ {A = ℕ} 0 1 = cc in absurd (omega arith)
+
+-- both of two tests hold, or not both
 pub both-true : (a b : Bool) → both a b ≡ true → (a ≡ true) × (b ≡ true)
 both-true true b e = (refl, e)
-both-true false b e = let z : _≡_ {A = ℕ} 0 1 = cc in absurd (omega arith)
+both-true false b e = never (sym e)
+
+pub both-false : (a b : Bool) → both a b ≡ false → a ≡ true → b ≡ false
+both-false true b e i = e
+both-false false b e i = never (sym i)
 
 -- what holds of both values holds of the one that is picked
 pub picked : {A : Type 0} (P : A → Type 0) (b : Bool) {x y : A} → P x → P y → P (pick b x y)

@@ -53,8 +53,11 @@ pub record Pieces : Type 0 where
   pub copy : Copy
   pub line : Line
 
+abbrev pub pieces : Core → Copy → Line → Pieces
+pieces k x m = record { core = k; copy = x; line = m }
+
 abbrev pub piecesAt : State → ℕ → ℕ → Pieces
-piecesAt s c l = record { core = coreAt s c; copy = copyAt s c l; line = lineAt s l }
+piecesAt s c l = pieces (coreAt s c) (copyAt s c l) (lineAt s l)
 
 -- the line that a slot speaks of
 abbrev pub slotLine : Slot → ℕ

@@ -2,17 +2,20 @@
 --
 -- Sort the commits of a run by timestamp, ties by place in the list. This one order obeys total store order (TSO):
 --
---   order  Of two commits of one core, the one made earlier stands first, unless it is a store and the other a load.
+--   order  Of two commits of one core, the one made earlier is first, unless it is a store and the other a load.
 --   reads  A load gives the bytes of the last store to its line, among the stores that precede the load in the sorted order and those that
 --          its own core made earlier; zeros where there is none. Of several stores the last is the one that all the others precede.
 --
 -- `OrderTheorem` claims it for every opening that is accepted and every list of calls, with any numbers and any bytes, refused calls
--- included. `SortTheorem` claims that the order is one: each two commits of a run stand in it, one before the other.
+-- included. `SortTheorem` claims that the order is one: of each two commits of a run one precedes the other.
+--
+-- `Obeys` is the one statement of a memory model, over which pairs of a core's commits keep their order, which writes a read may see, and what
+-- a cell of memory is. TSO by line is its instance here; another pair, another cell or another value is another instance.
 use Prim.Native.Nat.{ℕ, _<_}
 use mathlib.Core.Path.{_≡_}
 use mathlib.Core.Bool.{true}
 use mathlib.Core.Logic.{_⊎_}
-use mathlib.Core.List.{List, [], _∷_}
+use mathlib.Core.List.{List, _∷_}
 use lib.ListN.{replicate}
 use Rattle.protocol.specs.Stamps.{Precedes, precedes}
 use Rattle.protocol.specs.Buffers.{Bytes}
@@ -20,10 +23,9 @@ use Rattle.protocol.specs.Machine.{freshMachine}
 use Rattle.protocol.specs.Refusals.{openRefusal}
 use Rattle.protocol.specs.Step.{Op, load, store, fence, opened}
 use Rattle.protocol.specs.Run.{Given, run, Commit, commits}
-use Rattle.protocol.specs.declared.Key.{Key}
-use Rattle.protocol.specs.declared.Opening.{Opening}
+use Rattle.protocol.specs.declared.{Key.Key, Opening.Opening}
 
--- a stands in the list
+-- a is in the list
 pub data In {A : Type 0} (a : A) : List A → Type 0 where
   here : {x : A} {xs : List A} → a ≡ x → In a (x ∷ xs)
   there : {x : A} {xs : List A} → In a xs → In a (x ∷ xs)
@@ -32,7 +34,7 @@ pub data In {A : Type 0} (a : A) : List A → Type 0 where
 abbrev pub key : {A : Type 0} → Commit A → Key
 key e = record { 0 = e .ts; 1 = e .place }
 
--- a stands before b in the sorted order
+-- a is before b in the sorted order
 abbrev pub Before : {A : Type 0} → Commit A → Commit A → Type 0
 Before a b = Precedes (key a) (key b)
 
@@ -67,13 +69,19 @@ LastWrite {A} {X} H Writes K zero x =
     ((s : Commit A) × In s H × Writes s x × K s × ((s′ : Commit A) → In s′ H → (y : X) → Writes s′ y → K s′ → (s′ ≡ s) ⊎ Before s′ s))
     ⊎ (((s : Commit A) → In s H → (y : X) → Writes s y → K s → ⊥) × (x ≡ zero))
 
--- the sorted order of these commits obeys a memory model: `Keeps a b`, a core's b made after its a stands after it
-pub record Obeys {A : Type 0} (Keeps : Op A → Op A → Type 0) (zero : A) (H : List (Commit A)) : Type 0 where
+-- the sorted order of these commits obeys a memory model.
+--   Keeps a b      of two commits of one core that did a and then b, the second is after the first
+--   Sees e s       a read by e may see a write by s
+--   Reads i e x    the commit e reads x at the cell i of memory; `Writes i e x`, it writes x there
+--   zero           what a cell holds before the first write
+pub record Obeys {A C X : Type 0} (Keeps : Op A → Op A → Type 0) (Sees : Commit A → Commit A → Type 0) (Reads Writes : C → Commit A → X → Type 0)
+    (zero : X) (H : List (Commit A)) : Type 0 where
   pub order : (a b : Commit A) → In a H → In b H → a .core ≡ b .core → Earlier a b → Keeps (a .op) (b .op) → Before a b
-  pub reads : (e : Commit A) → In e H → (l : ℕ) (x : A) → Loads l e x → LastWrite H (Stores l) (MaySee e) zero x
+  pub reads : (e : Commit A) → In e H → (i : C) (x : X) → Reads i e x → LastWrite H (Writes i) (Sees e) zero x
 
+-- TSO: a cell is a line
 abbrev pub TSO : {A : Type 0} → A → List (Commit A) → Type 0
-TSO = Obeys TsoKeeps
+TSO = Obeys TsoKeeps MaySee Loads Stores
 
 -- the commits of a list of calls on the fresh engine of an opening; the first call's place is 1
 abbrev pub commitsOf : Opening → List Given → List (Commit Bytes)

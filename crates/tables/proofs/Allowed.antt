@@ -8,8 +8,8 @@ use Rattle.protocol.specs.Refusals.{machineRefusal}
 use Rattle.protocol.specs.declared.Call.{Call}
 use Rattle.protocol.proofs.Refusals.{or-none, machine-fit, placed}
 use Rattle.refusals.specs.Input.{inputRefusal}
-use Rattle.places.specs.Kept.{placeFits}
-use Rattle.places.proofs.Places.{placed-place}
+use Rattle.buffers.specs.Moves.{placeFits}
+use Rattle.buffers.proofs.Laws.{placed-place}
 
 module _ (m : Machine) (call : Call) (n : ℕ) (e : inputRefusal m call n ≡ 0) where
   pub allowed : Placed (m .state .opening) (coreOf call (m .state)) (lineOf call (m .state))

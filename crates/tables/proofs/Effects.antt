@@ -3,7 +3,7 @@
 use Prim.Native.Nat.{ℕ, _+_, _*_, _≤_}
 use mathlib.Core.Path.{_≡_, refl, sym}
 use mathlib.Core.Bool.{Bool, true, false}
-use lib.Dec.{leb, eqb}
+use lib.Dec.{eqb}
 use lib.ListN.{length}
 use lib.Seq.{set-getD}
 use borrow.Author.Tests.{lt-ltb, eq-eqb, ne-eqb}
@@ -11,33 +11,22 @@ use Rattle.protocol.specs.Pick.{pick}
 use Rattle.protocol.specs.Fresh.{freshCore, freshCell, freshLine}
 use Rattle.protocol.specs.Buffers.{Bytes, part, copyStart, copyBytes, Placed, movedPrivate, movedShared}
 use Rattle.protocol.specs.Machine.{Machine, machine, coreAt, copyAt, lineAt, Pieces, piecesAt, coreOf, lineOf, applied}
-use Rattle.protocol.specs.Refusals.{buffersFit, machineRefusal, callRefusal, stateRefusal, refusal, orElse}
-use Rattle.protocol.specs.Tables.{row, loadOwned, loadTable, storeTable, fenceTable, advanceTable, evictTable, serveLoad, serveAsked, serveTable, receiveRenew, receiveGrant, receiveTable, yieldTable, takeTable, tableOf, effectOf, sameVersion, leasedTo}
+use Rattle.protocol.specs.Refusals.{wrongCount, buffersFit, machineRefusal, callRefusal, stateRefusal, refusal, orElse}
+use Rattle.protocol.specs.Tables.{row, loadOwned, storeTable, fenceTable, advanceTable, evictTable, serveLoad, serveAsked, receiveRenew, receiveGrant}
+use Rattle.protocol.specs.Tables.{yieldTable, takeTable, effectOf}
 use Rattle.protocol.specs.Step.{refused, meaning, Outcome, commitBytes, accepted, step}
-use Rattle.protocol.specs.declared.Stamp.{Stamp}
-use Rattle.protocol.specs.declared.Copy.{Copy}
-use Rattle.protocol.specs.declared.Copy.the-variants.{None as NoCopy, Shared as CopyShared, Owned as CopyOwned}
-use Rattle.protocol.specs.declared.Want.{Want}
-use Rattle.protocol.specs.declared.Want.the-variants.{Load as WantLoad, Store as WantStore}
-use Rattle.protocol.specs.declared.Held.{Held}
-use Rattle.protocol.specs.declared.Grant.{Grant}
-use Rattle.protocol.specs.declared.Grant.the-variants.{Share as GrantShare, Renew as GrantRenew, Own as GrantOwn}
-use Rattle.protocol.specs.declared.Slot.{Slot}
-use Rattle.protocol.specs.declared.Slot.the-variants.{Empty, Asked, Answered}
-use Rattle.protocol.specs.declared.Manager.{Manager}
-use Rattle.protocol.specs.declared.Manager.the-variants.{Shared, Owned}
-use Rattle.protocol.specs.declared.Writeback.{Writeback}
-use Rattle.protocol.specs.declared.Writeback.the-variants.{None as NoWriteback, Flight}
-use Rattle.protocol.specs.declared.Opening.{Opening}
-use Rattle.protocol.specs.declared.Call.{Call}
-use Rattle.protocol.specs.declared.Call.the-variants.{Load, Store, Fence, Evict, Advance, Serve, Receive, Yield, Take}
+use Rattle.protocol.specs.declared.{Opening.Opening, Call.Call, Effect.Effect}
 use Rattle.protocol.specs.declared.Answer.the-variants.{Refused}
 use Rattle.protocol.specs.declared.Move.the-variants.{Still}
-use Rattle.protocol.specs.declared.Effect.{Effect}
 use Rattle.protocol.proofs.Bytes.{part-same}
-use Rattle.protocol.proofs.Refusals.{or-none, Fit, named, store-width}
+use Rattle.protocol.specs.About.{about}
+use Rattle.protocol.proofs.Places.{copy-ends}
+use Rattle.protocol.proofs.Refusals.{or-none, Fit, named, store-width, placed}
+use Rattle.protocol.proofs.Cases.{Row, asks-load, reads-shared, reads-dirty, reads-clean, asks-store, writes, fences, advances, evicts-shared}
+use Rattle.protocol.proofs.Cases.{evicts-owned, recalls, renews, shares, grants, gets-share, gets-own, gets-renewal, drops-none, drops-owned, yields}
+use Rattle.protocol.proofs.Cases.{takes, piecesOf, effect-case}
 use Rattle.refusals.specs.Input.{inputRefusal}
-use Rattle.places.specs.Moves.{givenFits, moveFits}
+use Rattle.buffers.specs.Moves.{givenFits, moveFits}
 use Rattle.tables.specs.Spans.{spanOf}
 
 -- ---- step
@@ -85,92 +74,42 @@ pub record Sound (o : Opening) (c l : ℕ) (given p q : Bytes) (call : Call) (d 
       (spanOf (d .answer) (copyStart o c l) (o .width) .count))
       ≡ meaning (d .answer) (commitBytes call given (copyBytes o p c l))
 
-module _ (o : Opening) (c l : ℕ) (given p q : Bytes) where
-  either : {call : Call} (t : Bool) (x y : Effect) → Sound o c l given p q call x → Sound o c l given p q call y → Sound o c l given p q call (pick t x y)
-  either true x y f g = f
-  either false x y f g = g
+module _ {o : Opening} {c l : ℕ} {given p q : Bytes} {k : Pieces} where
+  row-sound : {call : Call} {d : Effect} → wrongCount (about call .act) o (length given) ≡ false → copyStart o c l + o .width ≤ length p → Row c l k o call d
+      → Sound o c l given p q call d
+  unfolding meaning movedPrivate loadOwned storeTable fenceTable advanceTable evictTable serveAsked serveLoad receiveGrant receiveRenew yieldTable takeTable
+  row-sound n h (asks-load e i) = record { fits = refl; bytes = refl }
+  row-sound n h (reads-shared e i) = record { fits = refl; bytes = refl }
+  row-sound n h (reads-dirty e) = record { fits = refl; bytes = refl }
+  row-sound n h (reads-clean e) = record { fits = refl; bytes = refl }
+  row-sound n h (asks-store e i) = record { fits = refl; bytes = refl }
+  row-sound n h (writes e i) =
+      let b = store-width o (length given) n in
+      record { fits = eq-eqb _ _ b; bytes = rw (part-same p (copyStart o c l) given (rw b h) (o .width) b) }
+  row-sound n h fences = record { fits = refl; bytes = refl }
+  row-sound n h (advances e) = record { fits = refl; bytes = refl }
+  row-sound n h (evicts-shared e) = record { fits = refl; bytes = refl }
+  row-sound n h (evicts-owned e) = record { fits = refl; bytes = refl }
+  row-sound n h (recalls e i) = record { fits = refl; bytes = refl }
+  row-sound n h (renews e i v t) = record { fits = refl; bytes = refl }
+  row-sound n h (shares e i v t) = record { fits = refl; bytes = refl }
+  row-sound n h (grants e i) = record { fits = refl; bytes = refl }
+  row-sound n h (gets-share e) = record { fits = refl; bytes = refl }
+  row-sound n h (gets-own e) = record { fits = refl; bytes = refl }
+  row-sound n h (gets-renewal e i) = record { fits = refl; bytes = refl }
+  row-sound n h (drops-none e i) = record { fits = refl; bytes = refl }
+  row-sound n h (drops-owned e i) = record { fits = refl; bytes = refl }
+  row-sound n h (yields e i t) = record { fits = refl; bytes = refl }
+  row-sound n h (takes e) = record { fits = refl; bytes = refl }
 
-  load-sound : (x : Copy) (a b : ℕ) (k : Pieces) → Sound o c l given p q (Load a b) (loadTable x a b k)
-  unfolding loadTable loadOwned meaning movedPrivate
-  load-sound NoCopy a b k = record { fits = refl; bytes = refl }
-  load-sound (CopyShared w r) a b k = either (leb (k .core .clocks .lts .0) (r .0)) _ _ (record { fits = refl; bytes = refl }) (record { fits = refl; bytes = refl })
-  load-sound (CopyOwned true w r) a b k = record { fits = refl; bytes = refl }
-  load-sound (CopyOwned false w r) a b k = record { fits = refl; bytes = refl }
-
-  store-sound : (x : Copy) (a b : ℕ) (k : Pieces) → length given ≡ o .width → copyStart o c l + o .width ≤ length p → Sound o c l given p q (Store a b) (storeTable x a b k)
-  unfolding storeTable meaning movedPrivate
-  store-sound NoCopy a b k e h = record { fits = refl; bytes = refl }
-  store-sound (CopyShared w r) a b k e h = record { fits = refl; bytes = refl }
-  store-sound (CopyOwned d w r) a b k e h = record { fits = eq-eqb _ _ e; bytes = rw (part-same p (copyStart o c l) given (rw e h) (o .width) e) }
-
-  evict-sound : (x : Copy) (a b : ℕ) (k : Pieces) → Sound o c l given p q (Evict a b) (evictTable x k)
-  unfolding evictTable meaning
-  evict-sound NoCopy a b k = record { fits = refl; bytes = refl }
-  evict-sound (CopyShared w r) a b k = record { fits = refl; bytes = refl }
-  evict-sound (CopyOwned d w r) a b k = record { fits = refl; bytes = refl }
-
-  grant-sound : (t : Bool) (a b : ℕ) (w r : Stamp) (k : Pieces) → Sound o c l given p q (Serve a) (serveLoad t b w r k)
-  unfolding serveLoad meaning
-  grant-sound true a b w r k = record { fits = refl; bytes = refl }
-  grant-sound false a b w r k = record { fits = refl; bytes = refl }
-
-  asked-sound : (v : Manager) (x : Want) (a b : ℕ) (t : Stamp) (h : Held) (k : Pieces) → Sound o c l given p q (Serve a) (serveAsked v x a b t h k o)
-  unfolding serveAsked meaning
-  asked-sound (Owned z) x a b t h k = record { fits = refl; bytes = refl }
-  asked-sound (Shared w r) WantLoad a b t h k = grant-sound (sameVersion h w) a b w (leasedTo r t (o .lease)) k
-  asked-sound (Shared w r) WantStore a b t h k = record { fits = refl; bytes = refl }
-
-  serve-sound : (x : Slot) (a : ℕ) (k : Pieces) → Sound o c l given p q (Serve a) (serveTable x a k o)
-  unfolding serveTable meaning
-  serve-sound Empty a k = record { fits = refl; bytes = refl }
-  serve-sound (Asked x b t h) a k = asked-sound (k .line .manager) x a b t h k
-  serve-sound (Answered g b w r) a k = record { fits = refl; bytes = refl }
-
-  renew-sound : (x : Copy) (a : ℕ) (r : Stamp) (k : Pieces) → Sound o c l given p q (Receive a) (receiveRenew x r k)
-  unfolding receiveRenew meaning
-  renew-sound NoCopy a r k = record { fits = refl; bytes = refl }
-  renew-sound (CopyShared w s) a r k = record { fits = refl; bytes = refl }
-  renew-sound (CopyOwned d w s) a r k = record { fits = refl; bytes = refl }
-
-  granted-sound : (g : Grant) (a : ℕ) (w r : Stamp) (k : Pieces) → Sound o c l given p q (Receive a) (receiveGrant g w r k)
-  unfolding receiveGrant meaning
-  granted-sound GrantShare a w r k = record { fits = refl; bytes = refl }
-  granted-sound GrantOwn a w r k = record { fits = refl; bytes = refl }
-  granted-sound GrantRenew a w r k = renew-sound (k .copy) a r k
-
-  receive-sound : (x : Slot) (a : ℕ) (k : Pieces) → Sound o c l given p q (Receive a) (receiveTable x k)
-  unfolding receiveTable meaning
-  receive-sound Empty a k = record { fits = refl; bytes = refl }
-  receive-sound (Asked x b t h) a k = record { fits = refl; bytes = refl }
-  receive-sound (Answered g b w r) a k = granted-sound g a w r k
-
-  yield-sound : (x : Copy) (b : ℕ) (k : Pieces) → Sound o c l given p q (Yield b) (yieldTable x k)
-  unfolding yieldTable meaning
-  yield-sound NoCopy b k = record { fits = refl; bytes = refl }
-  yield-sound (CopyShared w r) b k = record { fits = refl; bytes = refl }
-  yield-sound (CopyOwned d w r) b k = record { fits = refl; bytes = refl }
-
-  take-sound : (x : Writeback) (b : ℕ) (k : Pieces) → Sound o c l given p q (Take b) (takeTable x k)
-  unfolding takeTable meaning
-  take-sound NoWriteback b k = record { fits = refl; bytes = refl }
-  take-sound (Flight w r) b k = record { fits = refl; bytes = refl }
-
-  table-sound : (call : Call) (k : Pieces) → callRefusal call o (length given) ≡ 0 → copyStart o c l + o .width ≤ length p → Sound o c l given p q call (tableOf call k o)
-  unfolding tableOf fenceTable advanceTable meaning
-  table-sound (Load a b) k e h = load-sound (k .copy) a b k
-  table-sound (Store a b) k e h = store-sound (k .copy) a b k (store-width o _ (named (Store a b) o _ e .count)) h
-  table-sound (Fence a) k e h = record { fits = refl; bytes = refl }
-  table-sound (Evict a b) k e h = evict-sound (k .copy) a b k
-  table-sound (Advance a n) k e h = record { fits = refl; bytes = refl }
-  table-sound (Serve a) k e h = serve-sound (k .core .slot) a k
-  table-sound (Receive a) k e h = receive-sound (k .core .slot) a k
-  table-sound (Yield b) k e h = yield-sound (k .copy) b k
-  table-sound (Take b) k e h = take-sound (k .line .writeback) b k
-
-  pub effect-sound : (call : Call) (k : Pieces) → callRefusal call o (length given) ≡ 0 → copyStart o c l + o .width ≤ length p → Sound o c l given p q call (effectOf call k o)
-  unfolding effectOf meaning
-  effect-sound call k e h =
-      either (eqb (stateRefusal call k o) 0) _ _ (table-sound call k e h) (record { fits = refl; bytes = refl })
+-- the effect of a call that none of 1 to 6 refuses
+pub effect-sound : (m : Machine) (call : Call) (given : Bytes) → Fit m → callRefusal call (m .state .opening) (length given) ≡ 0
+    → Sound (m .state .opening) (coreOf call (m .state)) (lineOf call (m .state)) given (m .private) (m .shared) call (effectOf call (piecesOf call (m .state)) (m .state .opening))
+unfolding meaning
+effect-sound m call given f e =
+    effect-case (λ d. Sound (m .state .opening) (coreOf call (m .state)) (lineOf call (m .state)) given (m .private) (m .shared) call d) (m .state) call
+    (λ n. record { fits = refl; bytes = refl })
+    (λ d w. row-sound (named call _ _ e .count) (rw (f .nPrivate) (copy-ends (placed f call (length given) e))) w)
 
 -- ---- the move
 

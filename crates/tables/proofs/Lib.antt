@@ -1,5 +1,4 @@
--- `Keep`: laws of `effectOf` for callers. `Effects`, `Allowed`, `Named`: what `step` is by the effect, and the core and the line that a call is about.
-pub mod Keep
+-- `Effects`, `Allowed`, `Making`: what `step` is by the effect, and the core and the line that a call is about.
 pub mod Effects
 pub mod Allowed
 pub mod Making

@@ -1,32 +1,30 @@
 -- One call made in place: whatever 1 to 6 say of it, the effect on the elements where the core and the line that it is about are found, written
 -- back, with its bytes moved, is `step`. The engine's call and the driver's loop both go by it.
 use Prim.Native.Nat.{ℕ, _+_, _≤_, _<_}
-use mathlib.Core.Path.{_≡_, refl, sym, _∙_, ap, ap₂}
+use mathlib.Core.Path.{_≡_, refl, sym, _∙_, ap₂}
 use mathlib.Core.Bool.{Bool, true, false}
-use lib.Dec.{eqb}
 use lib.ListN.{length}
 use native.Mathlib.Omega.{arith}
 use native.Mathlib.Decide.{ℕ-discrete}
-use borrow.Author.Tests.{le-leb, lt-ltb, eqb-true, eqb-false, ne-eqb}
+use borrow.Author.Tests.{le-leb, lt-ltb, ne-eqb}
 use Rattle.protocol.specs.Pick.{pick}
 use Rattle.protocol.specs.Limits.{mostCores, mostLines}
 use Rattle.protocol.specs.Buffers.{Bytes, part, copyStart, copyBytes, Placed, movedPrivate, movedShared}
 use Rattle.protocol.specs.About.{about, namedLine}
-use Rattle.protocol.specs.Machine.{Machine, machine, coreAt, lineAt, Pieces, piecesAt, theCore, theLine, coreOf, lineOf, written, applied}
+use Rattle.protocol.specs.Machine.{Machine, coreAt, lineAt, piecesAt, theCore, theLine, coreOf, lineOf}
 use Rattle.protocol.specs.Refusals.{machineRefusal, callRefusal}
 use Rattle.protocol.specs.Tables.{refusedRow, effectOf}
-use Rattle.protocol.specs.Step.{meaning, Outcome, commitBytes, accepted, step}
+use Rattle.protocol.specs.Step.{meaning, accepted, step}
 use Rattle.protocol.specs.declared.{Opening.Opening, Call.Call, Answer.Answer, Effect.Effect}
 use Rattle.protocol.specs.declared.Move.the-variants.{Still}
 use Rattle.protocol.specs.declared.Answer.the-variants.{Refused, Done, Commit}
 use Rattle.protocol.specs.declared.Kind.the-variants.{Load, Store, Fence}
-use Rattle.protocol.proofs.Places.{copy-ends, Inside, inside}
+use Rattle.protocol.proofs.Places.{copy-ends, inside}
 use Rattle.protocol.proofs.Refusals.{or-none, Fit, machine-fit, named, named-inside, placed}
 use Rattle.refusals.specs.Input.{inputRefusal}
-use Rattle.places.specs.Kept.{placeFits}
-use Rattle.places.specs.Moves.{moveFits, Moves}
-use Rattle.places.proofs.Places.{placed-place, place-start}
-use Rattle.tables.specs.Found.{foundAt, Found, effectWith}
+use Rattle.buffers.specs.Moves.{placeFits, moveFits, Moves}
+use Rattle.buffers.proofs.Laws.{placed-place, place-start}
+use Rattle.tables.specs.Found.{foundAt, effectWith}
 use Rattle.tables.specs.Spans.{spanOf}
 use Rattle.tables.proofs.Effects.{step-refused, row-refused, step-accepted, Sound, effect-sound, effect-moves}
 
@@ -100,7 +98,7 @@ module _ (m : Machine) (call : Call) (given : Bytes) (n : ℕ) (e : n ≡ inputR
     accepted-effect = rw z
 
     sound : Sound o c l given (m .private) (m .shared) call made
-    sound = rw accepted-effect (effect-sound o c l given (m .private) (m .shared) call (piecesAt (m .state) c l) (allowed .1) (rw (fit .nPrivate) (copy-ends there)))
+    sound = rw (accepted-effect, core-is, line-is) (effect-sound m call given fit (allowed .1))
 
   -- ---- one of them applies
 

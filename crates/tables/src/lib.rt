@@ -12,6 +12,7 @@ pub use about::core_of;
 pub use about::line_of;
 pub use about::named_line;
 ghost use mathlib.Core.Path.{_≡_};
+ghost use Rattle.protocol.specs.Machine.{pieces};
 ghost use Rattle.protocol.specs.Tables.{effectOf};
 ghost use Rattle.tables.specs.Found.{effectWith};
 ghost use Rattle.tables.specs.Spans.{spanOf};
@@ -33,18 +34,18 @@ pub struct Span {
 // What a call makes of the pieces that it looks at: the row of its table, or, with the pieces as they
 // are, one of 20 to 27. Each row decides.
 fn row(call: Call, core: Core, copy: Copy, line: Line, opening: Opening) -> Effect
-    ensures { λ r. ⌜ r ≡ effectOf call (record { core = core; copy = copy; line = line }) opening ⌝ }
+    ensures { λ r. ⌜ r ≡ effectOf call (pieces core copy line) opening ⌝ }
 {
     match call {
         Call::Load { core: c, line: l } => core_rows::load(c, l, core, copy, line),
         Call::Store { core: c, line: l } => core_rows::store(c, l, core, copy, line),
         Call::Fence { core: c } => core_rows::fence(c, core, copy, line),
-        Call::Evict { .. } => writeback_rows::evict(core, copy, line),
+        Call::Evict { .. } => transfer_rows::evict(core, copy, line),
         Call::Advance { by, .. } => core_rows::advance(by, core, copy, line),
-        Call::Serve { core: c } => request_rows::serve(c, core, copy, line, opening),
-        Call::Receive { .. } => request_rows::receive(core, copy, line),
-        Call::Yield { .. } => writeback_rows::yield_line(core, copy, line),
-        Call::Take { .. } => writeback_rows::take(core, copy, line),
+        Call::Serve { core: c } => transfer_rows::serve(c, core, copy, line, opening),
+        Call::Receive { .. } => transfer_rows::receive(core, copy, line),
+        Call::Yield { .. } => transfer_rows::yield_line(core, copy, line),
+        Call::Take { .. } => transfer_rows::take(core, copy, line),
     }
 }
 
@@ -57,7 +58,7 @@ pub fn effect(
     line: Line,
     opening: Opening,
 ) -> Effect
-    ensures { λ r. ⌜ r ≡ effectWith number call (record { core = core; copy = copy; line = line }) opening ⌝ }
+    ensures { λ r. ⌜ r ≡ effectWith number call (pieces core copy line) opening ⌝ }
 {
     if number != 0 {
         return refusals::refused(number, core, copy, line);

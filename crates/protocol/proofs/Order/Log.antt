@@ -7,7 +7,7 @@ use native.Mathlib.Omega.{arith}
 use native.Mathlib.Decide.{decLt}
 use Rattle.protocol.specs.Step.{Op, load, store, fence}
 use Rattle.protocol.specs.Run.{Commit}
-use Rattle.protocol.specs.Order.{In, here, there, Before, Earlier, Stores, Loads, MaySee, LastWrite, Obeys}
+use Rattle.protocol.specs.Order.{In, here, there, Before, Earlier, MaySee, LastWrite, Obeys}
 
 -- ---- lists
 
@@ -64,25 +64,22 @@ Touches l (load m x) = m ≡ l
 Touches l (store m x) = m ≡ l
 Touches l fence = ⊥
 
--- what a load by core c at time t sees of the log: the newest write that is not later than t, or is its own core's
-abbrev pub Sees : {A X : Type 0} → X → (Commit A → X → Type 0) → ℕ → ℕ → List (Commit A) → X → Type 0
-Sees z Wr c t H x = Last z Wr (λ e. (t < e .ts .0) × (e .core ≡ c → ⊥)) (λ e. (e .ts .0 ≤ t) ⊎ (e .core ≡ c)) H x
+-- what a load by core c at time t reads off the log: the newest write that is not later than t, or is its own core's
+abbrev pub Reading : {A X : Type 0} → X → (Commit A → X → Type 0) → ℕ → ℕ → List (Commit A) → X → Type 0
+Reading z Wr c t H x = Last z Wr (λ e. (t < e .ts .0) × (e .core ≡ c → ⊥)) (λ e. (e .ts .0 ≤ t) ⊎ (e .core ≡ c)) H x
 
--- a load gives what it sees; a store is at or after everything that touched its line
-abbrev pub OpFits : {A : Type 0} → A → Op A → Commit A → List (Commit A) → Type 0
-OpFits z (load l x) e H = Sees z (Stores l) (e .core) (e .ts .0) H x
-OpFits z (store l x) e H = All (λ a. Touches l (a .op) → a .ts .0 ≤ e .ts .0) H
-OpFits z fence e H = Unit {0}
-
--- a commit fits the log: it is at or after what its core made before, where that is to be kept, and its operation fits
-pub record Fits {A : Type 0} (Keeps : Op A → Op A → Type 0) (z : A) (e : Commit A) (H : List (Commit A)) : Type 0 where
+-- a commit may extend the log: it is at or after what its core made before, where that is to be kept; it reads what it is to see; where it
+-- writes, it is at or after everything that read or wrote there
+pub record Extends {A C X : Type 0} (Keeps : Op A → Op A → Type 0) (Reads Writes : C → Commit A → X → Type 0) (z : X) (e : Commit A) (H : List (Commit A)) : Type 0 where
   pub inOrder : All (λ a. a .core ≡ e .core → Keeps (a .op) (e .op) → a .ts .0 ≤ e .ts .0) H
-  pub opFits : OpFits z (e .op) e H
+  pub sees : (i : C) (x : X) → Reads i e x → Reading z (Writes i) (e .core) (e .ts .0) H x
+  pub above : (i : C) (x : X) → Writes i e x → All (λ a. (y : X) → Reads i a y ⊎ Writes i a y → a .ts .0 ≤ e .ts .0) H
 
--- every commit of the log is made after those below it, and fits them
-pub data LogFits {A : Type 0} (Keeps : Op A → Op A → Type 0) (z : A) : List (Commit A) → Type 0 where
-  start : LogFits Keeps z []
-  step : {e : Commit A} {H : List (Commit A)} → All (λ a. Earlier a e) H → Fits Keeps z e H → LogFits Keeps z H → LogFits Keeps z (e ∷ H)
+-- every commit of the log is made after those below it, and extends them
+pub data Lawful {A C X : Type 0} (Keeps : Op A → Op A → Type 0) (Reads Writes : C → Commit A → X → Type 0) (z : X) : List (Commit A) → Type 0 where
+  start : Lawful Keeps Reads Writes z []
+  step : {e : Commit A} {H : List (Commit A)} → All (λ a. Earlier a e) H → Extends Keeps Reads Writes z e H → Lawful Keeps Reads Writes z H
+      → Lawful Keeps Reads Writes z (e ∷ H)
 
 -- ---- such a log obeys the model
 
@@ -126,35 +123,27 @@ Ordered Keeps a b = a .core ≡ b .core → Earlier a b → Keeps (a .op) (b .op
 at-place : {A : Type 0} {a e : Commit A} → a ≡ e → a .place .0 ≡ e .place .0
 at-place i = ap (λ x. x .place .0) i
 
-module _ {A : Type 0} (Keeps : Op A → Op A → Type 0) (z : A) where
-  order-cons : {H : List (Commit A)} (a b e : Commit A) → All (λ a. Earlier a e) H → Fits Keeps z e H → (In a H → In b H → Ordered Keeps a b)
+module _ {A C X : Type 0} (Keeps : Op A → Op A → Type 0) (Reads Writes : C → Commit A → X → Type 0) (z : X) where
+  order-cons : {H : List (Commit A)} (a b e : Commit A) → All (λ a. Earlier a e) H → Extends Keeps Reads Writes z e H → (In a H → In b H → Ordered Keeps a b)
       → (a ≡ e) ⊎ In a H → (b ≡ e) ⊎ In b H → Ordered Keeps a b
   order-cons a b e o ok down (inl i) (inl j) q p k = absurd (omega (arith, at-place i, at-place j))
   order-cons a b e o ok down (inl i) (inr n′) q p k = absurd (omega (arith, at-place i, all-at o n′))
   order-cons a b e o ok down (inr m′) (inl j) q p k = before-of a b (all-at (rw (← j) at (ok .inOrder)) m′ q k) p
   order-cons a b e o ok down (inr m′) (inr n′) q p k = down m′ n′ q p k
 
-  log-order : {H : List (Commit A)} → LogFits Keeps z H → (a b : Commit A) → In a H → In b H → Ordered Keeps a b
+  log-order : {H : List (Commit A)} → Lawful Keeps Reads Writes z H → (a b : Commit A) → In a H → In b H → Ordered Keeps a b
   log-order start a b m n = absurd (in-nil m)
   log-order (step {e = e} o ok log) a b m n = order-cons a b e o ok (log-order log a b) (in-cons m) (in-cons n)
 
-  touching : (l : ℕ) (o : Op A) (x : A) → o ≡ store l x → Touches l o
-  touching l o x q = rw q refl
-
-  log-rising : (l : ℕ) {H : List (Commit A)} → LogFits Keeps z H → Rising (Stores l) H
-  log-rising l start = rising-nil
-  log-rising l (step {e = e} {H = H} o ok log) =
-      rising-cons {e = e} o
-      (λ x w.
-      let t : All (λ a. Touches l (a .op) → a .ts .0 ≤ e .ts .0) H = rw w at (ok .opFits) in
-      all-map (λ a f y v. f (touching l (a .op) y v)) t)
-      (log-rising l log)
+  log-rising : (i : C) {H : List (Commit A)} → Lawful Keeps Reads Writes z H → Rising (Writes i) H
+  log-rising i start = rising-nil
+  log-rising i (step {e = e} o ok log) = rising-cons {e = e} o (λ x w. all-map (λ a f y v. f y (inr v)) (ok .above i x w)) (log-rising i log)
 
   -- a load's own clause, when it is made
-  reads-new : {H : List (Commit A)} (e : Commit A) → All (λ a. Earlier a e) H → Fits Keeps z e H → LogFits Keeps z H
-      → (l : ℕ) (x : A) → Loads l e x → LastWrite H (Stores l) (MaySee e) z x
-  reads-new {H} e o ok log l x q =
-      walk-last (MaySee e) (log-rising l log) (λ s m p k. hidden s (all-at o m) p k) (λ s m p. seen s (all-at o m) p) (rw q at (ok .opFits))
+  reads-new : {H : List (Commit A)} (e : Commit A) → All (λ a. Earlier a e) H → Extends Keeps Reads Writes z e H → Lawful Keeps Reads Writes z H
+      → (i : C) (x : X) → Reads i e x → LastWrite H (Writes i) (MaySee e) z x
+  reads-new {H} e o ok log i x q =
+      walk-last (MaySee e) (log-rising i log) (λ s m p k. hidden s (all-at o m) p k) (λ s m p. seen s (all-at o m) p) (ok .sees i x q)
     where
       hidden : (s : Commit A) → Earlier s e → (e .ts .0 < s .ts .0) × (s .core ≡ e .core → ⊥) → MaySee e s → ⊥
       hidden s p h (inl (inl k)) = omega arith
@@ -165,35 +154,41 @@ module _ {A : Type 0} (Keeps : Op A → Op A → Type 0) (z : A) where
       seen s p (inl h) = inl (before-of s e h p)
       seen s p (inr h) = inr (h, p)
 
-  -- a later store is no store that an earlier load may see
-  late : {H : List (Commit A)} (k : Commit A) → All (λ a. Earlier a k) H → Fits Keeps z k H → (e : Commit A) → In e H
-      → (l : ℕ) (x : A) → Loads l e x → (y : A) → Stores l k y → MaySee e k → ⊥
-  late k o ok e m l x q y r c = go c
+  -- a later write is none that an earlier read may see
+  late : {H : List (Commit A)} (k : Commit A) → All (λ a. Earlier a k) H → Extends Keeps Reads Writes z k H → (e : Commit A) → In e H
+      → (i : C) (x : X) → Reads i e x → (y : X) → Writes i k y → MaySee e k → ⊥
+  late k o ok e m i x q y r c = go c
     where
       h : Earlier e k
       h = all-at o m
 
       t : e .ts .0 ≤ k .ts .0
-      t = all-at (rw r at (ok .opFits)) m (rw q refl)
+      t = all-at (ok .above i y r) m x (inl q)
 
       go : MaySee e k → ⊥
       go (inl (inl p)) = omega (arith, h, t)
       go (inl (inr p)) = omega (arith, h, t)
       go (inr p) = omega (arith, h, t)
 
-  reads-cons : {H : List (Commit A)} (k e : Commit A) (l : ℕ) (x : A) → All (λ a. Earlier a k) H → Fits Keeps z k H → LogFits Keeps z H → Loads l e x
-      → (In e H → LastWrite H (Stores l) (MaySee e) z x) → (e ≡ k) ⊎ In e H → LastWrite (k ∷ H) (Stores l) (MaySee e) z x
-  reads-cons {H} k e l x o ok log q down (inl i) =
-      last-cons k (λ y r c. clash y r) (reads-new e (rw (← i) at o) (rw (← i) at ok) log l x q)
+  -- a commit is none that it may see itself
+  unseen : (e k : Commit A) → e ≡ k → MaySee e k → ⊥
+  unseen e k j c = go (rw (← j) at c)
     where
-      clash : (y : A) → Stores l k y → ⊥
-      clash y r = let w : e .op ≡ k .op = ap (λ a. a .op) i in let n : _≡_ {A = ℕ} 0 1 = cc in omega arith
-  reads-cons k e l x o ok log q down (inr m) = last-cons k (late k o ok e m l x q) (down m)
+      go : MaySee e e → ⊥
+      go (inl (inl p)) = omega arith
+      go (inl (inr p)) = omega arith
+      go (inr p) = omega arith
 
-  log-reads : {H : List (Commit A)} → LogFits Keeps z H → (e : Commit A) → In e H → (l : ℕ) (x : A) → Loads l e x
-      → LastWrite H (Stores l) (MaySee e) z x
-  log-reads start e m l x q = absurd (in-nil m)
-  log-reads (step {e = k} o ok log) e m l x q = reads-cons k e l x o ok log q (λ m′. log-reads log e m′ l x q) (in-cons m)
+  reads-cons : {H : List (Commit A)} (k e : Commit A) (i : C) (x : X) → All (λ a. Earlier a k) H → Extends Keeps Reads Writes z k H → Lawful Keeps Reads Writes z H
+      → Reads i e x → (In e H → LastWrite H (Writes i) (MaySee e) z x) → (e ≡ k) ⊎ In e H → LastWrite (k ∷ H) (Writes i) (MaySee e) z x
+  reads-cons k e i x o ok log q down (inl j) =
+      last-cons k (λ y r c. unseen e k j c) (reads-new e (rw (← j) at o) (rw (← j) at ok) log i x q)
+  reads-cons k e i x o ok log q down (inr m) = last-cons k (late k o ok e m i x q) (down m)
 
-  pub log-obeys : {H : List (Commit A)} → LogFits Keeps z H → Obeys Keeps z H
+  log-reads : {H : List (Commit A)} → Lawful Keeps Reads Writes z H → (e : Commit A) → In e H → (i : C) (x : X) → Reads i e x
+      → LastWrite H (Writes i) (MaySee e) z x
+  log-reads start e m i x q = absurd (in-nil m)
+  log-reads (step {e = k} o ok log) e m i x q = reads-cons k e i x o ok log q (λ m′. log-reads log e m′ i x q) (in-cons m)
+
+  pub log-obeys : {H : List (Commit A)} → Lawful Keeps Reads Writes z H → Obeys Keeps MaySee Reads Writes z H
   log-obeys ok = record { order = log-order ok; reads = log-reads ok }

@@ -1,26 +1,21 @@
--- What the order asks of the tables' rows, each as a small fact: where a commit stands to the leases, and what a grant or a writeback carries.
+-- What the order asks of the tables' rows, each as a small fact: where a commit is to the leases, and what a grant or a writeback carries.
 use Prim.Native.Nat.{ℕ, _≤_, _<_}
-use mathlib.Core.Path.{_≡_, refl, ap}
+use mathlib.Core.Path.{_≡_, refl, sym, ap}
 use mathlib.Core.Bool.{Bool, true, false}
 use native.Mathlib.Omega.{arith}
 use borrow.Author.Tests.{eqb-true}
 use Rattle.protocol.specs.Stamps.{stamp}
 use Rattle.protocol.specs.Machine.{Pieces}
 use Rattle.protocol.specs.Tables.{loadOwned, loadShared, storeTable, evictTable, sameVersion, leasedTo, serveLoad, yieldTable}
-use Rattle.protocol.specs.declared.Stamp.{Stamp}
-use Rattle.protocol.specs.declared.Copy.{Copy}
+use Rattle.protocol.specs.declared.{Stamp.Stamp, Copy.Copy, Held.Held, Slot.Slot, Manager.Manager, Writeback.Writeback, Answer.Answer}
 use Rattle.protocol.specs.declared.Copy.the-variants.{None as NoCopy, Shared as CopyShared, Owned as CopyOwned}
-use Rattle.protocol.specs.declared.Held.{Held}
 use Rattle.protocol.specs.declared.Held.the-variants.{None as NothingHeld, Version}
-use Rattle.protocol.specs.declared.Slot.{Slot}
 use Rattle.protocol.specs.declared.Slot.the-variants.{Empty, Asked, Answered}
-use Rattle.protocol.specs.declared.Manager.{Manager}
 use Rattle.protocol.specs.declared.Manager.the-variants.{Shared, Owned}
-use Rattle.protocol.specs.declared.Writeback.{Writeback}
 use Rattle.protocol.specs.declared.Writeback.the-variants.{None as NoWriteback, Flight}
-use Rattle.protocol.specs.declared.Answer.{Answer}
 use Rattle.protocol.specs.declared.Answer.the-variants.{Refused, Done, Commit}
 use Rattle.protocol.specs.declared.Move.the-variants.{Writeback as MoveWriteback}
+use Rattle.protocol.proofs.Tests.{never}
 
 -- ---- the timestamps in a row
 
@@ -52,7 +47,7 @@ writebackRts (Flight w r) = r .0
 -- ---- load
 
 module _ (c l : ℕ) (w r : Stamp) (p : Pieces) where
-  -- an owner's read stands within the lease that its copy has after it
+  -- an owner's read is within the lease that its copy has after it
   pub read-within : (d : Bool) → timeOf (loadOwned d c l w r p .answer) ≤ copyRts (loadOwned d c l w r p .copy)
   unfolding loadOwned
   read-within true = omega arith
@@ -64,7 +59,7 @@ module _ (c l : ℕ) (w r : Stamp) (p : Pieces) where
   lease-grows true = omega arith
   lease-grows false = omega arith
 
-  -- a read stands at or after the core's lts, and at or before its lts after the step
+  -- a read is at or after the core's lts, and at or before its lts after the step
   pub read-after : (d : Bool) → p .core .clocks .lts .0 ≤ timeOf (loadOwned d c l w r p .answer)
   unfolding loadOwned
   read-after true = omega arith
@@ -75,7 +70,7 @@ module _ (c l : ℕ) (w r : Stamp) (p : Pieces) where
   read-clocked true = omega arith
   read-clocked false = omega arith
 
-  -- a read of a copy that is not dirty stands at or after the store that made it
+  -- a read of a copy that is not dirty is at or after the store that made it
   pub read-version : w .0 ≤ timeOf (loadOwned false c l w r p .answer)
   unfolding loadOwned
   read-version = omega arith
@@ -89,7 +84,7 @@ module _ (c l : ℕ) (w r : Stamp) (p : Pieces) where
 
   -- ---- store
 
-  -- a store stands past the lease of its copy, and at or after both clocks
+  -- a store is past the lease of its copy, and at or after both clocks
   pub store-past : (d : Bool) → r .0 < timeOf (storeTable (CopyOwned d w r) c l p .answer)
   unfolding storeTable
   store-past d = omega arith
@@ -106,7 +101,7 @@ module _ (c l : ℕ) (w r : Stamp) (p : Pieces) where
 
 -- a renewal is of the version that the core holds
 pub same-version : (h : Held) (w : Stamp) → sameVersion h w ≡ true → h ≡ Version w
-same-version NothingHeld w e = let n : _≡_ {A = ℕ} 0 1 = cc in absurd (omega arith)
+same-version NothingHeld w e = never (sym e)
 same-version (Version v) w e = let q : v .0 ≡ w .0 = omega (arith, eqb-true) in ap (λ (n : ℕ). Version (stamp n)) q
 
 module _ (l : ℕ) (w r : Stamp) (p : Pieces) where

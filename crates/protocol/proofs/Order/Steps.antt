@@ -1,121 +1,112 @@
--- Each row of the nine tables keeps the invariant, and what it commits fits the log.
+-- Every call, with any numbers and any bytes, keeps the invariant, and what it commits extends the log: one function over the rows of the tables.
 use Prim.Native.Nat.{ℕ, _≤_, _<_}
 use mathlib.Core.Path.{_≡_, refl, sym, _∙_, ap}
-use mathlib.Core.Logic.{inl, inr}
+use mathlib.Core.Logic.{_⊎_, inl, inr}
 use mathlib.Core.Bool.{Bool, true, false}
 use mathlib.Core.List.{List, [], _∷_}
 use native.Mathlib.Omega.{arith}
-use native.Mathlib.Decide.{ℕ-discrete}
-use lib.Dec.{leb}
-use borrow.Author.Tests.{leb-true}
+use lib.Dec.{eqb}
+use borrow.Author.Tests.{eq-eqb}
 use lib.ListN.{length}
-use Rattle.protocol.specs.Pick.{pick}
 use Rattle.protocol.specs.Stamps.{later}
 use Rattle.protocol.specs.Clock.{storeTime}
-use Rattle.protocol.specs.Buffers.{Bytes, copyBytes, managerBytes, writebackBytes, answerBytes}
-use Rattle.protocol.specs.Machine.{Machine, Pieces, piecesAt, coreAt, copyAt, lineAt, applied, slotLine}
-use Rattle.protocol.specs.Tables.{row, refusedRow, heldOf, asking, loadOwned, loadShared, loadTable, earliest, storeTable, fenceTable, advanceTable, evictTable, sameVersion, leasedTo, serveLoad, serveAsked, serveTable, receiveRenew, receiveGrant, receiveTable, yielded, yieldTable, takeTable, writtenBack, managed, slotted}
-use Rattle.protocol.specs.Step.{Op, load, store, fence, Reply, refused, done, commit, meaning, commitBytes, accepted}
+use Rattle.protocol.specs.Buffers.{Bytes, Placed, copyBytes, managerBytes, writebackBytes, answerBytes}
+use Rattle.protocol.specs.Machine.{Machine, Pieces, piecesAt, coreAt, copyAt, lineAt, applied}
+use Rattle.protocol.specs.Refusals.{isOwned}
+use Rattle.protocol.specs.Tables.{row, heldOf, loadOwned, earliest, storeTable, fenceTable, advanceTable, evictTable, leasedTo, serveLoad}
+use Rattle.protocol.specs.Tables.{serveAsked, receiveRenew, receiveGrant, yielded, yieldTable, takeTable, writtenBack}
+use Rattle.protocol.specs.Step.{Op, load, store, fence, Reply, refused, done, commit, meaning, Outcome, accepted, step}
 use Rattle.protocol.specs.Run.{place, Commit, commitAt}
-use Rattle.protocol.specs.Order.{TsoKeeps, Stores}
-use Rattle.protocol.specs.declared.Stamp.{Stamp}
-use Rattle.protocol.specs.declared.Clocks.{Clocks}
-use Rattle.protocol.specs.declared.Copy.{Copy}
+use Rattle.protocol.specs.Order.{TsoKeeps, Loads, Stores}
+use Rattle.protocol.specs.declared.{Stamp.Stamp, Clocks.Clocks, Copy.Copy, Want.Want, Held.Held, Grant.Grant, Core.Core, Manager.Manager}
+use Rattle.protocol.specs.declared.{Recall.Recall, Writeback.Writeback, Opening.Opening, Call.Call, Answer.Answer, Move.Move, Effect.Effect}
 use Rattle.protocol.specs.declared.Copy.the-variants.{None as NoCopy, Shared as CopyShared, Owned as CopyOwned}
-use Rattle.protocol.specs.declared.Want.{Want}
 use Rattle.protocol.specs.declared.Want.the-variants.{Load as WantLoad, Store as WantStore}
-use Rattle.protocol.specs.declared.Held.{Held}
 use Rattle.protocol.specs.declared.Held.the-variants.{Version}
-use Rattle.protocol.specs.declared.Grant.{Grant}
 use Rattle.protocol.specs.declared.Grant.the-variants.{Share as GrantShare, Renew as GrantRenew, Own as GrantOwn}
-use Rattle.protocol.specs.declared.Slot.{Slot}
-use Rattle.protocol.specs.declared.Slot.the-variants.{Empty, Asked, Answered}
-use Rattle.protocol.specs.declared.Core.{Core}
-use Rattle.protocol.specs.declared.Manager.{Manager}
-use Rattle.protocol.specs.declared.Manager.the-variants.{Shared, Owned}
-use Rattle.protocol.specs.declared.Recall.{Recall}
+use Rattle.protocol.specs.declared.Slot.the-variants.{Asked, Answered}
+use Rattle.protocol.specs.declared.Manager.the-variants.{Shared}
 use Rattle.protocol.specs.declared.Recall.the-variants.{None as NoRecall, Downgrade, Flush}
-use Rattle.protocol.specs.declared.Writeback.{Writeback}
-use Rattle.protocol.specs.declared.Writeback.the-variants.{None as NoWriteback, Flight}
-use Rattle.protocol.specs.declared.Opening.{Opening}
-use Rattle.protocol.specs.declared.Call.{Call}
-use Rattle.protocol.specs.declared.Answer.{Answer}
+use Rattle.protocol.specs.declared.Writeback.the-variants.{Flight}
 use Rattle.protocol.specs.declared.Answer.the-variants.{Done}
-use Rattle.protocol.specs.declared.Name.the-variants.{Evict as Evicted, Yield as Yielded, Own, Drop}
-use Rattle.protocol.specs.declared.Move.{Move}
-use Rattle.protocol.specs.declared.Move.the-variants.{Still, Answer as MoveAnswer, Writeback as MoveWriteback}
-use Rattle.protocol.specs.declared.Effect.{Effect}
-use Rattle.protocol.proofs.Moves.{GivenFits, managerAfter, writebackAfter, copyAfter, answerAfter}
-use Rattle.protocol.proofs.Order.Log.{more, all-map, Touches, Fits, OpFits}
-use Rattle.protocol.proofs.Order.Versions.{atManager, atWriteback, atCopy, atSlot, clean, mine, nothing, snapshot, renewal, newest, put, put-at, Newest, Stands, NotNewest, ContentFits, LineFits, Lease, keep, put-newest, move, demote, quiet, write, sees-snapshot, sees-clean, sees-mine, lease-of, lease-renewed}
-use Rattle.protocol.proofs.Order.Look.{look, viewCopy, viewSlot, viewGrant, viewManager, viewWriteback, view-at, SlotStep, core-at, look-manager, look-writeback, look-copy, look-slot}
-use Rattle.protocol.proofs.Order.Rows.{read-within, lease-grows, read-after, read-clocked, read-version, shared-version, shared-within, store-past, store-after-loads, store-after-stores, same-version, grant-within, manager-grows, evict-lease, yield-lease, evict-moves, yield-moves}
-use Rattle.protocol.proofs.Order.Invariant.{On, ClockFits, AskFits, NotOwned, PairFits, Inv, clocks-applied, inv-applied, none-changes, one-changes, two-change}
+use Rattle.protocol.specs.declared.Call.the-variants.{Load}
+use Rattle.protocol.specs.declared.Name.the-variants.{Evict as Evicted, Yield as Yielded}
+use Rattle.protocol.specs.declared.Move.the-variants.{Writeback as MoveWriteback}
+use Rattle.protocol.proofs.Tests.{never}
+use Rattle.protocol.proofs.Refusals.{Fit, machine-fit}
+use Rattle.protocol.proofs.Written.{core-at}
+use Rattle.protocol.proofs.Cases.{Row, asks-load, reads-shared, reads-dirty, reads-clean, asks-store, writes, fences, advances, evicts-shared}
+use Rattle.protocol.proofs.Cases.{evicts-owned, recalls, renews, shares, grants, gets-share, gets-own, gets-renewal, drops-none, drops-owned}
+use Rattle.protocol.proofs.Cases.{yields, takes, Case, refuses, makes, case-of}
+use Rattle.protocol.proofs.Keep.{EffectFits, made-fits}
+use Rattle.protocol.proofs.Order.Log.{more, all-map, Touches, Reading, Extends}
+use Rattle.protocol.proofs.Order.Versions.{Spot, atManager, atWriteback, atCopy, atSlot, kind, HeldBy, Elsewhere, not-here, mine, newest}
+use Rattle.protocol.proofs.Order.Versions.{Newest, version, Stands, here, carry, goes-to, quiet, write-version, write-marks, write-past}
+use Rattle.protocol.proofs.Order.Versions.{Written, marks-stay, MarksAgree, lease-of, lease-renewed, reads-snapshot, reads-newest, reads-mine}
+use Rattle.protocol.proofs.Order.Look.{LineCell, Value, cells, marks, look, viewCopy, viewManager, viewWriteback, granted, view-at, view-none}
+use Rattle.protocol.proofs.Order.Look.{SpeaksOf, SlotStep}
+use Rattle.protocol.proofs.Order.Rows.{read-within, lease-grows, read-after, read-clocked, read-version, shared-version, shared-within}
+use Rattle.protocol.proofs.Order.Rows.{store-past, store-after-loads, store-after-stores, same-version, grant-within, manager-grows}
+use Rattle.protocol.proofs.Order.Rows.{evict-lease, yield-lease, evict-moves, yield-moves}
+use Rattle.protocol.proofs.Order.Invariant.{Onward, Writes, On, Passed, Allowed, Beside, VersionOf, SpotOf, LineOf, Inv, clocks-applied}
+use Rattle.protocol.proofs.Order.Invariant.{inv-applied, Leaves, line-applied}
 
 -- the commit of core c at t
 abbrev pub commitBy : ℕ → ℕ → Stamp → Op Bytes → Commit Bytes
 commitBy p c t o = record { place = place p; core = c; ts = t; op = o }
 
--- a call's answer and the machine after it keep the invariant; a commit is the call's own, and fits the log
-abbrev pub Good : Bytes → ℕ → List (Commit Bytes) → Call → Bytes → Reply → Machine → Type 0
+-- a call's answer and the machine after it keep the invariant; a commit is the call's own, and extends the log
+abbrev pub Good : Value → ℕ → List (Commit Bytes) → Call → Bytes → Reply → Machine → Type 0
 Good z p H call given (refused n) m = Inv z H m
 Good z p H call given (done d) m = Inv z H m
 Good z p H call given (commit c t o) m =
-    (commitAt (place p) call given t o ≡ commitBy p c t o ∷ []) × Fits TsoKeeps z (commitBy p c t o) H × Inv z (commitBy p c t o ∷ H) m
+    (commitAt (place p) call given t o ≡ commitBy p c t o ∷ []) × Extends TsoKeeps Loads Stores z (commitBy p c t o) H × Inv z (commitBy p c t o ∷ H) m
 
 -- ---- a slot and a copy
 
-pair-none : (l : ℕ) (v : Slot) → PairFits l v NoCopy
-pair-none l Empty = tt
-pair-none l (Asked a n t h) = λ e. tt
-pair-none l (Answered GrantShare n w r) = λ e. tt
-pair-none l (Answered GrantRenew n w r) = λ e. tt
-pair-none l (Answered GrantOwn n w r) = λ e. tt
+-- what is asked beside a copy that is not owned
+ask-beside : (a : Want) (l : ℕ) (t : Stamp) (v : Copy) → isOwned v ≡ false → Allowed (Asked a l t (heldOf v)) v
+ask-beside a l t NoCopy e = tt
+ask-beside a l t (CopyShared w r) e = refl
+ask-beside a l t (CopyOwned d w r) e = never e
 
--- beside an owned copy any copy may come that is asked nothing of
-pair-owned : (l : ℕ) (v : Slot) (w r : Stamp) (d : Bool) (u : Copy) → PairFits l v (CopyOwned d w r) → PairFits l v u
-pair-owned l Empty w r d u p = tt
-pair-owned l (Asked a n t h) w r d u p = λ e. absurd (p e)
-pair-owned l (Answered GrantShare n x y) w r d u p = λ e. absurd (p e)
-pair-owned l (Answered GrantRenew n x y) w r d u p = λ e. absurd (p e)
-pair-owned l (Answered GrantOwn n x y) w r d u p = λ e. absurd (p e)
+-- beside a request, its answer may come: a renewal of its version, a share, the line itself
+module _ (a : Want) (l : ℕ) (t : Stamp) (h : Held) (w r : Stamp) where
+  renewal-beside : (v : Copy) → h ≡ Version w → Allowed (Asked a l t h) v → Allowed (Answered GrantRenew l w r) v
+  renewal-beside NoCopy e k = tt
+  renewal-beside (CopyShared w₁ r₁) e k = cc
+  renewal-beside (CopyOwned d w₁ r₁) e k = k
 
--- an owner's slot has nothing on its line
-slot-nothing : (l : ℕ) (v : Slot) (w r : Stamp) (d : Bool) (b : Bytes) → PairFits l v (CopyOwned d w r) → viewSlot l v b ≡ nothing
-slot-nothing l Empty w r d b p = refl
-slot-nothing l (Asked a n t h) w r d b p = refl
-slot-nothing l (Answered g n x y) w r d b p = go g (ℕ-discrete n l) p
-  where
-    go : (g : Grant) (k : Dec (n ≡ l)) → PairFits l (Answered g n x y) (CopyOwned d w r) → viewGrant k g x y b ≡ nothing
-    go GrantShare (yes q) p = absurd (p q)
-    go GrantRenew (yes q) p = absurd (p q)
-    go GrantOwn (yes q) p = absurd (p q)
-    go GrantShare (no q) p = refl
-    go GrantRenew (no q) p = refl
-    go GrantOwn (no q) p = refl
+  share-beside : (v : Copy) → Allowed (Asked a l t h) v → Allowed (Answered GrantShare l w r) v
+  share-beside NoCopy k = tt
+  share-beside (CopyShared w₁ r₁) k = tt
+  share-beside (CopyOwned d w₁ r₁) k = k
 
-ask-not-owned : (h : Held) (v : Copy) → AskFits h v → NotOwned v
-ask-not-owned h NoCopy a = tt
-ask-not-owned h (CopyShared w r) a = tt
-ask-not-owned h (CopyOwned d w r) a = a
+  own-beside : (v : Copy) → Allowed (Asked a l t h) v → Allowed (Answered GrantOwn l w r) v
+  own-beside NoCopy k = tt
+  own-beside (CopyShared w₁ r₁) k = tt
+  own-beside (CopyOwned d w₁ r₁) k = k
 
 -- ---- the order of one core's commits
 
 -- a load comes after its core's loads and fences
-kept-load : (o : Op Bytes) (t′ t : ℕ) (l : ℕ) (b : Bytes) (k : Clocks) → k .lts .0 ≤ t → ClockFits o t′ k → TsoKeeps o (load l b) → t′ ≤ t
+kept-load : (x : Op Bytes) (t′ t : ℕ) (l : ℕ) (b : Bytes) (k : Clocks) → k .lts .0 ≤ t → Passed x t′ k → TsoKeeps x (load l b) → t′ ≤ t
 kept-load (load n d) t′ t l b k h f q = omega arith
 kept-load (store n d) t′ t l b k h f q = absurd q
 kept-load fence t′ t l b k h f q = omega arith
 
 -- what is at or after both clocks comes after all its core's commits
-kept-all : (o : Op Bytes) (t′ t : ℕ) (k : Clocks) → k .lts .0 ≤ t → k .sts .0 ≤ t → ClockFits o t′ k → t′ ≤ t
+kept-all : (x : Op Bytes) (t′ t : ℕ) (k : Clocks) → k .lts .0 ≤ t → k .sts .0 ≤ t → Passed x t′ k → t′ ≤ t
 kept-all (load n d) t′ t k h h′ f = omega arith
 kept-all (store n d) t′ t k h h′ f = omega arith
 kept-all fence t′ t k h h′ f = omega arith
 
--- ---- a row of a table on core c and line l
-module _ (z : Bytes) (p : ℕ) {H : List (Commit Bytes)} (call : Call) (given : Bytes) {m : Machine} (I : Inv z H m) (c l : ℕ)
-    (hc : c < m .state .opening .cores) (hl : l < m .state .opening .lines) where
+-- ---- the rows of the table of a call about core c and line l
+module _ (z : Value) (p : ℕ) {H : List (Commit Bytes)} (given : Bytes) {m : Machine} (I : Inv z H m) (f : Fit m) {c l : ℕ}
+    (q : Placed (m .state .opening) c l) where
+  abbrev o : Opening
+  o = m .state .opening
+
   abbrev k : Core
   k = coreAt (m .state) c
 
@@ -123,482 +114,339 @@ module _ (z : Bytes) (p : ℕ) {H : List (Commit Bytes)} (call : Call) (given : 
   ps = piecesAt (m .state) c l
 
   abbrev bytes : Bytes
-  bytes = copyBytes (m .state .opening) (m .private) c l
+  bytes = copyBytes o (m .private) c l
 
-  abbrev g : Newest Bytes
-  g = I .lines l hl .0
+  abbrev line : Bytes
+  line = managerBytes o (m .shared) l
 
-  J : LineFits z (Stores l) (On l) H (look m l) g
-  J = I .lines l hl .1
+  abbrev g : Newest LineCell Value
+  g = I .lines l (q .line) .0
 
-  abbrev GivenOk : Effect → Type 0
-  GivenOk d = GivenFits (m .state .opening) (m .private) (m .shared) c l given (d .moves)
+  ok : VersionOf z l H g
+  ok = I .lines l (q .line) .1 .version
+
+  -- the machine after a row
+  abbrev next : Effect → Machine
+  next d = applied m c l given d
+
+  -- what the row makes fits the sizes
+  abbrev Fitting : Effect → Type 0
+  Fitting d = EffectFits o (length given) d
 
   -- the row is good: its answer and the machine after it
-  abbrev pub GoodRow : Effect → Type 0
-  GoodRow d = Good z p H call given (accepted m call given c l d .reply) (accepted m call given c l d .machine)
+  abbrev GoodRow : Call → Effect → Type 0
+  GoodRow call d = Good z p H call given (accepted m call given c l d .reply) (accepted m call given c l d .machine)
 
-  -- ---- what stands at the spots
-  at-copy : (v : Copy) → copyAt (m .state) c l ≡ v → ContentFits z (Stores l) (On l) H g (atCopy c) (viewCopy c v bytes)
+  -- ---- before the row: what is at the spots, and the slot beside the copy
+  at : (S : Spot) → SpotOf z l H g S (look m l S)
+  at S = I .lines l (q .line) .1 .spots S
+
+  at-copy : (v : Copy) → copyAt (m .state) c l ≡ v → SpotOf z l H g (atCopy c) (viewCopy c v bytes)
   unfolding look
-  at-copy v e = rw e at (J .spots (atCopy c))
+  at-copy v e = rw e at (at (atCopy c))
 
-  at-slot : (v : Slot) → k .slot ≡ v → ContentFits z (Stores l) (On l) H g (atSlot c) (viewSlot l v (answerBytes (m .state .opening) (m .shared) c))
+  at-slot : (y : Grant) (w r : Stamp) → k .slot ≡ Answered y l w r → SpotOf z l H g (atSlot c) (granted y w r (answerBytes o (m .shared) c))
   unfolding look
-  at-slot v e = rw e at (J .spots (atSlot c))
+  at-slot y w r e = rw (e, view-at l y w r (answerBytes o (m .shared) c)) at (at (atSlot c))
 
-  at-manager : (v : Manager) → lineAt (m .state) l .manager ≡ v
-      → ContentFits z (Stores l) (On l) H g atManager (viewManager v (managerBytes (m .state .opening) (m .shared) l))
+  at-manager : (v : Manager) → lineAt (m .state) l .manager ≡ v → SpotOf z l H g atManager (viewManager v line)
   unfolding look
-  at-manager v e = rw e at (J .spots atManager)
+  at-manager v e = rw e at (at atManager)
 
-  at-writeback : (v : Writeback) → lineAt (m .state) l .writeback ≡ v
-      → ContentFits z (Stores l) (On l) H g atWriteback (viewWriteback v (writebackBytes (m .state .opening) (m .shared) l))
+  at-writeback : (v : Writeback) → lineAt (m .state) l .writeback ≡ v → SpotOf z l H g atWriteback (viewWriteback v (writebackBytes o (m .shared) l))
   unfolding look
-  at-writeback v e = rw e at (J .spots atWriteback)
+  at-writeback v e = rw e at (at atWriteback)
 
-  pair-at : (v : Copy) → copyAt (m .state) c l ≡ v → PairFits l (k .slot) v
-  pair-at v e = rw e at (I .rest .pairs c l hl)
+  pair : Beside l (k .slot) (copyAt (m .state) c l)
+  pair = I .pairs c l (q .line)
 
-  owner-slot : (w r : Stamp) (d : Bool) → copyAt (m .state) c l ≡ CopyOwned d w r → look m l (atSlot c) ≡ nothing
-  unfolding look
-  owner-slot w r d e = slot-nothing l (k .slot) w r d (answerBytes (m .state .opening) (m .shared) c) (pair-at (CopyOwned d w r) e)
+  asked : {a : Want} {t : Stamp} {h : Held} → k .slot ≡ Asked a l t h → Allowed (Asked a l t h) (copyAt (m .state) c l)
+  asked e = (rw e at pair) refl
 
-  owned-stands : (w r : Stamp) (d : Bool) → copyAt (m .state) c l ≡ CopyOwned d w r → Stands g (atCopy c) (w .0) (r .0) bytes
-  owned-stands w r true e = at-copy (CopyOwned true w r) e .0
-  owned-stands w r false e = at-copy (CopyOwned false w r) e .0
+  -- an owner's slot does not speak of the line, so any copy may come beside it
+  owner-silent : {b : Bool} {w r : Stamp} → copyAt (m .state) c l ≡ CopyOwned b w r → SpeaksOf l (k .slot) → ⊥
+  owner-silent e = rw e at pair
 
   -- ---- the invariant after a row that commits nothing, and after one that commits
-  keeps : {g′ : Newest Bytes} (d : Effect) (hg : GivenOk d) → SlotStep m (I .rest .shape) c l hc hl given d hg → PairFits l (d .core .slot) (d .copy)
-      → k .clocks .lts .0 ≤ d .core .clocks .lts .0 → k .clocks .sts .0 ≤ d .core .clocks .sts .0
-      → LineFits z (Stores l) (On l) H (look (applied m c l given d) l) g′ → Inv z H (applied m c l given d)
-  keeps d hg st pr a b this =
-      inv-applied I c l hc hl given d hg H st pr (clocks-applied I c l hc hl given d hg a b) (λ l′ g n f. f) this
+  module _ {d : Effect} (e : Fitting d) (st : SlotStep m c l given d) (pr : Beside l (d .core .slot) (d .copy))
+      (a : Onward (k .clocks) (d .core .clocks)) where
+    keeps : {g′ : Newest LineCell Value} → LineOf z l H (look (next d) l) g′ → Inv z H (next d)
+    keeps this = inv-applied I f q given d (e .bytes) H st pr (clocks-applied I f q given d (e .bytes) a) (λ l′ g n k. k) this
 
-  commits-keeps : {g′ : Newest Bytes} (d : Effect) (hg : GivenOk d) (t : Stamp) (o : Op Bytes)
-      → SlotStep m (I .rest .shape) c l hc hl given d hg → PairFits l (d .core .slot) (d .copy)
-      → k .clocks .lts .0 ≤ d .core .clocks .lts .0 → k .clocks .sts .0 ≤ d .core .clocks .sts .0 → ClockFits o (t .0) (d .core .clocks)
-      → ((l′ : ℕ) → (l′ ≡ l → ⊥) → (x : Bytes) → o ≡ store l′ x → ⊥) → ((l′ : ℕ) → (l′ ≡ l → ⊥) → Touches l′ o → ⊥)
-      → LineFits z (Stores l) (On l) (commitBy p c t o ∷ H) (look (applied m c l given d) l) g′
-      → Inv z (commitBy p c t o ∷ H) (applied m c l given d)
-  commits-keeps d hg t o st pr a b ck nw nt this =
-      inv-applied I c l hc hl given d hg (commitBy p c t o ∷ H) st pr
-      (λ c′. more {e = commitBy p c t o} (λ e. own c′ e) (clocks-applied I c l hc hl given d hg a b c′))
-      (λ l′ g′ n f. quiet z (Stores l′) (On l′) f (commitBy p c t o) (nw l′ n) (λ i. absurd (nt l′ n i)))
-      this
-    where
-      own : (c′ : ℕ) → c ≡ c′ → ClockFits o (t .0) (coreAt (applied m c l given d .state) c′ .clocks)
-      own c′ e = rw (← e, core-at m (I .rest .shape) c l hc hl given d hg) ck
-
-  -- ---- the four spots after a row
-  managerSpot : (d : Effect) (hg : GivenOk d)
-      → look (applied m c l given d) l atManager ≡ viewManager (d .line .manager) (managerAfter (m .state .opening) (m .private) (m .shared) c l given (d .moves))
-  managerSpot d hg = look-manager m (I .rest .shape) c l hc hl given d hg
-
-  writebackSpot : (d : Effect) (hg : GivenOk d)
-      → look (applied m c l given d) l atWriteback ≡ viewWriteback (d .line .writeback) (writebackAfter (m .state .opening) (m .private) (m .shared) c l given (d .moves))
-  writebackSpot d hg = look-writeback m (I .rest .shape) c l hc hl given d hg
-
-  copySpot : (d : Effect) (hg : GivenOk d)
-      → look (applied m c l given d) l (atCopy c) ≡ viewCopy c (d .copy) (copyAfter (m .state .opening) (m .private) (m .shared) c l given (d .moves))
-  copySpot d hg = look-copy m (I .rest .shape) c l hc hl given d hg
-
-  slotSpot : (d : Effect) (hg : GivenOk d)
-      → look (applied m c l given d) l (atSlot c) ≡ viewSlot l (d .core .slot) (answerAfter (m .state .opening) (m .private) (m .shared) c l given (d .moves))
-  slotSpot d hg = look-slot m (I .rest .shape) c l hc hl given d hg
-
-  -- ---- rows that no accepted call has, and ask
-  refused-row : (n : ℕ) → GoodRow (refusedRow n ps)
-  unfolding accepted meaning look
-  refused-row n =
-      let d = refusedRow n ps in
-      keeps d tt (inl (refl, tt)) (pair-at (copyAt (m .state) c l) refl) (omega arith) (omega arith)
-      (none-changes I c l hc hl given d tt (inr (managerSpot d tt)) (inr (writebackSpot d tt)) (inr (copySpot d tt)) (inr (slotSpot d tt)) J)
-
-  asks : (a : Want) → AskFits (heldOf (copyAt (m .state) c l)) (copyAt (m .state) c l) → GoodRow (asking a l ps)
-  unfolding accepted meaning look
-  asks a f =
-      let d = asking a l ps in
-      keeps d tt (inr refl) (λ _. f) (omega arith) (omega arith)
-      (one-changes I c l hc hl given d tt (atSlot c) nothing (slotSpot d tt) (inr (managerSpot d tt)) (inr (writebackSpot d tt)) (inr (copySpot d tt)) (inl refl)
-      (keep z (Stores l) (On l) J (atSlot c) nothing tt))
-
-  -- ---- load
-
-  -- a load by core c at t of the bytes b fits the log
-  fits-load : (t : Stamp) (b : Bytes) → k .clocks .lts .0 ≤ t .0 → OpFits z (load l b) (commitBy p c t (load l b)) H
-      → Fits TsoKeeps z (commitBy p c t (load l b)) H
-  fits-load t b h f = record { inOrder = all-map (λ a i j q. kept-load (a .op) (a .ts .0) (t .0) l b (k .clocks) h (i j) q) (I .rest .clocks c); opFits = f }
-
-  -- a load writes nothing, and touches its own line alone
-  load-still : (b : Bytes) (l′ : ℕ) (x : Bytes) → load l b ≡ store l′ x → ⊥
-  load-still b l′ x e = let n : _≡_ {A = ℕ} 0 1 = cc in omega arith
-
-  module _ (mk : (t : Stamp) (b : Bytes) → commitAt (place p) call given t (load l b) ≡ commitBy p c t (load l b) ∷ [])
-      (cb : commitBytes call given bytes ≡ bytes) where
-    -- the invariant after a load at t that leaves the line's spots fit, t within the newest version's lease
-    load-keeps : {g′ : Newest Bytes} (d : Effect) (hg : GivenOk d) (t : Stamp) → SlotStep m (I .rest .shape) c l hc hl given d hg
-        → PairFits l (d .core .slot) (d .copy) → k .clocks .lts .0 ≤ d .core .clocks .lts .0 → k .clocks .sts .0 ≤ d .core .clocks .sts .0
-        → t .0 ≤ d .core .clocks .lts .0 → t .0 ≤ g′ .r → LineFits z (Stores l) (On l) H (look (applied m c l given d) l) g′
-        → Inv z (commitBy p c t (load l bytes) ∷ H) (applied m c l given d)
-    load-keeps d hg t st pr a b ck h this =
-        commits-keeps d hg t (load l bytes) st pr a b ck (λ l′ n x e. load-still bytes l′ x e) (λ l′ n i. n (sym i))
-        (quiet z (Stores l) (On l) this (commitBy p c t (load l bytes)) (λ x e. load-still bytes l x e) (λ _. h))
-
-    load-shared : (w r : Stamp) → copyAt (m .state) c l ≡ CopyShared w r → k .clocks .lts .0 ≤ r .0 → GoodRow (loadShared c l w ps)
-    unfolding accepted meaning look
-    load-shared w r e h = rw cb (
-      mk t bytes,
-      fits-load t bytes (omega arith)
-          (sees-snapshot z (Stores l) (On l) (t .0) (shared-version c l w r ps) (shared-within c l w r ps (lease .wr) h) lease),
-      load-keeps d tt t (inl (refl, tt)) (pair-at (copyAt (m .state) c l) refl) (omega arith) (omega arith) (omega arith)
-          (omega (arith, shared-within c l w r ps (lease .wr) h, lease .top, J .lr))
-          (none-changes I c l hc hl given d tt (inr (managerSpot d tt)) (inr (writebackSpot d tt)) (inr (copySpot d tt)) (inr (slotSpot d tt)) J),
-    )
+    commits-keeps : {g′ : Newest LineCell Value} (t : Stamp) (x : Op Bytes) → Passed x (t .0) (d .core .clocks)
+        → ((l′ : ℕ) → (l′ ≡ l → ⊥) → (y : Bytes) → x ≡ store l′ y → ⊥) → ((l′ : ℕ) → (l′ ≡ l → ⊥) → Touches l′ x → ⊥)
+        → LineOf z l (commitBy p c t x ∷ H) (look (next d) l) g′ → Inv z (commitBy p c t x ∷ H) (next d)
+    unfolding applied
+    commits-keeps t x ck nw nt this =
+        inv-applied I f q given d (e .bytes) (commitBy p c t x ∷ H) st pr
+        (λ c′. more {e = commitBy p c t x} (λ i. own c′ i) (clocks-applied I f q given d (e .bytes) a c′))
+        (λ l′ g′ n k. quiet z (Writes l′) (On l′) (commitBy p c t x) (λ i. nw l′ n) (λ i. absurd (nt l′ n i)) k)
+        this
       where
-        d : Effect
-        d = loadShared c l w ps
+        own : (c′ : ℕ) → c ≡ c′ → Passed x (t .0) (coreAt (next d .state) c′ .clocks)
+        own c′ i = rw (← i, core-at (I .arrays) q d) ck
 
-        t : Stamp
-        t = later (k .clocks .lts) w
+  -- ---- the line after a row
 
-        lease : Lease z (Stores l) (On l) H g c (w .0) (r .0) bytes
-        lease = at-copy (CopyShared w r) e
+  -- two spots of different kinds
+  apart : {Z Y : Spot} → Z ≡ Y → eqb (kind Z) (kind Y) ≡ false → ⊥
+  apart {Z} {Y} e n = never (sym (eq-eqb (kind Z) (kind Y) (ap kind e)) ∙ n)
 
-    load-dirty : (w r : Stamp) → copyAt (m .state) c l ≡ CopyOwned true w r → GoodRow (loadOwned true c l w r ps)
-    unfolding accepted meaning look loadOwned
-    load-dirty w r e = rw cb (
-      mk t bytes,
-      fits-load t bytes (read-after c l w r ps true) (sees-mine z (Stores l) (On l) c (t .0) (v .1 .0)),
-      load-keeps d tt t (inl (refl, tt)) (pair-owned l (k .slot) w r true (CopyOwned true w r′) (pair-at (CopyOwned true w r) e))
-          (omega arith) (omega arith) (read-clocked c l w r ps true) (read-within c l w r ps true)
-          (one-changes I c l hc hl given d tt (atCopy c) (newest (mine c) (w .0) (r′ .0) bytes) (copySpot d tt)
-          (inr (managerSpot d tt)) (inr (writebackSpot d tt)) (inl refl) (inr (slotSpot d tt))
-          (put-newest z (Stores l) (On l) J (atCopy c) (atCopy c) (mine c) (w .0) (w .0) (r .0) (r′ .0) (g .leased) bytes (v .0) (inl refl)
-          (omega arith) (omega (arith, J .wr, v .0 .isW, v .0 .isR, lease-grows c l w r ps true)) (lease-grows c l w r ps true) (omega arith)
-          (omega (arith, J .lr, v .0 .isR, lease-grows c l w r ps true)) (v .1 .0, omega (arith, v .1 .1, v .0 .isW)))),
-    )
+  module _ {d : Effect} (e : Fitting d) where
+    -- the newest version is where it was; what the row leaves at the four spots agrees with it
+    as-was : Leaves I f q given d (e .bytes) H g → LineOf z l H (look (next d) l) g
+    as-was x = line-applied I f q given d (e .bytes) ok (λ Y _. at Y) x
+
+    -- it goes from Z, one of the four spots, to S, or stays there: its lease grows to r′, and leases are handed out up to t. What is at spots of
+    -- another kind than Z may stay
+    goes : {Z : Spot} {w r : ℕ} {x : LineCell → Value} → Stands g Z w r x → (Elsewhere c Z → ⊥) → (S : Spot) (r′ t : ℕ)
+        → r ≤ r′ → g .leased ≤ t → t ≤ r′
+        → (VersionOf z l H (version S w r′ t x)
+        → ((Y : Spot) → eqb (kind Z) (kind Y) ≡ false → SpotOf z l H (version S w r′ t x) Y (look m l Y))
+        → Leaves I f q given d (e .bytes) H (version S w r′ t x))
+        → LineOf z l H (look (next d) l) (version S w r′ t x)
+    goes {Z} {w} {r} {x} i near S r′ t h₁ h₂ h₃ leaves =
+        let ok′ = goes-to z (Writes l) (On l) ok i S r′ t h₁ h₂ h₃ in
+        line-applied I f q given d (e .bytes) ok′ (λ Y n. stays Y (λ j. near (rw j n))) (leaves ok′ (λ Y n. stays Y (λ j. apart j n)))
       where
-        d : Effect
-        d = loadOwned true c l w r ps
+        stays : (Y : Spot) → (Z ≡ Y → ⊥) → SpotOf z l H (version S w r′ t x) Y (look m l Y)
+        stays Y n = carry z (Writes l) (On l) H g (version S w r′ t x) h₂ Y (look m l Y) (λ j. n (sym (i .isSpot) ∙ j)) (at Y)
 
-        t : Stamp
-        t = k .clocks .lts
+  -- ---- loads
 
-        r′ : Stamp
-        r′ = later r t
+  -- a load writes nothing
+  load-still : (l′ : ℕ) (x : Bytes) → load l bytes ≡ store l′ x → ⊥
+  load-still l′ x e = let n : _≡_ {A = ℕ} 0 1 = cc in omega arith
 
-        v : ContentFits z (Stores l) (On l) H g (atCopy c) (newest (mine c) (w .0) (r .0) bytes)
-        v = at-copy (CopyOwned true w r) e
-
-    load-clean : (w r : Stamp) → copyAt (m .state) c l ≡ CopyOwned false w r → GoodRow (loadOwned false c l w r ps)
-    unfolding accepted meaning look loadOwned
-    load-clean w r e = rw cb (
-      mk t bytes,
-      fits-load t bytes (read-after c l w r ps false)
-          (rw (v .0 .isX) at (sees-clean z (Stores l) (On l) c (t .0) (omega (arith, v .0 .isW, read-version c l w r ps)) J)),
-      load-keeps d tt t (inl (refl, tt)) (pair-owned l (k .slot) w r false (CopyOwned false w r′) (pair-at (CopyOwned false w r) e))
-          (omega arith) (omega arith) (read-clocked c l w r ps false) (read-within c l w r ps false)
-          (one-changes I c l hc hl given d tt (atCopy c) (newest clean (w .0) (r′ .0) bytes) (copySpot d tt)
-          (inr (managerSpot d tt)) (inr (writebackSpot d tt)) (inl refl) (inr (slotSpot d tt))
-          (put-newest z (Stores l) (On l) J (atCopy c) (atCopy c) clean (w .0) (w .0) (r .0) (r′ .0) (g .leased) bytes (v .0) (inl refl)
-          (omega arith) (omega (arith, J .wr, v .0 .isW, v .0 .isR, lease-grows c l w r ps false)) (lease-grows c l w r ps false) (omega arith)
-          (omega (arith, J .lr, v .0 .isR, lease-grows c l w r ps false)) tt)),
-    )
-      where
-        d : Effect
-        d = loadOwned false c l w r ps
-
-        t : Stamp
-        t = later (k .clocks .lts) w
-
-        r′ : Stamp
-        r′ = later r t
-
-        v : ContentFits z (Stores l) (On l) H g (atCopy c) (newest clean (w .0) (r .0) bytes)
-        v = at-copy (CopyOwned false w r) e
-
-    pub load-good : (v : Copy) → copyAt (m .state) c l ≡ v → GoodRow (loadTable v c l ps)
-    unfolding loadTable
-    load-good NoCopy e = asks WantLoad (rw e tt)
-    load-good (CopyOwned true w r) e = load-dirty w r e
-    load-good (CopyOwned false w r) e = load-clean w r e
-    load-good (CopyShared w r) e = go (leb (k .clocks .lts .0) (r .0)) refl
-      where
-        go : (b : Bool) → leb (k .clocks .lts .0) (r .0) ≡ b → GoodRow (pick b (loadShared c l w ps) (asking WantLoad l ps))
-        go true q = load-shared w r e (leb-true (k .clocks .lts .0) (r .0) q)
-        go false q = asks WantLoad (rw e refl)
-
-  -- ---- store
-
-  store-owned : (w r : Stamp) (b : Bool) → copyAt (m .state) c l ≡ CopyOwned b w r → length given ≡ m .state .opening .width
-      → ((t : Stamp) → commitAt (place p) call given t (store l given) ≡ commitBy p c t (store l given) ∷ []) → commitBytes call given bytes ≡ given
-      → GoodRow (storeTable (CopyOwned b w r) c l ps)
-  unfolding accepted meaning look storeTable
-  store-owned w r b e n mk cb = rw cb (
-    mk t,
+  -- a load by core c at t of the copy's bytes extends the log if they are those to be read, and keeps the invariant if t is within the lease
+  -- that the newest version has after it
+  loads : {g′ : Newest LineCell Value} {d : Effect} → Fitting d → (t : Stamp) → k .clocks .lts .0 ≤ t .0
+      → ((i : LineCell) → Reading z (Writes l i) c (t .0) H (cells bytes i)) → SlotStep m c l given d → Beside l (d .core .slot) (d .copy)
+      → Onward (k .clocks) (d .core .clocks) → t .0 ≤ d .core .clocks .lts .0 → t .0 ≤ g′ .r
+      → LineOf z l H (look (next d) l) g′ → Good z p H (Load c l) given (commit c t (load l bytes)) (next d)
+  loads fit t h s st pr a ck w this = (
+    refl,
     record {
-      inOrder = all-map (λ a i j q. kept-all (a .op) (a .ts .0) (t .0) (k .clocks) (store-after-loads c l w r ps b) (store-after-stores c l w r ps b) (i j)) (I .rest .clocks c);
-      opFits = all-map (λ a f q. omega (arith, f q, v .isR, store-past c l w r ps b)) (J .top);
+      inOrder = all-map (λ x i j e. kept-load (x .op) (x .ts .0) (t .0) l bytes (k .clocks) h (i j) e) (I .clocks c);
+      sees = seen;
+      above = λ l′ x e. absurd (load-still l′ x e);
     },
-    commits-keeps d n t (store l given) (inl (refl, tt)) (pair-owned l (k .slot) w r b (CopyOwned true t t) (pair-at (CopyOwned b w r) e))
-        (omega arith) (store-after-stores c l w r ps b) (omega arith) (λ l′ i x q. i (cc)) (λ l′ i q. i (sym q))
-        (one-changes I c l hc hl given d n {g = record { spot = atCopy c; w = t .0; r = t .0; leased = g .leased; x = given }} (atCopy c) (newest (mine c) (t .0) (t .0) given) (copySpot d n)
-        (inr (managerSpot d n)) (inr (writebackSpot d n)) (inl refl) (inr (slotSpot d n))
-        (write z (Stores l) (On l) J (commitBy p c t (store l given)) given refl (v .isSpot)
-        (omega (arith, v .isR, J .lr, store-past c l w r ps b)) (omega (arith, v .isR, store-past c l w r ps b)) (owner-slot w r b e))),
+    commits-keeps fit st pr a t (load l bytes) ck (λ l′ n x e. load-still l′ x e) (λ l′ n i. n (sym i))
+        (quiet z (Writes l) (On l) (commitBy p c t (load l bytes)) (λ i x e. load-still l x e) (λ _. w) this),
   )
     where
-      d : Effect
-      d = storeTable (CopyOwned b w r) c l ps
+      seen : (l′ : ℕ) (x : Bytes) → load l bytes ≡ load l′ x → Reading z (Stores l′) c (t .0) H x
+      seen l′ x e =
+          let a : l′ ≡ l = cc in
+          let b : x ≡ bytes = cc in
+          rw (a, b) (s tt)
 
+  -- the marks of an owner's copy stay while its lease alone grows
+  same-marks : (b : Bool) {w r : Stamp} (r′ : ℕ) → SpotOf z l H g (atCopy c) (newest (marks c b) (w .0) (r .0) (cells bytes))
+      → MarksAgree z (Writes l) (On l) H (version (atCopy c) (w .0) r′ (g .leased) (cells bytes)) (cells bytes) (marks c b)
+  same-marks b r′ v =
+      marks-stay z (Writes l) (On l) H g (version (atCopy c) _ r′ (g .leased) (cells bytes)) (cells bytes) (marks c b) refl (sym (v .0 .isW)) (v .1)
+
+  -- ---- stores
+
+  -- what loads from or stores to line l is on it
+  on-line : (l′ : ℕ) (a : Commit Bytes) (y : Bytes) → l′ ≡ l → Loads l′ a y ⊎ Stores l′ a y → On l a
+  on-line l′ a y i (inl e) = rw e i
+  on-line l′ a y i (inr e) = rw e i
+
+  -- ---- writebacks
+
+  -- an owner's version goes to the writeback, with its bytes and its whole lease; u is what its copy becomes
+  writes-back : (a : Answer) (v : Move) (w r r′ : Stamp) (b : Bool) (u : Copy) (t : ℕ) → Fitting (row a MoveWriteback k u (writtenBack (lineAt (m .state) l) w r′))
+      → copyAt (m .state) c l ≡ CopyOwned b w r → v ≡ MoveWriteback → r .0 ≤ r′ .0 → g .leased ≤ t → t ≤ r′ .0
+      → (VersionOf z l H (version atWriteback (w .0) (r′ .0) t (cells bytes))
+      → SpotOf z l H (version atWriteback (w .0) (r′ .0) t (cells bytes)) (atCopy c) (viewCopy c u bytes))
+      → Inv z H (next (row a v k u (writtenBack (lineAt (m .state) l) w r′)))
+  unfolding look
+  writes-back a v w r r′ b u t fit e i h₁ h₂ h₃ copy = rw i
+      (keeps fit (inl (refl, tt)) (λ s. absurd (owner-silent e s)) (omega arith)
+      (goes fit (at-copy (CopyOwned b w r) e .0) (λ n. n refl) atWriteback (r′ .0) t h₁ h₂ h₃
+      (λ ok′ stay. (stay atManager refl, (here, λ j. tt), copy ok′, stay (atSlot c) refl))))
+
+  -- ---- the rows
+
+  row-good : {call : Call} {d : Effect} → Row c l ps o call d → Fitting d → GoodRow call d
+  unfolding accepted meaning look loadOwned storeTable fenceTable advanceTable evictTable serveAsked serveLoad receiveGrant receiveRenew yieldTable takeTable
+  row-good (asks-load e i) fit =
+      keeps fit (inr (λ l′ n. sym n)) (λ _. ask-beside WantLoad l (k .clocks .lts) (copyAt (m .state) c l) i) (omega arith)
+      (as-was fit (at atManager, at atWriteback, at (atCopy c), tt))
+  row-good (asks-store e i) fit =
+      keeps fit (inr (λ l′ n. sym n)) (λ _. ask-beside WantStore l (k .clocks .lts) (copyAt (m .state) c l) i) (omega arith)
+      (as-was fit (at atManager, at atWriteback, at (atCopy c), tt))
+  row-good (reads-shared {w = w} {r = r} e h) fit =
+      let lease = at-copy (CopyShared w r) e in
+      let t = shared-within c l w r ps (lease .wr) h in
+      loads fit (later (k .clocks .lts) w) (omega arith)
+      (reads-snapshot z (Writes l) (On l) (later (k .clocks .lts) w .0) (shared-version c l w r ps) t lease)
+      (inl (refl, tt)) pair (omega arith) (omega arith) (omega (arith, t, lease .top, ok .lr))
+      (as-was fit (at atManager, at atWriteback, at (atCopy c), at (atSlot c)))
+  row-good (reads-dirty {w = w} {r = r} e) fit =
+      let t = k .clocks .lts in
+      let v = at-copy (CopyOwned true w r) e in
+      let h = lease-grows c l w r ps true in
+      loads fit t (read-after c l w r ps true) (λ i. reads-mine z (Writes l) (On l) c (t .0) (v .1 i .0))
+      (inl (refl, tt)) (λ s. absurd (owner-silent e s)) (omega arith) (read-clocked c l w r ps true) (read-within c l w r ps true)
+      (goes fit (v .0) (λ n. n refl) (atCopy c) (later r t .0) (g .leased) h (omega arith) (omega (arith, ok .lr, v .0 .isR, h))
+      (λ ok′ stay. (stay atManager refl, stay atWriteback refl, (here, same-marks true (later r t .0) v), stay (atSlot c) refl)))
+  row-good (reads-clean {w = w} {r = r} e) fit =
+      let t = later (k .clocks .lts) w in
+      let v = at-copy (CopyOwned false w r) e in
+      let h = lease-grows c l w r ps false in
+      loads fit t (read-after c l w r ps false)
+      (λ i. rw (v .0 .isX i) at (reads-newest z (Writes l) (On l) {H = H} {g = g} c (t .0) (omega (arith, v .0 .isW, read-version c l w r ps)) ok i))
+      (inl (refl, tt)) (λ s. absurd (owner-silent e s)) (omega arith) (read-clocked c l w r ps false) (read-within c l w r ps false)
+      (goes fit (v .0) (λ n. n refl) (atCopy c) (later r t .0) (g .leased) h (omega arith) (omega (arith, ok .lr, v .0 .isR, h))
+      (λ ok′ stay. (stay atManager refl, stay atWriteback refl, (here, same-marks false (later r t .0) v), stay (atSlot c) refl)))
+  row-good (writes {d = b} {w = w} {r = r} e h) fit = (
+    refl,
+    record {
+      inOrder = all-map (λ a i j y. kept-all (a .op) (a .ts .0) (t .0) (k .clocks) (store-after-loads c l w r ps b) (store-after-stores c l w r ps b) (i j)) (I .clocks c);
+      sees = λ l′ y i. absurd (let n : _≡_ {A = ℕ} 0 1 = cc in omega arith);
+      above = λ l′ y i. all-map (λ a j u n. omega (arith, j (on-line l′ a u (cc) n), v .isR, store-past c l w r ps b)) (ok .top);
+    },
+    commits-keeps fit (inl (refl, tt)) (λ s. absurd (owner-silent e s)) (omega arith, store-after-stores c l w r ps b) t (store l given) (omega arith)
+        (λ l′ n y i. n (cc)) (λ l′ n i. n (sym i))
+        (line-applied I f q given (storeTable (CopyOwned b w r) c l ps) (fit .bytes) (write-version z (Writes l) (On l) ok x (cells given) (marks c true) all h₁ h₂)
+        (λ Y n. stay Y (λ i. (rw (← i) at n) refl) (not-here c Y n)) (
+          stay atManager (λ i. apart i refl) (λ i. i),
+          stay atWriteback (λ i. apart i refl) (λ i. i),
+          (here, write-marks z (Writes l) (On l) ok x (cells given) (marks c true) all h₁ h₂),
+          rw (view-none l (k .slot) (answerBytes o (m .shared) c) (owner-silent e)) tt,
+        )),
+  )
+    where
       t : Stamp
       t = storeTime (k .clocks) (earliest r)
 
-      v : Stands g (atCopy c) (w .0) (r .0) bytes
-      v = owned-stands w r b e
+      x : Commit Bytes
+      x = commitBy p c t (store l given)
 
-  pub store-good : (v : Copy) → copyAt (m .state) c l ≡ v → length given ≡ m .state .opening .width
-      → ((t : Stamp) → commitAt (place p) call given t (store l given) ≡ commitBy p c t (store l given) ∷ []) → commitBytes call given bytes ≡ given
-      → GoodRow (storeTable v c l ps)
-  unfolding storeTable
-  store-good (CopyOwned b w r) e n mk cb = store-owned w r b e n mk cb
-  store-good NoCopy e n mk cb = asks WantStore (rw e tt)
-  store-good (CopyShared w r) e n mk cb = asks WantStore (rw e refl)
+      v : Stands g (atCopy c) (w .0) (r .0) (cells bytes)
+      v = at-copy (CopyOwned b w r) e .0
 
-  -- ---- fence and advance
+      h₁ : g .leased < t .0
+      h₁ = omega (arith, v .isR, ok .lr, store-past c l w r ps b)
 
-  pub fence-good : ((t : Stamp) → commitAt (place p) call given t fence ≡ commitBy p c t fence ∷ []) → GoodRow (fenceTable c ps)
-  unfolding accepted meaning look fenceTable
-  fence-good mk = (
-    mk t,
+      h₂ : g .r ≤ t .0
+      h₂ = omega (arith, v .isR, store-past c l w r ps b)
+
+      -- it writes every cell
+      all : (i : LineCell) → Written z (Writes l) (On l) H g x i given (mine c)
+      all i = inl (refl, refl)
+
+      stay : (Y : Spot) → (atCopy c ≡ Y → ⊥) → (HeldBy Y (λ b. b ≡ c) → ⊥)
+          → SpotOf z l (x ∷ H) (version (atCopy c) (t .0) (t .0) (g .leased) (cells given)) Y (look m l Y)
+      stay Y n i =
+          write-past z (Writes l) (On l) ok x (cells given) (marks c true) all h₁ h₂ Y (look m l Y) (λ e. n (sym (v .isSpot) ∙ e)) i (at Y)
+  row-good fences fit = (
+    refl,
     record {
-      inOrder = all-map (λ a i j q. kept-all (a .op) (a .ts .0) (t .0) (k .clocks) (omega arith) (omega arith) (i j)) (I .rest .clocks c);
-      opFits = tt;
+      inOrder = all-map (λ x i j e. kept-all (x .op) (x .ts .0) (t .0) (k .clocks) (omega arith) (omega arith) (i j)) (I .clocks c);
+      sees = λ l′ x e. absurd (let n : _≡_ {A = ℕ} 0 1 = cc in omega arith);
+      above = λ l′ x e. absurd (still l′ x e);
     },
-    commits-keeps d tt t fence (inl (refl, tt)) (pair-at (copyAt (m .state) c l) refl) (omega arith) (omega arith) (omega arith)
-        (λ l′ n x e. still l′ x e) (λ l′ n i. i)
-        (quiet z (Stores l) (On l)
-        (none-changes I c l hc hl given d tt (inr (managerSpot d tt)) (inr (writebackSpot d tt)) (inr (copySpot d tt)) (inr (slotSpot d tt)) J)
-        (commitBy p c t fence) (λ x e. still l x e) (λ i. absurd i)),
+    commits-keeps fit (inl (refl, tt)) pair (omega arith) t fence (omega arith) (λ l′ n x e. still l′ x e) (λ l′ n i. i)
+        (quiet z (Writes l) (On l) (commitBy p c t fence) (λ i x e. still l x e) (λ i. absurd i)
+        (as-was fit (at atManager, at atWriteback, at (atCopy c), at (atSlot c)))),
   )
     where
-      d : Effect
-      d = fenceTable c ps
-
       t : Stamp
       t = later (k .clocks .lts) (k .clocks .sts)
 
       still : (l′ : ℕ) (x : Bytes) → fence ≡ store l′ x → ⊥
       still l′ x e = let n : _≡_ {A = ℕ} 0 1 = cc in omega arith
-
-  pub advance-good : (by : ℕ) → GoodRow (advanceTable by ps)
-  unfolding accepted meaning look advanceTable
-  advance-good by =
-      let d = advanceTable by ps in
-      keeps d tt (inl (refl, tt)) (pair-at (copyAt (m .state) c l) refl) (omega arith) (omega arith)
-      (none-changes I c l hc hl given d tt (inr (managerSpot d tt)) (inr (writebackSpot d tt)) (inr (copySpot d tt)) (inr (slotSpot d tt)) J)
-
-  -- ---- evict and yield
-
-  -- an owner's version goes to the writeback, with its bytes and its whole lease; u is what its copy becomes
-  writes-back : {g′ : Newest Bytes} (a : Answer) (v : Move) (w r r′ : Stamp) (u : Copy) → v ≡ MoveWriteback → r .0 ≤ r′ .0 → PairFits l (k .slot) u
-      → NotNewest (viewCopy c u bytes) → Stands g′ (atCopy c) (w .0) (r .0) bytes
-      → LineFits z (Stores l) (On l) H (put (atCopy c) (viewCopy c u bytes) (look m l)) g′
-      → Inv z H (applied m c l given (row a v k u (writtenBack (lineAt (m .state) l) w r′)))
-  unfolding look
-  writes-back a v w r r′ u q h pr n i K = rw q
-      (keeps d tt (inl (refl, tt)) pr (omega arith) (omega arith)
-      (two-change I c l hc hl given d tt (atCopy c) atWriteback (viewCopy c u bytes) (newest clean (w .0) (r′ .0) bytes) (copySpot d tt) (writebackSpot d tt)
-      (inr (managerSpot d tt)) (inl (inr refl)) (inl (inl refl)) (inr (slotSpot d tt))
-      (move z (Stores l) (On l) K (atCopy c) atWriteback (w .0) (r .0) (r′ .0) bytes i
-      (put-at NotNewest (atCopy c) (viewCopy c u bytes) (look m l) n) h)))
+  row-good (advances h) fit =
+      keeps fit (inl (refl, tt)) pair (omega arith) (as-was fit (at atManager, at atWriteback, at (atCopy c), at (atSlot c)))
+  row-good (evicts-shared e) fit =
+      keeps fit (inl (refl, tt)) (λ _. tt) (omega arith) (as-was fit (at atManager, at atWriteback, tt, at (atSlot c)))
+  row-good (evicts-owned {d = b} {w = w} {r = r} e) fit =
+      writes-back (Done Evicted) (evictTable (CopyOwned b w r) ps .moves) w r r b NoCopy (g .leased) fit e (evict-moves w r b ps) (evict-lease w r b ps)
+      (omega arith) (omega (arith, ok .lr, at-copy (CopyOwned b w r) e .0 .isR)) (λ _. tt)
+  row-good (recalls e i) fit =
+      keeps fit (inl (refl, tt)) pair (omega arith) (as-was fit (at atManager, at atWriteback, at (atCopy c), at (atSlot c)))
+  row-good (renews {t = t} {h = y} {w = w} {r = r} e i v h) fit =
+      let r′ = leasedTo r t (o .lease) in
+      let n = manager-grows l w r t (o .lease) ps true in
+      let u = at-manager (Shared w r) i .0 in
+      keeps fit (inr (λ l′ n. sym n)) (λ _. renewal-beside WantLoad l t y w r′ (copyAt (m .state) c l) (same-version y w v) (asked e)) (omega arith)
+      (goes fit u (λ n. n) atManager (r′ .0) (r′ .0) n (omega (arith, ok .lr, u .isR, n)) (omega arith)
+      (λ ok′ stay. (
+        (here, λ j. tt),
+        stay atWriteback refl,
+        stay (atCopy c) refl,
+        rw (view-at l GrantRenew w r′ (answerBytes o (m .shared) c)) (cells line, lease-of z (Writes l) (On l) c (grant-within l w r′ ps true) ok′),
+      )))
+  row-good (shares {t = t} {h = y} {w = w} {r = r} e i v h) fit =
+      let r′ = leasedTo r t (o .lease) in
+      let n = manager-grows l w r t (o .lease) ps false in
+      let u = at-manager (Shared w r) i .0 in
+      keeps fit (inr (λ l′ n. sym n)) (λ _. share-beside WantLoad l t y w r′ (copyAt (m .state) c l) (asked e)) (omega arith)
+      (goes fit u (λ n. n) atManager (r′ .0) (r′ .0) n (omega (arith, ok .lr, u .isR, n)) (omega arith)
+      (λ ok′ stay. (
+        (here, λ j. tt),
+        stay atWriteback refl,
+        stay (atCopy c) refl,
+        rw (view-at l GrantShare w r′ line) (lease-of z (Writes l) (On l) c (grant-within l w r′ ps false) ok′),
+      )))
+  row-good (grants {t = t} {h = y} {w = w} {r = r} e i) fit =
+      let u = at-manager (Shared w r) i .0 in
+      keeps fit (inr (λ l′ n. sym n)) (λ _. own-beside WantStore l t y w r (copyAt (m .state) c l) (asked e)) (omega arith)
+      (goes fit u (λ n. n) (atSlot c) (r .0) (g .leased) (omega arith) (omega arith) (omega (arith, ok .lr, u .isR))
+      (λ ok′ stay. (tt, stay atWriteback refl, stay (atCopy c) refl, rw (view-at l GrantOwn w r line) (here, λ j. tt))))
+  row-good (gets-share {w = w} {r = r} e) fit =
+      keeps fit (inr (λ l′ n. absurd n)) (λ n. absurd n) (omega arith) (as-was fit (at atManager, at atWriteback, at-slot GrantShare w r e, tt))
+  row-good (gets-own {w = w} {r = r} e) fit =
+      let u = at-slot GrantOwn w r e .0 in
+      keeps fit (inr (λ l′ n. absurd n)) (λ n. absurd n) (omega arith)
+      (goes fit u (λ n. n refl) (atCopy c) (r .0) (g .leased) (omega arith) (omega arith) (omega (arith, ok .lr, u .isR))
+      (λ ok′ stay. (stay atManager refl, stay atWriteback refl, (here, λ j. tt), tt)))
+  row-good (gets-renewal {w = w} {r = r} {v = w₁} {q = r₁} e i) fit =
+      let j : w ≡ w₁ = (rw (e, i) at pair) refl in
+      let y = at-slot GrantRenew w r e in
+      keeps fit (inr (λ l′ n. absurd n)) (λ n. absurd n) (omega arith)
+      (as-was fit (
+        at atManager,
+        at atWriteback,
+        lease-renewed z (Writes l) (On l) (λ i e x y p q. cc) (ap (λ (s : Stamp). s .0) j) (at-copy (CopyShared w₁ r₁) i) (y .1),
+        tt,
+      ))
+  row-good (drops-none e i) fit =
+      keeps fit (inr (λ l′ n. absurd n)) (λ n. absurd n) (omega arith) (as-was fit (at atManager, at atWriteback, at (atCopy c), tt))
+  row-good (drops-owned e i) fit =
+      keeps fit (inr (λ l′ n. absurd n)) (λ n. absurd n) (omega arith) (as-was fit (at atManager, at atWriteback, at (atCopy c), tt))
+  row-good (yields {d = b} {w = w} {r = r} e i h) fit = go (lineAt (m .state) l .recall)
     where
-      d : Effect
-      d = row a MoveWriteback k u (writtenBack (lineAt (m .state) l) w r′)
+      v : Stands g (atCopy c) (w .0) (r .0) (cells bytes)
+      v = at-copy (CopyOwned b w r) e .0
 
-  pub evict-good : (v : Copy) → copyAt (m .state) c l ≡ v → GoodRow (evictTable v ps)
-  unfolding accepted meaning look evictTable
-  evict-good NoCopy e = refused-row 26
-  evict-good (CopyShared w r) e =
-      let d = evictTable (CopyShared w r) ps in
-      keeps d tt (inl (refl, tt)) (pair-none l (k .slot)) (omega arith) (omega arith)
-      (one-changes I c l hc hl given d tt (atCopy c) nothing (copySpot d tt) (inr (managerSpot d tt)) (inr (writebackSpot d tt)) (inl refl) (inr (slotSpot d tt))
-      (keep z (Stores l) (On l) J (atCopy c) nothing tt))
-  evict-good (CopyOwned b w r) e =
-      writes-back (Done Evicted) (evictTable (CopyOwned b w r) ps .moves) w r r NoCopy (evict-moves w r b ps) (evict-lease w r b ps)
-      (pair-none l (k .slot)) tt (owned-stands w r b e) (keep z (Stores l) (On l) J (atCopy c) nothing tt)
+      yields-to : (u : Copy) (t : ℕ) → g .leased ≤ t → t ≤ r .0
+          → (VersionOf z l H (version atWriteback (w .0) (r .0) t (cells bytes))
+          → SpotOf z l H (version atWriteback (w .0) (r .0) t (cells bytes)) (atCopy c) (viewCopy c u bytes))
+          → Inv z H (next (row (Done Yielded) MoveWriteback k u (writtenBack (lineAt (m .state) l) w r)))
+      yields-to u t h₁ h₂ copy =
+          writes-back (Done Yielded) (yieldTable (CopyOwned b w r) ps .moves) w r r b u t (record { slot = fit .slot; owner = fit .owner; bytes = fit .bytes }) e (yield-moves w r b ps) (yield-lease w r b ps) h₁ h₂ copy
 
-  pub yield-good : (v : Copy) → copyAt (m .state) c l ≡ v → GoodRow (yieldTable v ps)
-  unfolding accepted meaning look yieldTable
-  yield-good NoCopy e = refused-row 24
-  yield-good (CopyShared w r) e = refused-row 24
-  yield-good (CopyOwned b w r) e = go (lineAt (m .state) l .recall)
-    where
-      i : Stands g (atCopy c) (w .0) (r .0) bytes
-      i = owned-stands w r b e
+      go : (x : Recall) → Inv z H (next (row (Done Yielded) MoveWriteback k (yielded x w r) (writtenBack (lineAt (m .state) l) w r)))
+      go NoRecall = yields-to NoCopy (g .leased) (omega arith) (omega (arith, ok .lr, v .isR)) (λ _. tt)
+      go Flush = yields-to NoCopy (g .leased) (omega arith) (omega (arith, ok .lr, v .isR)) (λ _. tt)
+      go Downgrade = yields-to (CopyShared w r) (r .0) (omega (arith, ok .lr, v .isR)) (omega arith) (lease-of z (Writes l) (On l) c (omega arith))
+  row-good (takes {w = w} {r = r} e) fit =
+      let u = at-writeback (Flight w r) e .0 in
+      keeps fit (inl (refl, tt)) pair (omega arith)
+      (goes fit u (λ n. n) atManager (r .0) (g .leased) (omega arith) (omega arith) (omega (arith, ok .lr, u .isR))
+      (λ ok′ stay. ((here, λ j. tt), tt, stay (atCopy c) refl, stay (atSlot c) refl)))
 
-      yields : {g′ : Newest Bytes} (u : Copy) → PairFits l (k .slot) u → NotNewest (viewCopy c u bytes) → Stands g′ (atCopy c) (w .0) (r .0) bytes
-          → LineFits z (Stores l) (On l) H (put (atCopy c) (viewCopy c u bytes) (look m l)) g′
-          → Inv z H (applied m c l given (row (Done Yielded) MoveWriteback k u (writtenBack (lineAt (m .state) l) w r)))
-      yields u pr n j K =
-          writes-back (Done Yielded) (yieldTable (CopyOwned b w r) ps .moves) w r r u (yield-moves w r b ps) (yield-lease w r b ps) pr n j K
-
-      flushed : Inv z H (applied m c l given (row (Done Yielded) MoveWriteback k NoCopy (writtenBack (lineAt (m .state) l) w r)))
-      flushed = yields NoCopy (pair-none l (k .slot)) tt i (keep z (Stores l) (On l) J (atCopy c) nothing tt)
-
-      go : (q : Recall) → Inv z H (applied m c l given (row (Done Yielded) MoveWriteback k (yielded q w r) (writtenBack (lineAt (m .state) l) w r)))
-      go NoRecall = flushed
-      go Flush = flushed
-      go Downgrade =
-          yields (CopyShared w r) (pair-owned l (k .slot) w r b (CopyShared w r) (pair-at (CopyOwned b w r) e)) tt
-          (record { isSpot = i .isSpot; isW = i .isW; isR = i .isR; isX = i .isX }) (demote z (Stores l) (On l) J c (w .0) (r .0) bytes i)
-
-  -- ---- take
-
-  pub take-good : (v : Writeback) → lineAt (m .state) l .writeback ≡ v → GoodRow (takeTable v ps)
-  unfolding accepted meaning look takeTable
-  take-good NoWriteback e = refused-row 25
-  take-good (Flight w r) e =
-      let d = takeTable (Flight w r) ps in
-      let b = writebackBytes (m .state .opening) (m .shared) l in
-      keeps d tt (inl (refl, tt)) (pair-at (copyAt (m .state) c l) refl) (omega arith) (omega arith)
-      (two-change I c l hc hl given d tt atWriteback atManager nothing (newest clean (w .0) (r .0) b) (writebackSpot d tt) (managerSpot d tt)
-      (inl (inr refl)) (inl (inl refl)) (inr (copySpot d tt)) (inr (slotSpot d tt))
-      (move z (Stores l) (On l) (keep z (Stores l) (On l) J atWriteback nothing tt) atWriteback atManager (w .0) (r .0) (r .0) b (at-writeback (Flight w r) e .0)
-      (put-at NotNewest atWriteback nothing (look m l) tt) (omega arith)))
-
-  -- ---- serve
-
-  -- a request that speaks of line l, so its core's copy of it is not owned
-  module _ (a : Want) (t : Stamp) (h : Held) (e : k .slot ≡ Asked a l t h) where
-    abbrev line : Bytes
-    line = managerBytes (m .state .opening) (m .shared) l
-
-    asked-fits : AskFits h (copyAt (m .state) c l)
-    asked-fits = (rw e at (I .rest .pairs c l hl)) refl
-
-    -- the manager's version with its lease up to r′, all of it handed out
-    leased : (w r r′ : Stamp) → lineAt (m .state) l .manager ≡ Shared w r → r .0 ≤ r′ .0
-        → LineFits z (Stores l) (On l) H (put atManager (newest clean (w .0) (r′ .0) line) (look m l))
-        (record { spot = atManager; w = w .0; r = r′ .0; leased = r′ .0; x = line })
-    leased w r r′ i n =
-        let v = at-manager (Shared w r) i .0 in
-        put-newest z (Stores l) (On l) J atManager atManager clean (w .0) (w .0) (r .0) (r′ .0) (r′ .0) line v (inl refl)
-        (omega arith) (omega (arith, J .wr, v .isW, v .isR)) n (omega (arith, J .lr, v .isR)) (omega arith) tt
-
-    serve-renew : (w r r′ : Stamp) → lineAt (m .state) l .manager ≡ Shared w r → r .0 ≤ r′ .0 → h ≡ Version w → GoodRow (serveLoad true l w r′ ps)
-    unfolding accepted meaning look serveLoad
-    serve-renew w r r′ i n q =
-        let d = serveLoad true l w r′ ps in
-        let K = leased w r r′ i n in
-        keeps d tt (inr refl) (λ _. rw q at asked-fits) (omega arith) (omega arith)
-        (two-change I c l hc hl given d tt atManager (atSlot c) (newest clean (w .0) (r′ .0) line) (renewal (w .0) (r′ .0))
-        (managerSpot d tt) (slotSpot d tt ∙ view-at l GrantRenew w r′ (answerBytes (m .state .opening) (m .shared) c))
-        (inl (inl refl)) (inr (writebackSpot d tt)) (inr (copySpot d tt)) (inl (inr refl))
-        (keep z (Stores l) (On l) K (atSlot c) (renewal (w .0) (r′ .0)) (line, lease-of z (Stores l) (On l) c (grant-within l w r′ ps true) K)))
-
-    serve-share : (w r r′ : Stamp) → lineAt (m .state) l .manager ≡ Shared w r → r .0 ≤ r′ .0 → GoodRow (serveLoad false l w r′ ps)
-    unfolding accepted meaning look serveLoad
-    serve-share w r r′ i n =
-        let d = serveLoad false l w r′ ps in
-        let K = leased w r r′ i n in
-        keeps d tt (inr refl) (λ _. ask-not-owned h (copyAt (m .state) c l) asked-fits) (omega arith) (omega arith)
-        (two-change I c l hc hl given d tt atManager (atSlot c) (newest clean (w .0) (r′ .0) line) (snapshot (w .0) (r′ .0) line)
-        (managerSpot d tt) (slotSpot d tt ∙ view-at l GrantShare w r′ line)
-        (inl (inl refl)) (inr (writebackSpot d tt)) (inr (copySpot d tt)) (inl (inr refl))
-        (keep z (Stores l) (On l) K (atSlot c) (snapshot (w .0) (r′ .0) line) (lease-of z (Stores l) (On l) c (grant-within l w r′ ps false) K)))
-
-    serve-own : (w r : Stamp) → lineAt (m .state) l .manager ≡ Shared w r
-        → GoodRow (row (Done Own) MoveAnswer (slotted k (Answered GrantOwn l w r)) (copyAt (m .state) c l) (managed (lineAt (m .state) l) (Owned c)))
-    unfolding accepted meaning look
-    serve-own w r i =
-        let d = row (Done Own) MoveAnswer (slotted k (Answered GrantOwn l w r)) (copyAt (m .state) c l) (managed (lineAt (m .state) l) (Owned c)) in
-        keeps d tt (inr refl) (λ _. ask-not-owned h (copyAt (m .state) c l) asked-fits) (omega arith) (omega arith)
-        (two-change I c l hc hl given d tt atManager (atSlot c) nothing (newest clean (w .0) (r .0) line)
-        (managerSpot d tt) (slotSpot d tt ∙ view-at l GrantOwn w r line)
-        (inl (inl refl)) (inr (writebackSpot d tt)) (inr (copySpot d tt)) (inl (inr refl))
-        (move z (Stores l) (On l) (keep z (Stores l) (On l) J atManager nothing tt) atManager (atSlot c) (w .0) (r .0) (r .0) line (at-manager (Shared w r) i .0)
-        (put-at NotNewest atManager nothing (look m l) tt) (omega arith)))
-
-    serve-recall : (b : ℕ) → lineAt (m .state) l .manager ≡ Owned b → (o : Opening) → GoodRow (serveAsked (Owned b) a c l t h ps o)
-    unfolding accepted meaning look serveAsked
-    serve-recall b i o =
-        let d = serveAsked (Owned b) a c l t h ps o in
-        keeps d tt (inl (refl, tt)) (pair-at (copyAt (m .state) c l) refl) (omega arith) (omega arith)
-        (none-changes I c l hc hl given d tt (inr (managerSpot d tt)) (inr (writebackSpot d tt)) (inr (copySpot d tt)) (inr (slotSpot d tt)) J)
-
-  serve-line : (v : Manager) (a : Want) (t : Stamp) (h : Held) (o : Opening) → lineAt (m .state) l .manager ≡ v → k .slot ≡ Asked a l t h
-      → GoodRow (serveAsked v a c l t h ps o)
-  unfolding serveAsked serveLoad
-  serve-line (Owned b) a t h o i e = serve-recall a t h e b i o
-  serve-line (Shared w r) WantStore t h o i e = serve-own WantStore t h e w r i
-  serve-line (Shared w r) WantLoad t h o i e = go (sameVersion h w) refl
-    where
-      go : (b : Bool) → sameVersion h w ≡ b → GoodRow (serveLoad b l w (leasedTo r t (o .lease)) ps)
-      go true q = serve-renew WantLoad t h e w r (leasedTo r t (o .lease)) i (manager-grows l w r t (o .lease) ps true) (same-version h w q)
-      go false q = serve-share WantLoad t h e w r (leasedTo r t (o .lease)) i (manager-grows l w r t (o .lease) ps false)
-
-  pub serve-good : (v : Slot) (o : Opening) → k .slot ≡ v → slotLine v ≡ l → GoodRow (serveTable v c ps o)
-  unfolding serveTable
-  serve-good Empty o e q = refused-row 21
-  serve-good (Answered y n w r) o e q = refused-row 21
-  serve-good (Asked a n t h) o e q = rw q (serve-line (lineAt (m .state) l .manager) a t h o refl (rw q at e))
-
-  -- ---- receive
-
-  -- a renewal that finds no shared copy
-  dropped : (w r : Stamp) (d : Effect) → d ≡ row (Done Drop) Still (slotted k Empty) (copyAt (m .state) c l) (lineAt (m .state) l)
-      → GoodRow d
-  unfolding accepted meaning look
-  dropped w r d q = rw q
-      (keeps d′ tt (inr tt) tt (omega arith) (omega arith)
-      (one-changes I c l hc hl given d′ tt (atSlot c) nothing (slotSpot d′ tt) (inr (managerSpot d′ tt)) (inr (writebackSpot d′ tt)) (inr (copySpot d′ tt)) (inl refl)
-      (keep z (Stores l) (On l) J (atSlot c) nothing tt)))
-    where
-      d′ : Effect
-      d′ = row (Done Drop) Still (slotted k Empty) (copyAt (m .state) c l) (lineAt (m .state) l)
-
-  receive-renew : (v : Copy) (w r : Stamp) → copyAt (m .state) c l ≡ v → k .slot ≡ Answered GrantRenew l w r → GoodRow (receiveRenew v r ps)
-  unfolding accepted meaning look receiveRenew
-  receive-renew NoCopy w r i e = dropped w r (receiveRenew NoCopy r ps) refl
-  receive-renew (CopyOwned b w₁ r₁) w r i e = dropped w r (receiveRenew (CopyOwned b w₁ r₁) r ps) refl
-  receive-renew (CopyShared w₁ r₁) w r i e =
-      let d = receiveRenew (CopyShared w₁ r₁) r ps in
-      let f : AskFits (Version w) (CopyShared w₁ r₁) = (rw (e, i) at (I .rest .pairs c l hl)) refl in
-      let q : w ≡ w₁ = cc in
-      let y = rw view-at at (at-slot (Answered GrantRenew l w r) e) in
-      keeps d tt (inr tt) tt (omega arith) (omega arith)
-      (two-change I c l hc hl given d tt (atCopy c) (atSlot c) (snapshot (w₁ .0) (r .0) bytes) nothing (copySpot d tt) (slotSpot d tt)
-      (inr (managerSpot d tt)) (inr (writebackSpot d tt)) (inl (inl refl)) (inl (inr refl))
-      (keep z (Stores l) (On l)
-      (keep z (Stores l) (On l) J (atCopy c) (snapshot (w₁ .0) (r .0) bytes)
-      (lease-renewed z (Stores l) (On l) (λ e x y p q. cc) (ap (λ (s : Stamp). s .0) q) (at-copy (CopyShared w₁ r₁) i) (y .1)))
-      (atSlot c) nothing tt))
-
-  receive-grant : (y : Grant) (w r : Stamp) → k .slot ≡ Answered y l w r → GoodRow (receiveGrant y w r ps)
-  unfolding accepted meaning look receiveGrant
-  receive-grant GrantRenew w r e = receive-renew (copyAt (m .state) c l) w r refl e
-  receive-grant GrantShare w r e =
-      let d = receiveGrant GrantShare w r ps in
-      let b = answerBytes (m .state .opening) (m .shared) c in
-      keeps d tt (inr tt) tt (omega arith) (omega arith)
-      (two-change I c l hc hl given d tt (atCopy c) (atSlot c) (snapshot (w .0) (r .0) b) nothing (copySpot d tt) (slotSpot d tt)
-      (inr (managerSpot d tt)) (inr (writebackSpot d tt)) (inl (inl refl)) (inl (inr refl))
-      (keep z (Stores l) (On l)
-      (keep z (Stores l) (On l) J (atCopy c) (snapshot (w .0) (r .0) b) (rw view-at at (at-slot (Answered GrantShare l w r) e)))
-      (atSlot c) nothing tt))
-  receive-grant GrantOwn w r e =
-      let d = receiveGrant GrantOwn w r ps in
-      let b = answerBytes (m .state .opening) (m .shared) c in
-      keeps d tt (inr tt) tt (omega arith) (omega arith)
-      (two-change I c l hc hl given d tt (atSlot c) (atCopy c) nothing (newest clean (w .0) (r .0) b) (slotSpot d tt) (copySpot d tt)
-      (inr (managerSpot d tt)) (inr (writebackSpot d tt)) (inl (inr refl)) (inl (inl refl))
-      (move z (Stores l) (On l) (keep z (Stores l) (On l) J (atSlot c) nothing tt) (atSlot c) (atCopy c) (w .0) (r .0) (r .0) b
-      ((rw view-at at (at-slot (Answered GrantOwn l w r) e)) .0) (put-at NotNewest (atSlot c) nothing (look m l) tt) (omega arith)))
-
-  pub receive-good : (v : Slot) → k .slot ≡ v → slotLine v ≡ l → GoodRow (receiveTable v ps)
-  unfolding receiveTable
-  receive-good Empty e q = refused-row 22
-  receive-good (Asked a n t h) e q = refused-row 22
-  receive-good (Answered y n w r) e q = receive-grant y w r (rw q at e)
+pub step-good : (z : Value) (p : ℕ) {H : List (Commit Bytes)} {m : Machine} → Inv z H m → (call : Call) (given : Bytes)
+    → Good z p H call given (step m call given .reply) (step m call given .machine)
+step-good z p {H} {m} I call given = go (case-of m call given)
+  where
+    go : {r : Outcome} → Case m call given r → Good z p H call given (r .reply) (r .machine)
+    go (refuses n) = I
+    go (makes n q w) =
+        let f = machine-fit m (n .machineOk) in
+        row-good z p given I f q w (made-fits f n q w)

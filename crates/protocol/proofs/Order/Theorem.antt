@@ -1,6 +1,6 @@
 -- The order theorem: the sorted order of the commits of every list of calls on a fresh engine obeys TSO; that this order is one; and that
 -- the test of keys decides it.
-use Prim.Native.Nat.{ℕ, zero, suc, _+_, _*_, _≤_, _<_}
+use Prim.Native.Nat.{ℕ, suc, _+_, _*_, _≤_, _<_}
 use mathlib.Core.Path.{_≡_, refl, sym, _∙_, ap}
 use mathlib.Core.Logic.{_⊎_, inl, inr, ⊎-elim}
 use mathlib.Core.Bool.{Bool, true, false}
@@ -9,100 +9,48 @@ use native.Mathlib.Omega.{arith}
 use native.Mathlib.Decide.{decLt}
 use lib.Dec.{ltb, eqb}
 use borrow.Author.Tests.{ltb-true, eqb-true, lt-ltb, le-ltb, eq-eqb}
-use lib.ListN.{getD, replicate, length-replicate}
 use Rattle.protocol.specs.Pick.{pick}
 use Rattle.protocol.specs.Stamps.{Precedes, precedes}
 use Rattle.protocol.specs.Limits.{openingFits}
-use Rattle.protocol.specs.Fresh.{freshCore, freshCell, freshLine}
 use Rattle.protocol.specs.Refusals.{openRefusal}
-use Rattle.protocol.specs.Buffers.{Bytes, privateLength, sharedLength, managerBytes}
-use Rattle.protocol.specs.Machine.{Machine, freshMachine, coreAt, copyAt, lineAt}
+use Rattle.protocol.specs.Buffers.{Bytes, sharedLength, managerBytes}
+use Rattle.protocol.specs.About.{about, namedCore, namedLine}
+use Rattle.protocol.specs.Machine.{Machine, freshMachine}
 use Rattle.protocol.specs.Step.{Op, Reply, refused, done, commit, step}
-use Rattle.protocol.specs.Run.{Given, place, run, Commit, commitAt, commitOf, commits}
-use Rattle.protocol.specs.Order.{In, here, there, Before, Earlier, TsoKeeps, Stores, LastWrite, Obeys, OpenTheorem, OrderTheorem, SortTheorem, KeyTheorem}
-use Rattle.protocol.specs.declared.Cell.{Cell}
-use Rattle.protocol.specs.declared.Copy.the-variants.{None as NoCopy}
-use Rattle.protocol.specs.declared.Opening.{Opening}
-use Rattle.protocol.specs.declared.Call.{Call}
-use Rattle.protocol.specs.declared.Call.the-variants.{Load, Store, Fence, Evict, Advance, Serve, Receive, Yield, Take}
+use Rattle.protocol.specs.Run.{Given, Record, place, run, Commit, actCommit, commitOf, commits}
+use Rattle.protocol.specs.Order.{In, here, there, Before, Earlier, TsoKeeps, Loads, Stores, LastWrite, Obeys, OpenTheorem, OrderTheorem}
+use Rattle.protocol.specs.Order.{SortTheorem, KeyTheorem}
+use Rattle.protocol.specs.declared.{Opening.Opening, Act.Act}
+use Rattle.protocol.specs.declared.Act.the-variants.{Load, Store, Fence, Advance, Transfer}
+use Rattle.protocol.proofs.Tests.{never}
 use Rattle.protocol.proofs.Bytes.{row-le, zeros, zeros-part}
-use Rattle.protocol.proofs.Places.{Inside, inside}
+use Rattle.protocol.proofs.Places.{inside}
 use Rattle.protocol.proofs.Refusals.{opening-fit}
-use Rattle.protocol.proofs.Order.Log.{All, none, more, all-map, all-at, in-nil, fresh, LogFits, start, log-obeys}
-use Rattle.protocol.proofs.Order.Log.{step as log-step}
-use Rattle.protocol.proofs.Order.Versions.{Spot, atManager, atWriteback, atCopy, atSlot, Newest, ContentFits}
-use Rattle.protocol.proofs.Order.Look.{look, Shape}
-use Rattle.protocol.proofs.Order.Invariant.{On, Inv}
-use Rattle.protocol.proofs.Order.Steps.{Good, commitBy}
-use Rattle.protocol.proofs.Order.Calls.{step-good}
+use Rattle.protocol.proofs.Written.{arrays-fresh, core-fresh, line-fresh, copy-fresh}
+use Rattle.protocol.proofs.Reached.{onto, reached, from-onto, to-onto}
+use Rattle.protocol.proofs.Order.Log.{All, none, more, all-map, all-at, in-nil, fresh, Lawful, start, log-obeys, step as log-step}
+use Rattle.protocol.proofs.Order.Versions.{Spot, atManager, atWriteback, atCopy, atSlot, Newest, version, here as at-here}
+use Rattle.protocol.proofs.Order.Look.{LineCell, Value, cells, look}
+use Rattle.protocol.proofs.Order.Invariant.{SpotOf, Inv}
+use Rattle.protocol.proofs.Order.Steps.{Good, commitBy, step-good}
 
 -- ---- the log of a run
 
--- the log of the calls so far, newest first, on top of H
-log : List Given → ℕ → Machine → List (Commit Bytes) → List (Commit Bytes)
-log [] p m H = H
-log (g ∷ gs) p m H =
-    log gs (suc p) (step m (g .call) (g .bytes) .machine) (commitOf (place p) g (step m (g .call) (g .bytes) .reply) ++ H)
-
--- the invariant along a run whose next place is p
-record Along (z : Bytes) (p : ℕ) (m : Machine) (H : List (Commit Bytes)) : Type 0 where
+-- the invariant before place p, on the commits so far, newest first
+record Along (z : Value) (p : ℕ) (H : List (Commit Bytes)) (m : Machine) : Type 0 where
   inv : Inv z H m
-  fits : LogFits TsoKeeps z H
+  lawful : Lawful TsoKeeps Loads Stores z H
   old : All (λ a. a .place .0 < p) H
 
-along-step : (z : Bytes) (p : ℕ) (m m′ : Machine) (H : List (Commit Bytes)) (g : Given) (r : Reply) → Along z p m H
-    → Good z p H (g .call) (g .bytes) r m′ → Along z (suc p) m′ (commitOf (place p) g r ++ H)
-along-step z p m m′ H g (refused n) R G = record { inv = G; fits = R .fits; old = all-map (λ a h. omega arith) (R .old) }
-along-step z p m m′ H g (done d) R G = record { inv = G; fits = R .fits; old = all-map (λ a h. omega arith) (R .old) }
-along-step z p m m′ H g (commit c t o) R G = rw (G .0) (record {
+along-step : {z : Value} {p : ℕ} {m m′ : Machine} {H : List (Commit Bytes)} (g : Given) (r : Reply) → Along z p H m
+    → Good z p H (g .call) (g .bytes) r m′ → Along z (suc p) (commitOf (place p) g r ++ H) m′
+along-step g (refused n) R G = record { inv = G; lawful = R .lawful; old = all-map (λ a h. omega arith) (R .old) }
+along-step g (done d) R G = record { inv = G; lawful = R .lawful; old = all-map (λ a h. omega arith) (R .old) }
+along-step {p = p} g (commit c t o) R G = rw (G .0) (record {
   inv = G .2;
-  fits = log-step (R .old) (G .1) (R .fits);
+  lawful = log-step (R .old) (G .1) (R .lawful);
   old = more {e = commitBy p c t o} (omega arith) (all-map (λ a h. omega arith) (R .old));
 })
-
-log-fits : (z : Bytes) (gs : List Given) (p : ℕ) (m : Machine) (H : List (Commit Bytes)) → Along z p m H → LogFits TsoKeeps z (log gs p m H)
-unfolding log
-log-fits z [] p m H R = R .fits
-log-fits z (g ∷ gs) p m H R =
-    log-fits z gs (suc p) (step m (g .call) (g .bytes) .machine) (commitOf (place p) g (step m (g .call) (g .bytes) .reply) ++ H)
-    (along-step z p m (step m (g .call) (g .bytes) .machine) H g (step m (g .call) (g .bytes) .reply) R (step-good z p (g .bytes) (R .inv) (g .call)))
-
--- ---- the log has the commits of the run
-
-in-left : {T : Type 0} {a : T} {xs : List T} (ys : List T) → In a xs → In a (xs ++ ys)
-in-left ys (here q) = here q
-in-left ys (there i) = there (in-left ys i)
-
-in-right : {T : Type 0} {a : T} (xs : List T) {ys : List T} → In a ys → In a (xs ++ ys)
-in-right [] i = i
-in-right (x ∷ xs) i = there (in-right xs i)
-
-in-append : {T : Type 0} {a : T} (xs : List T) {ys : List T} → In a (xs ++ ys) → In a xs ⊎ In a ys
-in-append [] i = inr i
-in-append (x ∷ xs) (here q) = inl (here q)
-in-append (x ∷ xs) (there i) = ⊎-elim (λ j. inl (there j)) (λ j. inr j) (in-append xs i)
-
-made-by : Given → ℕ → Machine → List (Commit Bytes)
-made-by g p m = commitOf (place p) g (step m (g .call) (g .bytes) .reply)
-
-from-log : (gs : List Given) (p : ℕ) (m : Machine) (H : List (Commit Bytes)) {a : Commit Bytes} → In a (log gs p m H)
-    → In a (commits (run gs p m .records)) ⊎ In a H
-unfolding log run commits made-by
-from-log [] p m H i = inr i
-from-log (g ∷ gs) p m H i =
-    ⊎-elim (λ j. inl (in-right (made-by g p m) j)) (λ j. ⊎-elim (λ x. inl (in-left _ x)) (λ x. inr x) (in-append (made-by g p m) j))
-    (from-log gs (suc p) (step m (g .call) (g .bytes) .machine) (made-by g p m ++ H) i)
-
-to-log : (gs : List Given) (p : ℕ) (m : Machine) (H : List (Commit Bytes)) {a : Commit Bytes}
-    → In a (commits (run gs p m .records)) ⊎ In a H → In a (log gs p m H)
-unfolding log run commits made-by
-to-log [] p m H (inl i) = absurd (in-nil i)
-to-log [] p m H (inr i) = i
-to-log (g ∷ gs) p m H (inl i) =
-    to-log gs (suc p) (step m (g .call) (g .bytes) .machine) (made-by g p m ++ H)
-    (⊎-elim (λ j. inr (in-left H j)) (λ j. inl j) (in-append (made-by g p m) i))
-to-log (g ∷ gs) p m H (inr i) =
-    to-log gs (suc p) (step m (g .call) (g .bytes) .machine) (made-by g p m ++ H) (inr (in-right (made-by g p m) i))
 
 -- a claim about a list of commits speaks of its members alone
 module _ {A : Type 0} {H H′ : List (Commit A)} (f : (a : Commit A) → In a H → In a H′) (b : (a : Commit A) → In a H′ → In a H) where
@@ -110,62 +58,38 @@ module _ {A : Type 0} {H H′ : List (Commit A)} (f : (a : Commit A) → In a H 
   last-members (inl w) = inl (w .0, f (w .0) (w .1), w .2, w .3, λ s i. w .4 s (b s i))
   last-members (inr w) = inr (λ s i. w .0 s (b s i), w .1)
 
-  obeys-members : (Keeps : Op A → Op A → Type 0) (z : A) → Obeys Keeps z H → Obeys Keeps z H′
-  obeys-members Keeps z O = record {
+  obeys-members : {C X : Type 0} {Keeps : Op A → Op A → Type 0} {Sees : Commit A → Commit A → Type 0} {Reads Writes : C → Commit A → X → Type 0} {z : X}
+      → Obeys Keeps Sees Reads Writes z H → Obeys Keeps Sees Reads Writes z H′
+  obeys-members O = record {
     order = λ x y i j. O .order x y (b x i) (b y j);
-    reads = λ e i l x q. last-members (O .reads e (b e i) l x q);
+    reads = λ e i c x q. last-members (O .reads e (b e i) c x q);
   }
 
 -- ---- the fresh engine
 
-getD-replicate {ℓ} : {A : Type ℓ} (n i : ℕ) (a : A) → getD (replicate n a) i a ≡ a
-getD-replicate zero i a = refl
-getD-replicate (suc n) zero a = refl
-getD-replicate (suc n) (suc i) a = getD-replicate n i a
-
 module _ (o : Opening) (fit : openingFits o ≡ true) where
-  lim : Inside o
-  lim = inside o fit
-
-  shape-fresh : Shape (freshMachine o)
-  shape-fresh = record {
-    nCore = length-replicate 16 freshCore;
-    nCell = length-replicate 1024 freshCell;
-    nLine = length-replicate 64 freshLine;
-    nPrivate = length-replicate (privateLength o) 0;
-    nShared = length-replicate (sharedLength o) 0;
-    mostCores = lim .mostCores;
-    mostLines = lim .mostLines;
-  }
-
-  core-fresh : (c : ℕ) → coreAt (freshMachine o .state) c ≡ freshCore
-  core-fresh c = getD-replicate 16 c freshCore
-
-  line-fresh : (l : ℕ) → lineAt (freshMachine o .state) l ≡ freshLine
-  line-fresh l = getD-replicate 64 l freshLine
-
-  copy-fresh : (c l : ℕ) → copyAt (freshMachine o .state) c l ≡ NoCopy
-  copy-fresh c l = ap (λ (x : Cell). x .copy) (getD-replicate 1024 (c * 64 + l) freshCell)
-
   bytes-fresh : (l : ℕ) → l < o .lines → managerBytes o (freshMachine o .shared) l ≡ zeros (o .width)
-  bytes-fresh l h = zeros-part (sharedLength o) (l * o .width) (o .width) (row-le (o .width) l (2 * o .lines + o .cores) (omega arith))
+  bytes-fresh l h =
+      zeros-part (sharedLength o) (l * o .width) (o .width) (row-le (o .width) l (2 * o .lines + o .cores) (omega (arith, inside o fit .someCores)))
 
   -- every line's newest version is the manager's zeros, at time 0
   inv-fresh : Inv (zeros (o .width)) [] (freshMachine o)
   unfolding look
   inv-fresh = record {
-    rest = record { shape = shape-fresh; clocks = λ c. none; pairs = λ c l h. rw (core-fresh c) tt };
-    lines = λ l h. (g, record { wr = omega arith; lr = omega arith; top = none; last = fresh refl; spots = go l h });
+    arrays = arrays-fresh o;
+    clocks = λ c. none;
+    pairs = λ c l h. rw (core-fresh o c) (λ n. absurd n);
+    lines = λ l h. (g, record { version = record { wr = omega arith; lr = omega arith; top = none; last = λ i. fresh refl }; spots = go l h });
   }
     where
-      g : Newest Bytes
-      g = record { spot = atManager; w = 0; r = 0; leased = 0; x = zeros (o .width) }
+      g : Newest LineCell Value
+      g = version atManager 0 0 0 (cells (zeros (o .width)))
 
-      go : (l : ℕ) → l < o .lines → (S : Spot) → ContentFits (zeros (o .width)) (Stores l) (On l) [] g S (look (freshMachine o) l S)
-      go l h atManager = rw (line-fresh l, bytes-fresh l h) (record { isSpot = refl; isW = refl; isR = refl; isX = refl }, tt)
-      go l h atWriteback = rw (line-fresh l) tt
-      go l h (atCopy c) = rw (copy-fresh c l) tt
-      go l h (atSlot c) = rw (core-fresh c) tt
+      go : (l : ℕ) → l < o .lines → (S : Spot) → SpotOf (zeros (o .width)) l [] g S (look (freshMachine o) l S)
+      go l h atManager = rw (line-fresh o l, bytes-fresh l h) (at-here, λ i. tt)
+      go l h atWriteback = rw (line-fresh o l) tt
+      go l h (atCopy c) = rw (copy-fresh o c l) tt
+      go l h (atSlot c) = rw (core-fresh o c) tt
 
 -- ---- demand 3
 
@@ -173,12 +97,21 @@ pub open-theorem : OpenTheorem
 open-theorem o accepted = rw (eq-eqb (openRefusal o) 0 accepted) refl
 
 pub order-theorem : OrderTheorem
+unfolding commits
 order-theorem o accepted gs =
-    obeys-members
-    (λ a i. ⊎-elim (λ j. j) (λ j. absurd (in-nil j)) (from-log gs 1 (freshMachine o) [] i)) (λ a i. to-log gs 1 (freshMachine o) [] (inl i))
-    TsoKeeps (zeros (o .width))
-    (log-obeys TsoKeeps (zeros (o .width))
-    (log-fits (zeros (o .width)) gs 1 (freshMachine o) [] (record { inv = inv-fresh o (opening-fit o accepted); fits = start; old = none })))
+    obeys-members (λ a i. ⊎-elim (λ j. j) (λ j. absurd (in-nil j)) (from-onto records [] i)) (λ a i. to-onto records [] (inl i))
+    (log-obeys TsoKeeps Loads Stores z (log .1 .lawful))
+  where
+    z : Value
+    z = zeros (o .width)
+
+    records : List Record
+    records = run gs 1 (freshMachine o) .records
+
+    log : (p : ℕ) × Along z p (commits (onto records [])) (run gs 1 (freshMachine o) .last)
+    log =
+        reached (λ p rs m. Along z p (commits rs) m) (λ p rs m g R. along-step g (step m (g .call) (g .bytes) .reply) R (step-good z p (R .inv) (g .call) (g .bytes)))
+        gs 1 [] (freshMachine o) (record { inv = inv-fresh o (opening-fit o accepted); lawful = start; old = none })
 
 -- ---- the sorted order is one
 
@@ -194,44 +127,33 @@ apart-same (one-more o d) a b (there i) (here q) e = absurd (omega (arith, all-a
 apart-same (one-more o d) a b (there i) (there j) e = apart-same d a b i j e
 
 -- a call makes one commit at its place, or none
-data Made (p : ℕ) : List (Commit Bytes) → Type 0 where
-  no-commit : Made p []
-  one-commit : {e : Commit Bytes} → e .place .0 ≡ p → Made p (e ∷ [])
+data OneAtMost (p : ℕ) : List (Commit Bytes) → Type 0 where
+  no-commit : OneAtMost p []
+  one-commit : {e : Commit Bytes} → e .place .0 ≡ p → OneAtMost p (e ∷ [])
 
-made-at : (p : ℕ) (g : Given) (r : Reply) → Made p (commitOf (place p) g r)
+made-at : (p : ℕ) (g : Given) (r : Reply) → OneAtMost p (commitOf (place p) g r)
 made-at p g (refused n) = no-commit
 made-at p g (done d) = no-commit
-made-at p g (commit c t o) = go (g .call)
+made-at p g (commit c t o) = go (about (g .call) .act)
   where
-    go : (call : Call) → Made p (commitAt (place p) call (g .bytes) t o)
-    go (Load c l) = one-commit refl
-    go (Store c l) = one-commit refl
-    go (Fence c) = one-commit refl
-    go (Evict c l) = no-commit
-    go (Advance c by) = no-commit
-    go (Serve c) = no-commit
-    go (Receive c) = no-commit
-    go (Yield l) = no-commit
-    go (Take l) = no-commit
+    go : (a : Act) → OneAtMost p (actCommit a (place p) (namedCore (about (g .call) .core)) (namedLine (about (g .call) .line)) (g .bytes) t o)
+    go Load = one-commit refl
+    go Store = one-commit refl
+    go Fence = one-commit refl
+    go (Advance by) = no-commit
+    go Transfer = no-commit
 
 -- the log before place p, with what is made at p
-record Placed (p : ℕ) (H : List (Commit Bytes)) : Type 0 where
+record Sequenced (p : ℕ) (H : List (Commit Bytes)) : Type 0 where
   apart : Apart H
   old : All (λ a. a .place .0 < p) H
 
-placed-more : (p : ℕ) (H : List (Commit Bytes)) {cs : List (Commit Bytes)} → Made p cs → Placed p H → Placed (suc p) (cs ++ H)
-placed-more p H no-commit P = record { apart = P .apart; old = all-map (λ a h. omega arith) (P .old) }
-placed-more p H (one-commit {e = e} q) P = record {
+sequenced-more : (p : ℕ) (H : List (Commit Bytes)) {cs : List (Commit Bytes)} → OneAtMost p cs → Sequenced p H → Sequenced (suc p) (cs ++ H)
+sequenced-more p H no-commit P = record { apart = P .apart; old = all-map (λ a h. omega arith) (P .old) }
+sequenced-more p H (one-commit {e = e} q) P = record {
   apart = one-more {e = e} (all-map (λ a h. omega arith) (P .old)) (P .apart);
   old = more {e = e} (omega arith) (all-map (λ a h. omega arith) (P .old));
 }
-
-log-apart : (gs : List Given) (p : ℕ) (m : Machine) (H : List (Commit Bytes)) → Placed p H → Apart (log gs p m H)
-unfolding log
-log-apart [] p m H P = P .apart
-log-apart (g ∷ gs) p m H P =
-    log-apart gs (suc p) (step m (g .call) (g .bytes) .machine) (commitOf (place p) g (step m (g .call) (g .bytes) .reply) ++ H)
-    (placed-more p H (made-at p g (step m (g .call) (g .bytes) .reply)) P)
 
 compare : {A : Type 0} {H : List (Commit A)} → Apart H → (a b : Commit A) → In a H → In b H → (a ≡ b) ⊎ (Before a b ⊎ Before b a)
 compare d a b i j = times (decLt (a .ts .0) (b .ts .0)) (decLt (b .ts .0) (a .ts .0))
@@ -257,13 +179,20 @@ before-trans a b c (inr p) (inl q) = inl (omega arith)
 before-trans a b c (inr p) (inr q) = inr (omega arith, omega arith)
 
 pub sort-theorem : SortTheorem
-sort-theorem o gs =
-    let d : Apart (log gs 1 (freshMachine o) []) = log-apart gs 1 (freshMachine o) [] (record { apart = no-commits; old = none }) in
-    record {
-      irreflexive = λ a i. before-self a;
-      transitive = λ a b c i j k. before-trans a b c;
-      total = λ a b i j. compare d a b (to-log gs 1 (freshMachine o) [] (inl i)) (to-log gs 1 (freshMachine o) [] (inl j));
-    }
+unfolding commits
+sort-theorem o gs = record {
+  irreflexive = λ a i. before-self a;
+  transitive = λ a b c i j k. before-trans a b c;
+  total = λ a b i j. compare (log .1 .apart) a b (to-onto records [] (inl i)) (to-onto records [] (inl j));
+}
+  where
+    records : List Record
+    records = run gs 1 (freshMachine o) .records
+
+    log : (p : ℕ) × Sequenced p (commits (onto records []))
+    log =
+        reached (λ p rs m. Sequenced p (commits rs)) (λ p rs m g P. sequenced-more p (commits rs) (made-at p g (step m (g .call) (g .bytes) .reply)) P)
+        gs 1 [] (freshMachine o) (record { apart = no-commits; old = none })
 
 -- ---- the test of keys
 
@@ -274,7 +203,7 @@ key-theorem a b = (holds (ltb (a .0 .0) (b .0 .0)) (eqb (a .0 .0) (b .0 .0)) ref
         → pick x true (pick y (ltb (a .1 .0) (b .1 .0)) false) ≡ true → Precedes a b
     holds true y e i h = inl (ltb-true (a .0 .0) (b .0 .0) e)
     holds false true e i h = inr (eqb-true (a .0 .0) (b .0 .0) i, ltb-true (a .1 .0) (b .1 .0) h)
-    holds false false e i h = let z : _≡_ {A = ℕ} 0 1 = cc in absurd (omega arith)
+    holds false false e i h = never (sym h)
 
     tests : Precedes a b → precedes a b ≡ true
     tests (inl p) = rw (lt-ltb (a .0 .0) (b .0 .0) p) refl

@@ -1,0 +1,77 @@
+-- By the move: each copies one line to its place.
+use Rattle.protocol.specs.Buffers.{movedPrivate, movedShared}
+use Rattle.protocol.proofs.Tests.{was-false, was-true}
+use Rattle.buffers.proofs.Moving.{Fitting, fitting, as-moved}
+use borrow.Author.Needs.{needs}
+use Rattle.buffers.proofs.move_bytes.Statement.{statement}
+use Rattle.buffers.proofs.move_bytes.Tie as tie
+
+-- past the test, the places and the lengths fit
+fitted :
+    (c : tie.Else1)
+    → (let a = c .before .before .before .before .before .args in Fitting (a .moves) (a .opening) (a .core) (a .line) (a .given .now) (a .private .now) (a .shared .now))
+fitted c = fitting _ _ _ _ _ _ _ (was-true (c .before .move-fits .ensures) (c .if1 .left))
+
+returns-2 : tie.Need-returns-2
+unfolding movedPrivate movedShared
+returns-2 c = let e = c .enum-told .given .1 in as-moved (fitted (c .before .before)) _ _ (rw e) (rw e)
+
+returns-3 : tie.Need-returns-3
+unfolding movedPrivate movedShared
+returns-3 c = let k = c .before .before in let e = k .before .before .before .enum-told2 .given .1 in as-moved (fitted (c .before .before .before .before .before .before .before)) _ _ (rw (e, ← k .before .before .copy-at .ensures) (k .put-line .ensures)) (rw e)
+
+returns-4 : tie.Need-returns-4
+unfolding movedPrivate movedShared
+returns-4 c = let k = c .before .before in let a = k .before .before in let e = a .before .before .enum-told3 .given .1 in as-moved (fitted (c .before .before .before .before .before .before .before .before)) _ _ (rw e) (rw (e, ← a .manager-at .ensures, ← a .before .answer-at .ensures) (k .shift-line .ensures))
+
+returns-5 : tie.Need-returns-5
+unfolding movedPrivate movedShared
+returns-5 c = let k = c .before .before in let a = k .before .before .before in let e = a .before .before .enum-told4 .given .1 in as-moved (fitted (c .before .before .before .before .before .before .before .before .before)) _ _ (rw (e, ← a .answer-at2 .ensures, ← a .before .copy-at2 .ensures) (k .move-line .ensures)) (rw e)
+
+returns-6 : tie.Need-returns-6
+unfolding movedPrivate movedShared
+returns-6 c = let k = c .before .before in let a = k .before .before .before in let e = a .before .before .enum-told5 .given .1 in as-moved (fitted (c .before .before .before .before .before .before .before .before .before)) _ _ (rw e) (rw (e, ← a .copy-at3 .ensures, ← a .before .writeback-at .ensures) (k .move-line2 .ensures))
+
+returns-7 : tie.Need-returns-7
+unfolding movedPrivate movedShared
+returns-7 c = let k = c .before .before in let a = k .before .before in let e = a .before .before .enum-told6 .given .1 in as-moved (fitted (c .before .before .before .before .before .before .before .before)) _ _ (rw e) (rw (e, ← a .writeback-at2 .ensures, ← a .before .manager-at2 .ensures) (k .shift-line2 .ensures))
+
+pub move-bytes-spec : {M : Type 1} → statement M
+move-bytes-spec =
+    tie.close
+    (tie.spec
+    (λ c κs. search needs)
+    (λ c. let e = was-false (c .before .move-fits .ensures) (c .if1 .taken) in record { private = rw e; shared = rw e })
+    (λ c. search needs)
+    (λ c. search needs)
+    (λ c κs. fitted (c .before .before) .placed)
+    (λ c κs. rw (c .before .copy-at .ensures) ((fitted (c .before .before .before .before)) .store (c .before .before .enum-told2 .given .1)))
+    (λ c. search needs)
+    (λ c κs. fitted (c .before .before) .placed)
+    (λ c κs. fitted (c .before .before .before) .placed)
+    (λ c κs. (fitted (c .before .before .before .before .before) .placed .width, rw (c .before .manager-at .ensures) ((fitted (c .before .before .before .before .before)) .manager), rw (c .before .before .answer-at .ensures) ((fitted (c .before .before .before .before .before)) .answer)))
+    (λ c. search needs)
+    (λ c κs. fitted (c .before .before) .placed)
+    (λ c κs. fitted (c .before .before .before) .placed)
+    (λ c κs. (rw (c .before .before .answer-at2 .ensures) ((fitted (c .before .before .before .before .before .before)) .answer), rw (c .before .before .before .copy-at2 .ensures) ((fitted (c .before .before .before .before .before .before)) .copy)))
+    (λ c. search needs)
+    (λ c κs. fitted (c .before .before) .placed)
+    (λ c κs. fitted (c .before .before .before) .placed)
+    (λ c κs. (rw (c .before .before .copy-at3 .ensures) ((fitted (c .before .before .before .before .before .before)) .copy), rw (c .before .before .before .writeback-at .ensures) ((fitted (c .before .before .before .before .before .before)) .writeback)))
+    (λ c. search needs)
+    (λ c κs. fitted (c .before .before) .placed)
+    (λ c κs. fitted (c .before .before .before) .placed)
+    (λ c κs. (fitted (c .before .before .before .before .before) .placed .width, rw (c .before .writeback-at2 .ensures) ((fitted (c .before .before .before .before .before)) .writeback), rw (c .before .before .manager-at2 .ensures) ((fitted (c .before .before .before .before .before)) .manager)))
+    returns-2
+    (λ c. search needs)
+    returns-3
+    (λ c. search needs)
+    returns-4
+    (λ c. search needs)
+    (λ c. search needs)
+    returns-5
+    (λ c. search needs)
+    (λ c. search needs)
+    returns-6
+    (λ c. search needs)
+    returns-7)

@@ -1,0 +1,38 @@
+-- Moving one line of bytes between its places, for every opening, core, line and buffer.
+use Prim.Native.Nat.{ℕ}
+use mathlib.Core.Path.{_≡_}
+use mathlib.Core.Bool.{Bool, true}
+use lib.Dec.{ltb, eqb}
+use lib.ListN.{length}
+use denote.Ref.{RefT, now}
+use Rattle.protocol.specs.{Pick.pick, Pick.both, Limits.openingFits, Buffers.Bytes, Buffers.movedPrivate, Buffers.movedShared}
+use Rattle.protocol.specs.declared.{Opening.Opening, Move.Move}
+use Rattle.protocol.specs.declared.Move.the-variants.{Still, Store, Answer, Receive, Writeback, Take}
+use Rattle.refusals.specs.Input.{lengthsFit}
+
+-- the opening lies inside the limits, and core c and line l are there
+abbrev pub placeFits : Opening → ℕ → ℕ → Bool
+placeFits o c l = both (openingFits o) (both (ltb c (o .cores)) (ltb l (o .lines)))
+
+-- n bytes are one line's, if the move is a store's; no other move looks at them
+abbrev pub givenFits : Move → ℕ → ℕ → Bool
+givenFits Still width n = true
+givenFits Store width n = eqb n width
+givenFits Answer width n = true
+givenFits Receive width n = true
+givenFits Writeback width n = true
+givenFits Take width n = true
+
+-- the places and lengths of a move fit: the core and the line are there, both buffers have their exact lengths, and a store's bytes are one
+-- line's
+unfoldable pub moveFits : Move → Opening → ℕ → ℕ → ℕ → ℕ → ℕ → Bool
+moveFits v o private shared c l n = both (placeFits o c l) (both (lengthsFit o private shared) (givenFits v (o .width) n))
+
+-- the buffers p and q after a move: as the move leaves them if its places and lengths fit, else as they were
+pub record Moves (v : Move) (o : Opening) (c l : ℕ) (given p q p' q' : Bytes) : Type 0 where
+  pub private : p' ≡ pick (moveFits v o (length p) (length q) c l (length given)) (movedPrivate v o c l given p q) p
+  pub shared : q' ≡ pick (moveFits v o (length p) (length q) c l (length given)) (movedShared v o c l p q) q
+
+-- the same of lent buffers, as they come and as they are left
+abbrev pub Moved : Move → Opening → ℕ → ℕ → RefT Bytes → RefT Bytes → RefT Bytes → RefT Bytes → RefT Bytes → Type 0
+Moved v o c l given p q p' q' = Moves v o c l (now given) (now p) (now q) (now p') (now q')

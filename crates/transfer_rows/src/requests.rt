@@ -1,0 +1,270 @@
+// The rows of serve and receive.
+ghost use Prim.Native.Nat.{ℕ};
+ghost use mathlib.Core.Path.{_≡_};
+ghost use Rattle.protocol.specs.Machine.{pieces};
+ghost use Rattle.protocol.specs.Tables.{row, refusedRow, recalled, sameVersion, serveLoad, serveAsked, receiveGrant, receiveRenew, effectOf};
+ghost use Rattle.transfer_rows.specs.Asked.{askedEffect};
+use protocol::Answer;
+use protocol::Call;
+use protocol::Copy;
+use protocol::Core;
+use protocol::Effect;
+use protocol::Grant;
+use protocol::Held;
+use protocol::Line;
+use protocol::Manager;
+use protocol::Move;
+use protocol::Name;
+use protocol::Opening;
+use protocol::Recall;
+use protocol::Slot;
+use protocol::Stamp;
+use protocol::Sum;
+use protocol::Want;
+
+// The recall after a request for an owned line.
+fn recall_after(want: Want, recall: Recall) -> Recall
+    ensures { λ r. ⌜ r ≡ recalled want recall ⌝ }
+{
+    match want {
+        Want::Store => Recall::Flush,
+        Want::Load => match recall {
+            Recall::None => Recall::Downgrade,
+            Recall::Downgrade => Recall::Downgrade,
+            Recall::Flush => Recall::Flush,
+        },
+    }
+}
+
+// Whether the version held is the manager's.
+fn same_version(held: Held, wts: Stamp) -> bool
+    ensures { λ r. ⌜ r ≡ sameVersion held wts ⌝ }
+{
+    match held {
+        Held::None => false,
+        Held::Version(v) => v.same(wts),
+    }
+}
+
+// A load served on a shared line, whose lease now ends at rts: renew where the version is the same,
+// with no bytes; else share, with bytes.
+fn serve_load(
+    same: bool,
+    l: usize,
+    wts: Stamp,
+    rts: Stamp,
+    core: Core,
+    copy: Copy,
+    line: Line,
+) -> Effect
+    ensures { λ r. ⌜ r ≡ serveLoad same l wts rts (pieces core copy line) ⌝ }
+{
+    let clocks = core.clocks;
+    let recall = line.recall;
+    let writeback = line.writeback;
+    if same {
+        Effect {
+            answer: Answer::Done(Name::Renew),
+            moves: Move::Still,
+            core: Core {
+                clocks,
+                slot: Slot::Answered {
+                    grant: Grant::Renew,
+                    line: l,
+                    wts,
+                    rts,
+                },
+            },
+            copy,
+            line: Line {
+                manager: Manager::Shared { wts, rts },
+                recall,
+                writeback,
+            },
+        }
+    } else {
+        Effect {
+            answer: Answer::Done(Name::Share),
+            moves: Move::Answer,
+            core: Core {
+                clocks,
+                slot: Slot::Answered {
+                    grant: Grant::Share,
+                    line: l,
+                    wts,
+                    rts,
+                },
+            },
+            copy,
+            line: Line {
+                manager: Manager::Shared { wts, rts },
+                recall,
+                writeback,
+            },
+        }
+    }
+}
+
+// A request served: an owned line is recalled and the slot stays; a shared one is leased to a load, or 27
+// where the lease would pass the greatest timestamp, and given to a store.
+fn serve_asked(
+    want: Want,
+    c: usize,
+    l: usize,
+    lts: Stamp,
+    held: Held,
+    core: Core,
+    copy: Copy,
+    line: Line,
+    opening: Opening,
+) -> Effect
+    ensures { λ r. ⌜ r ≡ askedEffect want c l lts held (pieces core copy line) opening ⌝ }
+{
+    let clocks = core.clocks;
+    let manager = line.manager;
+    let recall = line.recall;
+    let writeback = line.writeback;
+    match manager {
+        Manager::Owned { .. } => Effect {
+            answer: Answer::Done(Name::Recall),
+            moves: Move::Still,
+            core,
+            copy,
+            line: Line {
+                manager,
+                recall: recall_after(want, recall),
+                writeback,
+            },
+        },
+        Manager::Shared { wts, rts } => match want {
+            Want::Load => match lts.after(opening.lease) {
+                Sum::Passes => refusals::refused(27, core, copy, line),
+                Sum::At(end) => {
+                    let rts = rts.later(end);
+                    serve_load(same_version(held, wts), l, wts, rts, core, copy, line)
+                }
+            },
+            Want::Store => Effect {
+                answer: Answer::Done(Name::Own),
+                moves: Move::Answer,
+                core: Core {
+                    clocks,
+                    slot: Slot::Answered {
+                        grant: Grant::Own,
+                        line: l,
+                        wts,
+                        rts,
+                    },
+                },
+                copy,
+                line: Line {
+                    manager: Manager::Owned { core: c },
+                    recall,
+                    writeback,
+                },
+            },
+        },
+    }
+}
+
+// serve: the request in the core's slot, or 21 where it does not ask.
+pub fn serve(c: usize, core: Core, copy: Copy, line: Line, opening: Opening) -> Effect
+    ensures { λ r. ⌜ r ≡ effectOf (Call.Serve c) (pieces core copy line) opening ⌝ }
+{
+    let slot = core.slot;
+    match slot {
+        Slot::Empty => refusals::refused(21, core, copy, line),
+        Slot::Asked {
+            want,
+            line: l,
+            lts,
+            held,
+        } => serve_asked(want, c, l, lts, held, core, copy, line, opening),
+        Slot::Answered { .. } => refusals::refused(21, core, copy, line),
+    }
+}
+
+// A renewal that finds no shared copy: no copy changes.
+fn dropped(core: Core, copy: Copy, line: Line) -> Effect
+    ensures { λ r. ⌜ r ≡ row (Answer.Done Name.Drop) Move.Still core copy line ⌝ }
+{
+    Effect {
+        answer: Answer::Done(Name::Drop),
+        moves: Move::Still,
+        core,
+        copy,
+        line,
+    }
+}
+
+// A renewal received: a shared copy takes the new end of its lease; with no copy, or an owned one,
+// it is dropped.
+fn receive_renew(rts: Stamp, core: Core, copy: Copy, line: Line) -> Effect
+    ensures { λ r. ⌜ r ≡ receiveRenew copy rts (pieces core copy line) ⌝ }
+{
+    let clocks = core.clocks;
+    let emptied = Core {
+        clocks,
+        slot: Slot::Empty,
+    };
+    match copy {
+        Copy::None => dropped(emptied, copy, line),
+        Copy::Shared { wts, .. } => Effect {
+            answer: Answer::Done(Name::Renew),
+            moves: Move::Still,
+            core: emptied,
+            copy: Copy::Shared { wts, rts },
+            line,
+        },
+        Copy::Owned { .. } => dropped(emptied, copy, line),
+    }
+}
+
+// A grant received: the slot becomes empty.
+fn receive_grant(grant: Grant, wts: Stamp, rts: Stamp, core: Core, copy: Copy, line: Line) -> Effect
+    ensures { λ r. ⌜ r ≡ receiveGrant grant wts rts (pieces core copy line) ⌝ }
+{
+    let clocks = core.clocks;
+    let emptied = Core {
+        clocks,
+        slot: Slot::Empty,
+    };
+    match grant {
+        Grant::Share => Effect {
+            answer: Answer::Done(Name::Share),
+            moves: Move::Receive,
+            core: emptied,
+            copy: Copy::Shared { wts, rts },
+            line,
+        },
+        Grant::Renew => receive_renew(rts, core, copy, line),
+        Grant::Own => Effect {
+            answer: Answer::Done(Name::Own),
+            moves: Move::Receive,
+            core: emptied,
+            copy: Copy::Owned {
+                dirty: false,
+                wts,
+                rts,
+            },
+            line,
+        },
+    }
+}
+
+// receive: the grant in the core's slot, or 22 where there is no answer.
+pub fn receive(core: Core, copy: Copy, line: Line) -> Effect
+    ensures { λ r. ⌜ ((c : ℕ) (o : Opening) → r ≡ effectOf (Call.Receive c) (pieces core copy line) o) ⌝ }
+{
+    let slot = core.slot;
+    match slot {
+        Slot::Empty => refusals::refused(22, core, copy, line),
+        Slot::Asked { .. } => refusals::refused(22, core, copy, line),
+        Slot::Answered {
+            grant,
+            wts,
+            rts,
+            ..
+        } => receive_grant(grant, wts, rts, core, copy, line),
+    }
+}

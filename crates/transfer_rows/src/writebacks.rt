@@ -1,0 +1,132 @@
+// The rows of evict, yield and take.
+ghost use Prim.Native.Nat.{ℕ};
+ghost use mathlib.Core.Path.{_≡_};
+ghost use Rattle.protocol.specs.Pick.{both};
+ghost use Rattle.protocol.specs.Refusals.{hasOwner, stands};
+ghost use Rattle.protocol.specs.Machine.{pieces};
+ghost use Rattle.protocol.specs.Tables.{writtenBack, yielded, effectOf};
+use protocol::Answer;
+use protocol::Call;
+use protocol::Copy;
+use protocol::Core;
+use protocol::Effect;
+use protocol::Line;
+use protocol::Manager;
+use protocol::Move;
+use protocol::Name;
+use protocol::Opening;
+use protocol::Recall;
+use protocol::Stamp;
+use protocol::Writeback;
+
+// A version on its way back to the manager.
+fn written_back(line: Line, wts: Stamp, rts: Stamp) -> Line
+    ensures { λ r. ⌜ r ≡ writtenBack line wts rts ⌝ }
+{
+    let manager = line.manager;
+    let recall = line.recall;
+    Line {
+        manager,
+        recall,
+        writeback: Writeback::Flight { wts, rts },
+    }
+}
+
+// evict: a shared copy goes; an owned one becomes the writeback; 26 where there is none.
+pub fn evict(core: Core, copy: Copy, line: Line) -> Effect
+    ensures { λ r. ⌜ ((c l : ℕ) (o : Opening) → r ≡ effectOf (Call.Evict c l) (pieces core copy line) o) ⌝ }
+{
+    match copy {
+        Copy::None => refusals::refused(26, core, copy, line),
+        Copy::Shared { .. } => Effect {
+            answer: Answer::Done(Name::Evict),
+            moves: Move::Still,
+            core,
+            copy: Copy::None,
+            line,
+        },
+        Copy::Owned { wts, rts, .. } => {
+            let back = written_back(line, wts, rts);
+            Effect {
+                answer: Answer::Done(Name::Evict),
+                moves: Move::Writeback,
+                core,
+                copy: Copy::None,
+                line: back,
+            }
+        }
+    }
+}
+
+// What a recall leaves of the owner's copy.
+fn yielded_copy(recall: Recall, wts: Stamp, rts: Stamp) -> Copy
+    ensures { λ r. ⌜ r ≡ yielded recall wts rts ⌝ }
+{
+    match recall {
+        Recall::None => Copy::None,
+        Recall::Downgrade => Copy::Shared { wts, rts },
+        Recall::Flush => Copy::None,
+    }
+}
+
+// Whether the line is owned and a recall stands.
+fn is_recalled(line: Line) -> bool
+    ensures { λ r. ⌜ r ≡ both (hasOwner (line .manager)) (stands (line .recall)) ⌝ }
+{
+    let manager = line.manager;
+    let recall = line.recall;
+    match manager {
+        Manager::Shared { .. } => false,
+        Manager::Owned { .. } => match recall {
+            Recall::None => false,
+            Recall::Downgrade => true,
+            Recall::Flush => true,
+        },
+    }
+}
+
+// yield: the owner's copy becomes the writeback; 23 without a recall, 24 without an owned copy.
+pub fn yield_line(core: Core, copy: Copy, line: Line) -> Effect
+    ensures { λ r. ⌜ ((l : ℕ) (o : Opening) → r ≡ effectOf (Call.Yield l) (pieces core copy line) o) ⌝ }
+{
+    if !is_recalled(line) {
+        return refusals::refused(23, core, copy, line);
+    }
+    let recall = line.recall;
+    match copy {
+        Copy::None => refusals::refused(24, core, copy, line),
+        Copy::Shared { .. } => refusals::refused(24, core, copy, line),
+        Copy::Owned { wts, rts, .. } => {
+            let left = yielded_copy(recall, wts, rts);
+            let back = written_back(line, wts, rts);
+            Effect {
+                answer: Answer::Done(Name::Yield),
+                moves: Move::Writeback,
+                core,
+                copy: left,
+                line: back,
+            }
+        }
+    }
+}
+
+// take: the writeback becomes the manager's version, and recall and writeback are settled; 25 without one.
+pub fn take(core: Core, copy: Copy, line: Line) -> Effect
+    ensures { λ r. ⌜ ((l : ℕ) (o : Opening) → r ≡ effectOf (Call.Take l) (pieces core copy line) o) ⌝ }
+{
+    let flight = line.writeback;
+    match flight {
+        Writeback::None => refusals::refused(25, core, copy, line),
+        Writeback::Flight { wts, rts } => Effect {
+            answer: Answer::Done(Name::Take),
+            moves: Move::Take,
+            core,
+            copy,
+            line: Line {
+                manager: Manager::Shared { wts, rts },
+                recall: Recall::None,
+                writeback: Writeback::None,
+            },
+        },
+    }
+}
