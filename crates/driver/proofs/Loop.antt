@@ -22,20 +22,20 @@ use Rattle.spelling.specs.Over.{PutAt}
 use Rattle.spelling.specs.declared.Put.{Put}
 use Rattle.spelling.specs.declared.Put.the-variants.{End as PutEnd, Short as NoRoom}
 use Rattle.refusals.specs.Input.{inputRefusal}
-use Rattle.places.specs.Moves.{Moves}
-use Rattle.protocol.proofs.Tests.{both-true}
+use Rattle.buffers.specs.Moves.{Moves}
+use Rattle.protocol.proofs.{Tests.both-true, Keep.still}
 use Rattle.listing.specs.Record.{recordText}
 use Rattle.tables.specs.Found.{Found, effectWith}
 use Rattle.tables.proofs.Making.{Finds, made, is-step, is-moved, is-inside}
 use Rattle.driver.specs.Listing.{Ending, EndsAt, lines, lastLines}
 use Rattle.driver.specs.Play.{runFrom, few, resumable, Leads, Piece, aStep, theEnd, finished, more, Plays}
-use Rattle.driver.specs.Pieces.{endingOf, Numbered, StepDue, DueAt, aStep as isStep, theEnd as isEnd, shown, Shows, checkpointAt, playedBy}
+use Rattle.driver.specs.Pieces.{endingOf, Numbered, StepDue, DueAt, aStep as isStep, theEnd as isEnd, shown, Shows, answerLine, checkpointAt, playedBy}
 use Rattle.driver.specs.declared.{Checkpoint.Checkpoint, Played.Played, Last.Last, Due.Due}
 use Rattle.driver.specs.declared.Due.the-variants.{Step, Last as AtLast}
 use Rattle.driver.proofs.Counting.{one-step, same-counts, few-one, few-later, few-plus}
 use Rattle.driver.proofs.Running.{given, leads-none, leads-more, lines-more}
 use Rattle.driver.proofs.Putting.{Written, put-written, put-short}
-use Rattle.driver.proofs.Stepping.{still, replied}
+use Rattle.driver.proofs.Stepping.{replied}
 
 -- at the loop's head: the steps gs were made from one checkpoint to the other, and their lines are written
 pub record Reached (j : Bytes) (from : Checkpoint) (p₀ q₀ old : Bytes) (o : Sizes) (base : ℕ) (p q out : Bytes) (there : Checkpoint) (used : ℕ) : Type 0 where
@@ -144,20 +144,17 @@ module _ {j : Bytes} {from : Checkpoint} {p₀ q₀ old : Bytes} {o : Sizes} {ba
 
     -- a step more, whose line was put
     stepped :
-        (s' : State) (p' q' out' : Bytes) (e : ℕ) (k : Counts) → machine s' p' q' ≡ step m call bs .machine → s' .opening ≡ o → length p' ≡ length p
-        → length q' ≡ length q → k ≡ plus (there .counts) (countsOf call reply)
+        (s' : State) (p' q' out' : Bytes) (e : ℕ) (k : Counts) → machine s' p' q' ≡ step m call bs .machine → s' .opening ≡ o → k ≡ plus (there .counts) (countsOf call reply)
         → Written out used (recordText (place (there .counts .steps + 1)) reply) out' e
         → Reached j from p₀ q₀ old o base p' q' out' (checkpointAt next (there .form) k s') e
-    stepped s' p' q' out' e k em eo lp lq ek v =
-        let ep = ap (λ (x : Machine). x .private) em in
-        let eq = ap (λ (x : Machine). x .shared) em in
+    stepped s' p' q' out' e k em eo ek v =
         record {
           start = g .start;
           named = g .named;
           inside = x .inside;
           few = rw ek (few-plus (there .counts) (countsOf call reply) (there .at) next (g .few) (few-one call reply) (x .forward));
           opening = eo;
-          based = rw em (g .based ∙ still m call bs (sym (ap length ep) ∙ lp) (sym (ap length eq) ∙ lq));
+          based = rw em (g .based ∙ still m call bs);
           gs = g .gs ++ (given call bs ∷ []);
           leads = leads-more (g .leads) call bs (checkpointAt next (there .form) k s') p' q' (x .line) (x .bytes .spelt) refl em ek;
           text = v .before ∙ rw (g .text) (sym (lines-more (g .leads) call bs));
@@ -241,11 +238,12 @@ module _ {j : Bytes} {from : Checkpoint} {p₀ q₀ old : Bytes} (s : Made j fro
   shows = rw (effect-is, ← s .reached .opening) (is-inside here (s .call) given-bytes (s .n) number-is (s .v) (s .c) (s .l) finds _ refl)
 
   -- the line that is put is the reply's; the bytes are lent as the part of the buffer from 0 on
-  abbrev answer-is : Reply
-  answer-is =
-      meaning (s .d .answer) (actBytes (s .w .act) (take (s .count - 0) (s .buf)) (shown (s .d .answer) (s .o) (s .p) (s .c) (s .l)))
+  abbrev line-put : Bytes
+  line-put = answerLine (s .k .steps) (s .w .act) (s .d .answer) (take (s .count - 0) (s .buf)) (s .o) (s .p) (s .c) (s .l)
 
-  reply-is : answer-is ≡ outcome .reply
+  reply-is :
+      meaning (s .d .answer) (actBytes (s .w .act) (take (s .count - 0) (s .buf)) (shown (s .d .answer) (s .o) (s .p) (s .c) (s .l)))
+      ≡ outcome .reply
   reply-is =
       let z : s .count - 0 ≡ s .count = omega arith in
       rw (z, effect-is, s .about, ← s .reached .opening) (replied here (s .call) given-bytes (s .n) number-is (s .v) (s .c) (s .l) finds)
@@ -258,7 +256,7 @@ module _ {j : Bytes} {from : Checkpoint} {p₀ q₀ old : Bytes} (s : Made j fro
 
   -- there is no room for it
   pub step-short :
-      (out' : Bytes) (put : Put) (r : Played) → PutAt (s .out) (s .used) (recordText (place (s .k .steps)) answer-is) out' put → put ≡ NoRoom
+      (out' : Bytes) (put : Put) (r : Played) → PutAt (s .out) (s .used) line-put out' put → put ≡ NoRoom
       → r ≡ playedBy NoRoom (s .used) (s .there) → Plays j from p₀ q₀ old (s .p) (s .q) out' r
   step-short out' put r y z e = no-room (s .reached) _ out' put r (aStep (s .due .line) (s .due .bytes .spelt)) (rw (place-is, reply-is) at y) z e
 
@@ -273,11 +271,10 @@ module _ {j : Bytes} {from : Checkpoint} {p₀ q₀ old : Bytes} (s : Made j fro
 
   -- it was put, and the effect is written back
   pub step-made :
-      (p' q' out' : Bytes) (put : Put) (e : ℕ) → PutAt (s .out) (s .used) (recordText (place (s .k .steps)) answer-is) out' put → put ≡ PutEnd e
-      → Moves (s .d .moves) (s .o) (s .c) (s .l) (take (s .count - 0) (s .buf)) (s .p) (s .q) p' q' → length p' ≡ length (s .p)
-      → length q' ≡ length (s .q)
+      (p' q' out' : Bytes) (put : Put) (e : ℕ) → PutAt (s .out) (s .used) line-put out' put → put ≡ PutEnd e
+      → Moves (s .d .moves) (s .o) (s .c) (s .l) (take (s .count - 0) (s .buf)) (s .p) (s .q) p' q'
       → Reached j from p₀ q₀ old (s .o) (s .base) p' q' out'
       (checkpointAt (s .next) (s .there .form) (s .k) (written (s .there .state) (s .c) (s .l) (s .d))) e
-  step-made p' q' out' put e y z b lp lq =
-      stepped (s .reached) (s .due) (written (s .there .state) (s .c) (s .l) (s .d)) p' q' out' e (s .k) (machine-is p' q' b) (s .reached .opening) lp lq
+  step-made p' q' out' put e y z b =
+      stepped (s .reached) (s .due) (written (s .there .state) (s .c) (s .l) (s .d)) p' q' out' e (s .k) (machine-is p' q' b) (s .reached .opening)
       counts-are (put-written (rw (place-is, reply-is) at y) z)

@@ -6,6 +6,8 @@ use lib.ListN.{length, take}
 use Rattle.protocol.specs.Pick.{pick}
 use Rattle.protocol.specs.Buffers.{Bytes, part, copyStart}
 use Rattle.protocol.specs.Refusals.{callRefusal, orElse}
+use Rattle.protocol.specs.Step.{meaning, actBytes}
+use Rattle.protocol.specs.Run.{place}
 use Rattle.protocol.specs.declared.{Opening.Opening as Sizes, State.State, Call.Call, Act.Act, Answer.Answer, Counts.Counts}
 use Rattle.protocol.specs.declared.Act.the-variants.{Load, Store, Fence, Advance, Transfer}
 use Rattle.spelling.specs.declared.Put.{Put}
@@ -13,7 +15,8 @@ use Rattle.spelling.specs.declared.Put.the-variants.{End as PutEnd, Short}
 use Rattle.spelling.specs.Over.{PutAt}
 use Rattle.journal.specs.Journal.{NextOf}
 use Rattle.journal.specs.declared.Next.the-variants.{Step as StepLine}
-use Rattle.places.specs.Kept.{placeFits}
+use Rattle.buffers.specs.Moves.{placeFits}
+use Rattle.listing.specs.Record.{recordText}
 use Rattle.tables.specs.Spans.{spanOf}
 use Rattle.tables.specs.declared.Span.{Span}
 use Rattle.driver.specs.Listing.{Ending, ended, stopped, Data, EndsAt}
@@ -80,7 +83,11 @@ shownAt a o c l = spanOf a (pick (placeFits o c l) (copyStart o c l) 0) (o .widt
 abbrev pub shown : Answer → Sizes → Bytes → ℕ → ℕ → Bytes
 shown a o p c l = part p (shownAt a o c l .start) (shownAt a o c l .count)
 
--- they lie in a buffer of n bytes
+-- the line of an answer at place n: a store's bytes are those given
+abbrev pub answerLine : ℕ → Act → Answer → Bytes → Sizes → Bytes → ℕ → ℕ → Bytes
+answerLine n t a given o p c l = recordText (place n) (meaning a (actBytes t given (shown a o p c l)))
+
+-- those shown lie in a buffer of n bytes
 abbrev pub Shows : Answer → Sizes → ℕ → ℕ → ℕ → Type 0
 Shows a o c l n = shownAt a o c l .start + shownAt a o c l .count ≤ n
 

@@ -6,6 +6,7 @@ use mathlib.Core.Bool.{Bool, true, false}
 use mathlib.Core.List.{List, [], _++_}
 use lib.Dec.{leb, eqb}
 use lib.ListN.{length, take, drop}
+use denote.Ref.{RefT, now}
 use Rattle.protocol.specs.Pick.{both, fails as untrue}
 use Rattle.protocol.specs.Fresh.{freshState, smallest}
 use Rattle.protocol.specs.Buffers.{Bytes, part}
@@ -80,6 +81,10 @@ pub record Plays (journal : Bytes) (from : Checkpoint) (p q old p' q' new : Byte
   pub within : r .written ≤ length new
   pub beyond : drop (r .written) new ≡ drop (r .written) old
   pub tells : Tells journal from p q (r .checkpoint) p' q' (take (r .written) new) (length new - r .written) (r .progress)
+
+-- the same of a lent journal, lent buffers and a lent output, as they come and as they are left
+abbrev pub PlaysIn : RefT Bytes → Checkpoint → RefT Bytes → RefT Bytes → RefT Bytes → RefT Bytes → RefT Bytes → RefT Bytes → Played → Type 0
+PlaysIn j from p q old p' q' new r = Plays (now j) from (now p) (now q) (now old) (now p') (now q') (now new) r
 
 -- ---- start
 

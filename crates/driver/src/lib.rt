@@ -8,7 +8,7 @@ mod one_line;
 
 ghost use mathlib.Core.Path.{_≡_};
 ghost use lib.ListN.{length};
-ghost use Rattle.driver.specs.Play.{few, resumable, Starts, Plays};
+ghost use Rattle.driver.specs.Play.{few, resumable, Starts, PlaysIn};
 use journal::Next;
 use protocol::Call;
 use protocol::Cell;
@@ -123,7 +123,7 @@ pub fn play(
     shared: &mut [u8],
     out: &mut [u8],
 ) -> Played
-    ensures { λ r. ⌜ Plays (now (journal .entry)) from (now («private» .entry)) (now (shared .entry)) (now (out .entry)) (now («private» .exit)) (now (shared .exit)) (now (out .exit)) r ⌝ }
+    ensures { λ r. ⌜ PlaysIn (journal .entry) from («private» .entry) (shared .entry) (out .entry) («private» .exit) (shared .exit) (out .exit) r ⌝ }
 {
     if !resumable(journal, from) {
         return Played {
@@ -196,7 +196,15 @@ pub fn play(
                         s.core[c] = core;
                         s.cell[i] = cell;
                         s.line[l] = line;
-                        places::move_bytes(moves, opening, private, shared, c, l, &bytes[0..count]);
+                        buffers::move_bytes(
+                            moves,
+                            opening,
+                            private,
+                            shared,
+                            c,
+                            l,
+                            &bytes[0..count],
+                        );
                         used = e;
                         counts = met;
                         at = next;

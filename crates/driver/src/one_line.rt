@@ -6,12 +6,12 @@ ghost use mathlib.Core.List.{[]};
 ghost use Prim.Native.Nat.{_-_, _≤_, _<_};
 ghost use lib.ListN.{length};
 ghost use Rattle.protocol.specs.{Buffers.part, Refusals.callRefusal, Refusals.orElse, Run.place, Counts.countsOf, Counts.plus};
-ghost use Rattle.protocol.specs.Step.{done, meaning, actBytes};
+ghost use Rattle.protocol.specs.Step.{done, meaning};
 ghost use Rattle.spelling.specs.Over.{PutAt};
 ghost use Rattle.listing.specs.Record.{recordText};
 ghost use Rattle.driver.specs.Listing.{stopLines, lastLines, notOpened};
 ghost use Rattle.driver.specs.Play.{few, unopened};
-ghost use Rattle.driver.specs.Pieces.{isStore, Digits, Decodes, DueAt, shown, Shows};
+ghost use Rattle.driver.specs.Pieces.{isStore, Digits, Decodes, DueAt, answerLine, Shows};
 ghost use Rattle.driver.specs.Pieces.{endingOf, Numbered, checkpointAt, playedBy, Puts, refusedBy, openedBy};
 use super::Checkpoint;
 use super::Due;
@@ -140,13 +140,13 @@ pub(crate) fn put_answer(
     line: usize,
 ) -> Put
     requires { ⌜ Shows answer opening core line (length (now «private»)) ⌝ }
-    ensures { λ r. ⌜ PutAt (now (out .entry)) at (recordText (place n) (meaning answer (actBytes (about .act) (now (given .entry)) (shown answer opening (now («private» .entry)) core line)))) (now (out .exit)) r ⌝ }
+    ensures { λ r. ⌜ PutAt (now (out .entry)) at (answerLine n (about .act) answer (now (given .entry)) opening (now («private» .entry)) core line) (now (out .exit)) r ⌝ }
 {
     let act = about.act;
     if is_store(act) {
         return listing::put_record(out, at, Place(n), answer, given);
     }
-    let copy = places::copy_start(opening, core, line);
+    let copy = buffers::copy_start(opening, core, line);
     let span = tables::span_of(answer, copy, opening.width);
     let start = span.start;
     let end = start + span.count;

@@ -158,9 +158,7 @@ loop-again c =
     let p = at-put e in
     let m = at-met p in
     let i = at-head (at-step (at-about (at-line m))) .loop .inv in
-    let lp = c .before .before .before .private .given in
-    let lq = c .before .shared .given in
-    (lp ∙ i .0, lq ∙ i .1, step-made (made m) _ _ _ _ _ (p .put-answer .ensures) (e .e .given .1) (c .before .before .before .before .move-bytes .ensures) lp lq)
+    (c .before .before .before .private .given ∙ i .0, c .before .shared .given ∙ i .1, step-made (made m) _ _ _ _ _ (p .put-answer .ensures) (e .e .given .1) (c .before .before .before .before .move-bytes .ensures))
 
 pub play-spec : {M : Type 1} → statement M
 play-spec =
