@@ -1,5 +1,5 @@
 -- The counts of a run: the counts of its records one after the other, and how great they can be.
-use Prim.Native.Nat.{ℕ, _≤_, _<_}
+use Prim.Native.Nat.{ℕ, _+_, _≤_}
 use mathlib.Core.Path.{_≡_, refl, sym, _∙_, ap}
 use mathlib.Core.Bool.{true}
 use mathlib.Core.List.{List, [], _∷_, _++_}
@@ -71,8 +71,8 @@ few-each k n a = rw (le-leb _ _ (a .steps), le-leb _ _ (a .commits), le-leb _ _ 
 pub few-later : (k : Counts) (n m : ℕ) → few k n ≡ true → n ≤ m → few k m ≡ true
 few-later k n m e h = let a = each k n e in few-each k m (omega arith)
 
-pub few-plus : (a b : Counts) (n m : ℕ) → few a n ≡ true → few b 1 ≡ true → n < m → few (plus a b) m ≡ true
-few-plus a b n m e f h = let x = each a n e in let y = each b 1 f in few-each (plus a b) m (omega arith)
+pub few-sum : (a b : Counts) (n m l : ℕ) → few a n ≡ true → few b m ≡ true → n + m ≤ l → few (plus a b) l ≡ true
+few-sum a b n m l e f h = let x = each a n e in let y = each b m f in few-each (plus a b) l (omega arith)
 
 -- a record counts once at most, in each
 pub few-one : (call : Call) (x : Reply) → few (countsOf call x) 1 ≡ true

@@ -32,7 +32,7 @@ use Rattle.driver.specs.Play.{runFrom, few, resumable, Leads, Piece, aSt
 use Rattle.driver.specs.Pieces.{endingOf, Numbered, StepDue, DueAt, aStep as isStep, theEnd as isEnd, shown, Shows, answerLine, checkpointAt, playedBy}
 use Rattle.driver.specs.declared.{Checkpoint.Checkpoint, Played.Played, Last.Last, Due.Due}
 use Rattle.driver.specs.declared.Due.the-variants.{Step, Last as AtLast}
-use Rattle.driver.proofs.Counting.{one-step, same-counts, few-one, few-later, few-plus}
+use Rattle.driver.proofs.Counting.{one-step, same-counts, few-one, few-later, few-sum}
 use Rattle.driver.proofs.Running.{given, leads-none, leads-more, lines-more}
 use Rattle.driver.proofs.Putting.{Written, put-written, put-short}
 use Rattle.driver.proofs.Stepping.{replied}
@@ -152,7 +152,7 @@ module _ {j : Bytes} {from : Checkpoint} {p₀ q₀ old : Bytes} {o : Sizes} {ba
           start = g .start;
           named = g .named;
           inside = x .inside;
-          few = rw ek (few-plus (there .counts) (countsOf call reply) (there .at) next (g .few) (few-one call reply) (x .forward));
+          few = rw ek (few-sum (there .counts) (countsOf call reply) (there .at) 1 next (g .few) (few-one call reply) (omega (arith, x .forward)));
           opening = eo;
           based = rw em (g .based ∙ still m call bs);
           gs = g .gs ++ (given call bs ∷ []);

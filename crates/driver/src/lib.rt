@@ -157,6 +157,7 @@ pub fn play(
                 // The effect of the call on the core, the copy and the manager's line that it is about. Its
                 // line is put first: where there is no room, nothing has changed.
                 let about = call.about();
+                let act = about.act;
                 let named = tables::named_line(about, opening);
                 let owned = s.line[named];
                 let manager = owned.manager;
@@ -176,7 +177,7 @@ pub fn play(
                     out,
                     used,
                     place,
-                    about,
+                    act,
                     answer,
                     &bytes[0..count],
                     private,

@@ -19,7 +19,6 @@ use super::Last;
 use super::Played;
 use super::Progress;
 use journal::Next;
-use protocol::About;
 use protocol::Act;
 use protocol::Answer;
 use protocol::Call;
@@ -126,27 +125,26 @@ fn is_store(act: Act) -> bool
     }
 }
 
-// The line of a call's answer: a store's bytes are those given, a load's those of the copy.
+// The line of a call's answer at place n, for core c and line l: a store's bytes are those given, a load's those of the copy.
 pub(crate) fn put_answer(
     out: &mut [u8],
     at: usize,
     n: u64,
-    about: About,
+    act: Act,
     answer: Answer,
     given: &[u8],
     private: &[u8],
     opening: Opening,
-    core: usize,
-    line: usize,
+    c: usize,
+    l: usize,
 ) -> Put
-    requires { ⌜ Shows answer opening core line (length (now «private»)) ⌝ }
-    ensures { λ r. ⌜ PutAt (now (out .entry)) at (answerLine n (about .act) answer (now (given .entry)) opening (now («private» .entry)) core line) (now (out .exit)) r ⌝ }
+    requires { ⌜ Shows answer opening c l (length (now «private»)) ⌝ }
+    ensures { λ r. ⌜ PutAt (now (out .entry)) at (answerLine n act answer (now (given .entry)) opening (now («private» .entry)) c l) (now (out .exit)) r ⌝ }
 {
-    let act = about.act;
     if is_store(act) {
         return listing::put_record(out, at, Place(n), answer, given);
     }
-    let copy = buffers::copy_start(opening, core, line);
+    let copy = buffers::copy_start(opening, c, l);
     let span = tables::span_of(answer, copy, opening.width);
     let start = span.start;
     let end = start + span.count;

@@ -9,6 +9,7 @@ use Rattle.protocol.specs.Refusals.{openRefusal}
 use Rattle.protocol.specs.Machine.{freshMachine}
 use Rattle.protocol.specs.Step.{openReply}
 use Rattle.protocol.specs.Run.{Given, place}
+use Rattle.protocol.specs.Counts.{nothingMet}
 use Rattle.protocol.specs.declared.Opening.{Opening as Sizes}
 use Rattle.spelling.proofs.Decide.{Told, same-number}
 use Rattle.journal.specs.Journal.{NextOf}
@@ -18,7 +19,7 @@ use Rattle.journal.proofs.OneNext.{one-next-theorem}
 use Rattle.listing.specs.Record.{recordText}
 use Rattle.driver.specs.Listing.{Ending, NotOpened, outside, refusedFirst, notOpened}
 use Rattle.driver.proofs.Reading.{known}
-use Rattle.playing.specs.Listing.{Reads, listingFrom, none, Listing, opens, fails}
+use Rattle.playing.specs.Listing.{Reads, listingFrom, Listing, opens, fails}
 use Rattle.playing.specs.Theorems.{OneListingTheorem}
 use Rattle.playing.proofs.OneReading.{same-next, reads-same, one-reading-theorem}
 
@@ -37,7 +38,7 @@ opened-not x e (refusedFirst y) = let s = same-next x y in let z : _≡_ {A = �
 
 -- the text of a listing whose engine is opened
 abbrev whole : Sizes → List Given → Ending → Bytes
-whole o gs e = recordText (place 0) (openReply o) ++ listingFrom (freshMachine o) none gs e
+whole o gs e = recordText (place 0) (openReply o) ++ listingFrom (freshMachine o) nothingMet gs e
 
 listing-same : {j t u : Bytes} → Listing j t → Listing j u → t ≡ u
 listing-same {j} (opens {o = o} {gs = gs} {e = e} x h r) (opens {form = f'} {o = o'} {next = n'} {gs = hs} {e = d} y k q) =

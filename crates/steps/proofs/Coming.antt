@@ -7,7 +7,7 @@ use native.Mathlib.Omega.{arith}
 use lib.ListN.{length, take, replicate}
 use Rattle.protocol.specs.Buffers.{Bytes, privateLength, sharedLength}
 use Rattle.driver.specs.Play.{stands, Plays, Starts}
-use Rattle.driver.specs.declared.Standing.{Standing}
+use Rattle.driver.specs.declared.Checkpoint.{Checkpoint}
 use Rattle.driver.specs.declared.Progress.{Progress}
 use Rattle.driver.specs.declared.Progress.the-variants.{Done, More, Short, Unfit}
 use Rattle.driver.specs.declared.Played.{Played}
@@ -19,28 +19,28 @@ use Rattle.playing.proofs.Progressing.{start-comes-on-theorem, play-comes-on-th
 use Rattle.steps.specs.Listed.{Ended, ended, stopped, Listed, whole, part}
 
 -- calls of `play` lead from a standing with the buffers p₀ and q₀ to another with p and q, from where `play` goes on
-pub record Come (j : Bytes) (from : Standing) (p₀ q₀ : Bytes) (there : Standing) (p q out : Bytes) : Type 0 where
-  pub standing : stands (length j) there ≡ true
+pub record Come (j : Bytes) (from : Checkpoint) (p₀ q₀ : Bytes) (there : Checkpoint) (p q out : Bytes) : Type 0 where
+  pub standing : resumable (length j) there ≡ true
   pub room : 246 ≤ length out
   pub onward : (ts : List Bytes) → Plays-on j there p q ts → Ended j from p₀ q₀ true
 
-pub come-start : {j : Bytes} {from : Standing} {p q out : Bytes} → stands (length j) from ≡ true → 246 ≤ length out → Come j from p q from p q out
+pub come-start : {j : Bytes} {from : Checkpoint} {p q out : Bytes} → resumable (length j) from ≡ true → 246 ≤ length out → Come j from p q from p q out
 come-start s h = record { standing = s; room = h; onward = λ ts x. ended x }
 
-on-further : {j : Bytes} {from there : Standing} {g : Progress} → Onward j from there g → g ≡ More → (from .at < there .at) × (stands (length j) there ≡ true)
+on-further : {j : Bytes} {from there : Checkpoint} {g : Progress} → Onward j from there g → g ≡ More → (from .at < there .at) × (resumable (length j) there ≡ true)
 on-further finished e = absurd (let z : _≡_ {A = ℕ} 0 1 = cc in omega arith)
 on-further (further a s) e = (a, s)
 
-on-short : {j : Bytes} {from there : Standing} {g : Progress} → Onward j from there g → g ≡ Short → ⊥
+on-short : {j : Bytes} {from there : Checkpoint} {g : Progress} → Onward j from there g → g ≡ Short → ⊥
 on-short finished e = let z : _≡_ {A = ℕ} 0 1 = cc in omega arith
 on-short (further a s) e = let z : _≡_ {A = ℕ} 0 1 = cc in omega arith
 
-on-unfit : {j : Bytes} {from there : Standing} {g : Progress} → Onward j from there g → g ≡ Unfit → ⊥
+on-unfit : {j : Bytes} {from there : Checkpoint} {g : Progress} → Onward j from there g → g ≡ Unfit → ⊥
 on-unfit finished e = let z : _≡_ {A = ℕ} 0 1 = cc in omega arith
 on-unfit (further a s) e = let z : _≡_ {A = ℕ} 0 1 = cc in omega arith
 
-module _ {j : Bytes} {from : Standing} {p₀ q₀ : Bytes} {there : Standing} {p q old p' q' new : Bytes} {r : Played} (c : Come j from p₀ q₀ there p q old) (x : Plays j there p q old p' q' new r) (n : length new ≡ length old) where
-  on : Onward j there (r .standing) (r .progress)
+module _ {j : Bytes} {from : Checkpoint} {p₀ q₀ : Bytes} {there : Checkpoint} {p q old p' q' new : Bytes} {r : Played} (c : Come j from p₀ q₀ there p q old) (x : Plays j there p q old p' q' new r) (n : length new ≡ length old) where
+  on : Onward j there (r .checkpoint) (r .progress)
   on = play-comes-on-theorem j there p q old p' q' new r x (c .standing) (c .room)
 
   -- the call was done
@@ -48,10 +48,10 @@ module _ {j : Bytes} {from : Standing} {p₀ q₀ : Bytes} {there : Standing} {p
   come-done e = c .onward _ (last x e)
 
   -- it goes on, further on in the journal
-  pub come-further : r .progress ≡ More → (there .at < r .standing .at) × (r .standing .at ≤ length j)
-  come-further e = let o = on-further on e in (o .0, met j (r .standing) (o .1) .inside)
+  pub come-further : r .progress ≡ More → (there .at < r .checkpoint .at) × (r .checkpoint .at ≤ length j)
+  come-further e = let o = on-further on e in (o .0, met j (r .checkpoint) (o .1) .inside)
 
-  pub come-more : r .progress ≡ More → Come j from p₀ q₀ (r .standing) p' q' new
+  pub come-more : r .progress ≡ More → Come j from p₀ q₀ (r .checkpoint) p' q' new
   come-more e = record { standing = on-further on e .1; room = omega (arith, n, c .room); onward = λ ts y. c .onward _ (next x e y) }
 
   -- and it answers nothing else
@@ -63,15 +63,15 @@ module _ {j : Bytes} {from : Standing} {p₀ q₀ : Bytes} {there : Standing} {p
 
 -- ---- the first call
 
-begun-stands : {j : Bytes} {there : Standing} {g : Progress} → Begun j there g → g ≡ More → stands (length j) there ≡ true
+begun-stands : {j : Bytes} {there : Checkpoint} {g : Progress} → Begun j there g → g ≡ More → resumable (length j) there ≡ true
 begun-stands listed e = absurd (let z : _≡_ {A = ℕ} 0 1 = cc in omega arith)
 begun-stands (running s) e = s
 
-begun-short : {j : Bytes} {there : Standing} {g : Progress} → Begun j there g → g ≡ Short → ⊥
+begun-short : {j : Bytes} {there : Checkpoint} {g : Progress} → Begun j there g → g ≡ Short → ⊥
 begun-short listed e = let z : _≡_ {A = ℕ} 0 1 = cc in omega arith
 begun-short (running s) e = let z : _≡_ {A = ℕ} 0 1 = cc in omega arith
 
-begun-unfit : {j : Bytes} {there : Standing} {g : Progress} → Begun j there g → g ≡ Unfit → ⊥
+begun-unfit : {j : Bytes} {there : Checkpoint} {g : Progress} → Begun j there g → g ≡ Unfit → ⊥
 begun-unfit listed e = let z : _≡_ {A = ℕ} 0 1 = cc in omega arith
 begun-unfit (running s) e = let z : _≡_ {A = ℕ} 0 1 = cc in omega arith
 
@@ -86,16 +86,16 @@ module _ {j old new : Bytes} {r : Played} (x : Starts j old new r) where
 
   -- or is it with the calls of `play` on buffers of zeros
   pub list-more :
-      {p q : Bytes} {b : Bool} → r .progress ≡ More → p ≡ replicate (privateLength (r .standing .state .opening)) 0
-      → q ≡ replicate (sharedLength (r .standing .state .opening)) 0 → Ended j (r .standing) p q b → Listed j b
+      {p q : Bytes} {b : Bool} → r .progress ≡ More → p ≡ replicate (privateLength (r .checkpoint .state .opening)) 0
+      → q ≡ replicate (sharedLength (r .checkpoint .state .opening)) 0 → Ended j (r .checkpoint) p q b → Listed j b
   list-more e ep eq (ended y) = listed-whole (begun x e (rw (ep, eq) at y))
   list-more e ep eq stopped = part
 
   module _ (h : 246 ≤ length new) where
-    begins : Begun j (r .standing) (r .progress)
+    begins : Begun j (r .checkpoint) (r .progress)
     begins = start-comes-on-theorem j old new r x (omega (arith, h, x .size))
 
-    pub list-stands : r .progress ≡ More → stands (length j) (r .standing) ≡ true
+    pub list-stands : r .progress ≡ More → resumable (length j) (r .checkpoint) ≡ true
     list-stands e = begun-stands begins e
 
     pub list-short : r .progress ≡ Short → ⊥

@@ -13,8 +13,8 @@ ghost use lib.ListN.{length};
 ghost use Rattle.driver.specs.Play.{stands};
 ghost use Rattle.steps.specs.Listed.{Ended, Listed};
 ghost use Rattle.steps.specs.Input.{ReadInto};
+use driver::Checkpoint;
 use driver::Progress;
-use driver::Standing;
 use libc::EINTR;
 use libc::STDIN_FILENO;
 use libc::STDOUT_FILENO;
@@ -59,7 +59,7 @@ fn read_input(buf: &mut [u8]) -> Input
 // Writes the listing of a journal from a standing on: all of it, or false where standard output does not take it.
 fn play_on(
     journal: &[u8],
-    from: Standing,
+    from: Checkpoint,
     private: &mut [u8],
     shared: &mut [u8],
     out: &mut [u8],
