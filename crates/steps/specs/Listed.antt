@@ -6,7 +6,7 @@ use Rattle.driver.specs.declared.Checkpoint.{Checkpoint}
 use Rattle.playing.specs.Listing.{Listing}
 use Rattle.playing.specs.Calls.{joined, Plays-on, Playing}
 
--- from a standing on, with the buffers p and q: true, and calls of `play` lead from there to the listing's end
+-- from a checkpoint on, with the buffers p and q: true, and calls of `play` lead from there to the listing's end
 pub data Ended (journal : Bytes) (from : Checkpoint) (p q : Bytes) : Bool → Type 0 where
   ended : {ts : List Bytes} → Plays-on journal from p q ts → Ended journal from p q true
   stopped : Ended journal from p q false

@@ -3,13 +3,13 @@ use native.Mathlib.Omega.{arith}
 use Rattle.protocol.proofs.Places.{Inside, inside, copies-most, private-most, rows-most, shared-most}
 use Rattle.driver.proofs.Starting.{start-fits}
 use Rattle.steps.specs.Listed.{part}
-use Rattle.steps.proofs.Coming.{list-done, list-more, list-stands, list-short, list-unfit, part-zeros}
+use Rattle.steps.proofs.Calling.{list-finished, list-more, list-resumable, list-short, list-unfit, part-zeros}
 use borrow.Author.Needs.{needs}
 use Rattle.steps.proofs.list.Statement.{statement}
 use Rattle.steps.proofs.list.Tie as tie
 
 -- the sizes of the engine that was opened
-sizes : (c : tie.After-opening) → Inside (c .before .before .before .before .before .before .before .before .before .before .start .result .standing .state .opening)
+sizes : (c : tie.After-opening) → Inside (c .before .before .before .before .before .before .before .before .before .before .start .result .checkpoint .state .opening)
 sizes c = inside _ (start-fits (c .before .before .before .before .before .before .before .before .before .before .start .ensures) (c .before .before .before .enum-told .given .1))
 
 returns : tie.Need-returns
@@ -37,7 +37,7 @@ part-shared-end : tie.Need-part-shared-end
 part-shared-end c = shared-most (sizes (c .before))
 
 play-on-requires : tie.Need-play-on-requires
-play-on-requires c κs = (list-stands (c .before .before .before .before .before .before .before .before .before .before .before .before .before .start .ensures) (omega (arith, c .before .before .before .before .before .before .before .before .before .before .before .before .out2 .given)) (c .before .before .before .before .before .before .enum-told .given .1), omega (arith, c .before .before .before .before .before .before .before .before .before .before .before .before .out2 .given))
+play-on-requires c κs = (list-resumable (c .before .before .before .before .before .before .before .before .before .before .before .before .before .start .ensures) (omega (arith, c .before .before .before .before .before .before .before .before .before .before .before .before .out2 .given)) (c .before .before .before .before .before .before .enum-told .given .1), omega (arith, c .before .before .before .before .before .before .before .before .before .before .before .before .out2 .given))
 
 returns-2 : tie.Need-returns-2
 returns-2 c =
@@ -45,7 +45,7 @@ returns-2 c =
     list-more (c .before .before .before .before .before .before .before .before .before .before .before .before .before .before .before .before .before .start .ensures) (c .before .before .before .before .before .before .before .before .before .before .enum-told .given .1) (part-zeros _ 65536 (private-most a)) (part-zeros _ 9216 (shared-most a)) (c .before .before .before .play-on .ensures)
 
 returns-3 : tie.Need-returns-3
-returns-3 c = list-done (c .before .before .before .before .before .before .before .start .ensures) (c .enum-told2 .given .1)
+returns-3 c = list-finished (c .before .before .before .before .before .before .before .start .ensures) (c .enum-told2 .given .1)
 
 returns-4 : tie.Need-returns-4
 returns-4 c = absurd (list-short (c .before .before .before .before .before .before .before .start .ensures) (omega (arith, c .before .before .before .before .before .before .out2 .given)) (c .enum-told3 .given .1))

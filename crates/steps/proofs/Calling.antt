@@ -6,66 +6,66 @@ use mathlib.Core.List.{List, _∷_}
 use native.Mathlib.Omega.{arith}
 use lib.ListN.{length, take, replicate}
 use Rattle.protocol.specs.Buffers.{Bytes, privateLength, sharedLength}
-use Rattle.driver.specs.Play.{stands, Plays, Starts}
+use Rattle.driver.specs.Play.{resumable, Plays, Starts}
 use Rattle.driver.specs.declared.Checkpoint.{Checkpoint}
 use Rattle.driver.specs.declared.Progress.{Progress}
-use Rattle.driver.specs.declared.Progress.the-variants.{Done, More, Short, Unfit}
+use Rattle.driver.specs.declared.Progress.the-variants.{Finished, More, Short, Unfit}
 use Rattle.driver.specs.declared.Played.{Played}
-use Rattle.driver.proofs.Going.{met}
+use Rattle.driver.proofs.Loop.{resumes}
 use Rattle.playing.specs.Calls.{Plays-on, last, next, Playing, over, begun}
-use Rattle.playing.specs.Theorems.{Begun, listed, running, Onward, finished, further}
+use Rattle.playing.specs.Theorems.{Begun, listed, running, Onward, ends, further}
 use Rattle.playing.proofs.Whole.{whole-theorem}
-use Rattle.playing.proofs.Progressing.{start-comes-on-theorem, play-comes-on-theorem}
+use Rattle.playing.proofs.Progressing.{start-advances-theorem, play-advances-theorem}
 use Rattle.steps.specs.Listed.{Ended, ended, stopped, Listed, whole, part}
 
--- calls of `play` lead from a standing with the buffers p₀ and q₀ to another with p and q, from where `play` goes on
-pub record Come (j : Bytes) (from : Checkpoint) (p₀ q₀ : Bytes) (there : Checkpoint) (p q out : Bytes) : Type 0 where
-  pub standing : resumable (length j) there ≡ true
+-- calls of `play` lead from a checkpoint with the buffers p₀ and q₀ to another with p and q, from where `play` goes on
+pub record Called (j : Bytes) (from : Checkpoint) (p₀ q₀ : Bytes) (there : Checkpoint) (p q out : Bytes) : Type 0 where
+  pub resumable : resumable (length j) there ≡ true
   pub room : 246 ≤ length out
   pub onward : (ts : List Bytes) → Plays-on j there p q ts → Ended j from p₀ q₀ true
 
-pub come-start : {j : Bytes} {from : Checkpoint} {p q out : Bytes} → resumable (length j) from ≡ true → 246 ≤ length out → Come j from p q from p q out
-come-start s h = record { standing = s; room = h; onward = λ ts x. ended x }
+pub called-start : {j : Bytes} {from : Checkpoint} {p q out : Bytes} → resumable (length j) from ≡ true → 246 ≤ length out → Called j from p q from p q out
+called-start s h = record { resumable = s; room = h; onward = λ ts x. ended x }
 
 on-further : {j : Bytes} {from there : Checkpoint} {g : Progress} → Onward j from there g → g ≡ More → (from .at < there .at) × (resumable (length j) there ≡ true)
-on-further finished e = absurd (let z : _≡_ {A = ℕ} 0 1 = cc in omega arith)
+on-further ends e = absurd (let z : _≡_ {A = ℕ} 0 1 = cc in omega arith)
 on-further (further a s) e = (a, s)
 
 on-short : {j : Bytes} {from there : Checkpoint} {g : Progress} → Onward j from there g → g ≡ Short → ⊥
-on-short finished e = let z : _≡_ {A = ℕ} 0 1 = cc in omega arith
+on-short ends e = let z : _≡_ {A = ℕ} 0 1 = cc in omega arith
 on-short (further a s) e = let z : _≡_ {A = ℕ} 0 1 = cc in omega arith
 
 on-unfit : {j : Bytes} {from there : Checkpoint} {g : Progress} → Onward j from there g → g ≡ Unfit → ⊥
-on-unfit finished e = let z : _≡_ {A = ℕ} 0 1 = cc in omega arith
+on-unfit ends e = let z : _≡_ {A = ℕ} 0 1 = cc in omega arith
 on-unfit (further a s) e = let z : _≡_ {A = ℕ} 0 1 = cc in omega arith
 
-module _ {j : Bytes} {from : Checkpoint} {p₀ q₀ : Bytes} {there : Checkpoint} {p q old p' q' new : Bytes} {r : Played} (c : Come j from p₀ q₀ there p q old) (x : Plays j there p q old p' q' new r) (n : length new ≡ length old) where
+module _ {j : Bytes} {from : Checkpoint} {p₀ q₀ : Bytes} {there : Checkpoint} {p q old p' q' new : Bytes} {r : Played} (c : Called j from p₀ q₀ there p q old) (x : Plays j there p q old p' q' new r) (n : length new ≡ length old) where
   on : Onward j there (r .checkpoint) (r .progress)
-  on = play-comes-on-theorem j there p q old p' q' new r x (c .standing) (c .room)
+  on = play-advances-theorem j there p q old p' q' new r x (c .resumable) (c .room)
 
-  -- the call was done
-  pub come-done : r .progress ≡ Done → Ended j from p₀ q₀ true
-  come-done e = c .onward _ (last x e)
+  -- the call was the last
+  pub call-finished : r .progress ≡ Finished → Ended j from p₀ q₀ true
+  call-finished e = c .onward _ (last x e)
 
   -- it goes on, further on in the journal
-  pub come-further : r .progress ≡ More → (there .at < r .checkpoint .at) × (r .checkpoint .at ≤ length j)
-  come-further e = let o = on-further on e in (o .0, met j (r .checkpoint) (o .1) .inside)
+  pub call-further : r .progress ≡ More → (there .at < r .checkpoint .at) × (r .checkpoint .at ≤ length j)
+  call-further e = let o = on-further on e in (o .0, resumes (length j) (r .checkpoint) (o .1) .inside)
 
-  pub come-more : r .progress ≡ More → Come j from p₀ q₀ (r .checkpoint) p' q' new
-  come-more e = record { standing = on-further on e .1; room = omega (arith, n, c .room); onward = λ ts y. c .onward _ (next x e y) }
+  pub call-more : r .progress ≡ More → Called j from p₀ q₀ (r .checkpoint) p' q' new
+  call-more e = record { resumable = on-further on e .1; room = omega (arith, n, c .room); onward = λ ts y. c .onward _ (next x e y) }
 
   -- and it answers nothing else
-  pub come-short : r .progress ≡ Short → ⊥
-  come-short e = on-short on e
+  pub call-short : r .progress ≡ Short → ⊥
+  call-short e = on-short on e
 
-  pub come-unfit : r .progress ≡ Unfit → ⊥
-  come-unfit e = on-unfit on e
+  pub call-unfit : r .progress ≡ Unfit → ⊥
+  call-unfit e = on-unfit on e
 
 -- ---- the first call
 
-begun-stands : {j : Bytes} {there : Checkpoint} {g : Progress} → Begun j there g → g ≡ More → resumable (length j) there ≡ true
-begun-stands listed e = absurd (let z : _≡_ {A = ℕ} 0 1 = cc in omega arith)
-begun-stands (running s) e = s
+begun-resumable : {j : Bytes} {there : Checkpoint} {g : Progress} → Begun j there g → g ≡ More → resumable (length j) there ≡ true
+begun-resumable listed e = absurd (let z : _≡_ {A = ℕ} 0 1 = cc in omega arith)
+begun-resumable (running s) e = s
 
 begun-short : {j : Bytes} {there : Checkpoint} {g : Progress} → Begun j there g → g ≡ Short → ⊥
 begun-short listed e = let z : _≡_ {A = ℕ} 0 1 = cc in omega arith
@@ -81,8 +81,8 @@ listed-whole {j} {ts} x = whole x (whole-theorem j ts x)
 
 module _ {j old new : Bytes} {r : Played} (x : Starts j old new r) where
   -- the listing is out whole
-  pub list-done : r .progress ≡ Done → Listed j true
-  list-done e = listed-whole (over x e)
+  pub list-finished : r .progress ≡ Finished → Listed j true
+  list-finished e = listed-whole (over x e)
 
   -- or is it with the calls of `play` on buffers of zeros
   pub list-more :
@@ -93,10 +93,10 @@ module _ {j old new : Bytes} {r : Played} (x : Starts j old new r) where
 
   module _ (h : 246 ≤ length new) where
     begins : Begun j (r .checkpoint) (r .progress)
-    begins = start-comes-on-theorem j old new r x (omega (arith, h, x .size))
+    begins = start-advances-theorem j old new r x (omega (arith, h, x .size))
 
-    pub list-stands : r .progress ≡ More → resumable (length j) (r .checkpoint) ≡ true
-    list-stands e = begun-stands begins e
+    pub list-resumable : r .progress ≡ More → resumable (length j) (r .checkpoint) ≡ true
+    list-resumable e = begun-resumable begins e
 
     pub list-short : r .progress ≡ Short → ⊥
     list-short e = begun-short begins e
