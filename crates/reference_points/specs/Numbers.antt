@@ -8,7 +8,8 @@ use lib.ListN.{drop, replicate}
 use Rattle.protocol.specs.Stamps.{stamp}
 use Rattle.protocol.specs.Buffers.{Bytes}
 use Rattle.protocol.specs.Machine.{Machine, machine, freshMachine, Pieces}
-use Rattle.protocol.specs.Step.{Reply, refused, done, «open», Outcome, step, openReply, opened}
+use Rattle.protocol.specs.Step.{Reply, refused, done, Outcome, step, openReply, opened}
+use Rattle.protocol.specs.declared.Name.the-variants.{Open}
 use Rattle.protocol.specs.declared.Copy.the-variants.{None as NoCopy}
 use Rattle.protocol.specs.declared.Want.the-variants.{Load as WantLoad, Store as WantStore}
 use Rattle.protocol.specs.declared.Held.the-variants.{None as NothingHeld, Version}
@@ -230,7 +231,7 @@ abbrev pub inside : List Opening
 inside = opening 1 1 1 1 ∷ opening 16 64 64 1000 ∷ opening 2 3 4 5 ∷ []
 
 abbrev pub accepted : Opening → Opened
-accepted o = record { reply = done «open»; state = fresh o }
+accepted o = record { reply = done Open; state = fresh o }
 
 -- "a refused opening, which gets none, the fresh state of 1 core, 1 line, width 1, lease 1"
 abbrev pub refusedWithSeven : Opening → Opened

@@ -5,7 +5,8 @@
 use Prim.Native.Nat.{ℕ}
 use mathlib.Core.List.{List, [], _∷_}
 use Rattle.protocol.specs.Stamps.{stamp}
-use Rattle.protocol.specs.Step.{load, store, fence, refused, done, commit, ask, share}
+use Rattle.protocol.specs.Step.{load, store, fence, refused, done, commit}
+use Rattle.protocol.specs.declared.Name.the-variants.{Ask as ask, Share as share}
 use Rattle.protocol.specs.declared.Copy.{Copy}
 use Rattle.protocol.specs.declared.Copy.the-variants.{None as NoCopy}
 use Rattle.protocol.specs.declared.Want.the-variants.{Load as WantLoad}

@@ -5,8 +5,11 @@ use mathlib.Core.Path.{_≡_}
 use mathlib.Core.List.{List, [], _∷_, _++_, map}
 use Rattle.protocol.specs.Stamps.{stamp}
 use Rattle.protocol.specs.Machine.{machine, Pieces}
-use Rattle.protocol.specs.Step.{Done, done, ask, recall, share, renew, own, dropped, evict, advance, yield, taken, commit, load, store, fence}
+use Rattle.protocol.specs.Step.{done, commit, load, store, fence}
 use Rattle.protocol.specs.Step.{Outcome, step}
+use Rattle.protocol.specs.declared.Name.{Name}
+use Rattle.protocol.specs.declared.Name.the-variants.{Ask as ask, Recall as recall, Share as share, Renew as renew, Own as own, Drop as dropped}
+use Rattle.protocol.specs.declared.Name.the-variants.{Evict as evict, Advance as advance, Yield as yield, Take as taken}
 use Rattle.protocol.specs.declared.Copy.{Copy}
 use Rattle.protocol.specs.declared.Copy.the-variants.{None as NoCopy}
 use Rattle.protocol.specs.declared.Want.{Want}
@@ -28,7 +31,7 @@ use Rattle.reference_points.specs.Rows.{Places, places, copyBytes, manag
 use Rattle.reference_points.specs.Rows.{counting, private, shared, stateOf, withCore, withLine}
 
 -- a call that is done: what it answers, the pieces and the bytes after it
-abbrev pub doing : Pieces → Call → Done → Pieces → Places → Row
+abbrev pub doing : Pieces → Call → Name → Pieces → Places → Row
 doing p call d q b = record { lease = 10; before = p; call = call; reply = done d; after = q; bytes = b }
 
 -- rows of a step that leaves the clocks, as they stand and with other clocks
@@ -194,10 +197,10 @@ recalling a k k′ =
 
 -- a request for the shared line, by a core with this copy, which stays: the asked lts, what is asked for, the version held; the manager's line; its
 -- answer, the slot, the line and the bytes after it
-abbrev pub servingOver : Copy → ℕ → Want → Held → Line → Done → Slot → Line → Places → Row
+abbrev pub servingOver : Copy → ℕ → Want → Held → Line → Name → Slot → Line → Places → Row
 servingOver x lts a h m d s m′ b = doing (pieces (core 7 9 (asked a lts h)) x m) (Serve 1) d (pieces (core 7 9 s) x m′) b
 
-abbrev pub serving : ℕ → Want → Held → Line → Done → Slot → Line → Places → Row
+abbrev pub serving : ℕ → Want → Held → Line → Name → Slot → Line → Places → Row
 serving = servingOver (sharedCopy 3 8)
 
 -- the manager's bytes as the answer
@@ -246,14 +249,14 @@ serveRows =
 -- ---- receive
 
 -- the manager's line, which stays; the slot and the copy before it; its answer, the copy and the bytes after it. "Slot becomes empty."
-abbrev pub receivingOf : Line → Slot → Copy → Done → Copy → Places → Row
+abbrev pub receivingOf : Line → Slot → Copy → Name → Copy → Places → Row
 receivingOf m s x d y b = doing (pieces (core 7 9 s) x m) (Receive 1) d (pieces (core 7 9 Empty) y m) b
 
 -- of a shared line; of one's own
-abbrev pub receiving : Slot → Copy → Done → Copy → Places → Row
+abbrev pub receiving : Slot → Copy → Name → Copy → Places → Row
 receiving = receivingOf (busy (sharedLine 4 30))
 
-abbrev pub receivingOwn : Slot → Copy → Done → Copy → Places → Row
+abbrev pub receivingOwn : Slot → Copy → Name → Copy → Places → Row
 receivingOwn = receivingOf (busy (ownedLine 1 NoRecall))
 
 -- the answer's bytes as the copy
