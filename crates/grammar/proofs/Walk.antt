@@ -9,7 +9,7 @@ use lib.ListN.{length, getD, take, drop, drop-of-length-le}
 use lib.Seq.{drop-cons}
 use lib.Dec.{eqb}
 use Rattle.grammar.specs.Form.{Part, fixed, value, Value, number, pairs, partOf, parts}
-use Rattle.grammar.specs.Scan.{valueAt, valuesIn, isValue, kindOf, ValueRead, Reads, right, wrong, ended, longer, same, other, aValue, nothingRead}
+use Rattle.grammar.specs.Scan.{numberCount, valueAt, valuesIn, isValue, kindOf, ValueRead, Reads, right, wrong, ended, longer, same, other, aValue, nothingRead}
 use Rattle.grammar.specs.declared.Values.{Values}
 use Rattle.spelling.proofs.Split.{upTo-within, upTo-part}
 
@@ -17,10 +17,10 @@ use Rattle.spelling.proofs.Split.{upTo-within, upTo-part}
 pub record State (s form : List ℕ) (v : Values) (at j : ℕ) : Type 0 where
   pub within : at ≤ length s
   pub inside : j ≤ length form
-  pub room : v .count + valuesIn (parts (drop j form)) ≤ 4
+  pub room : v .count + valuesIn (parts (drop j form)) ≤ numberCount
   pub goes : (r : Values) → Reads s (parts (drop j form)) at v r → Reads s (parts form) 0 (nothingRead s) r
 
-pub start : (s form : List ℕ) → valuesIn (parts form) ≤ 4 → State s form (nothingRead s) 0 0
+pub start : (s form : List ℕ) → valuesIn (parts form) ≤ numberCount → State s form (nothingRead s) 0 0
 start s form h = record { within = omega arith; inside = omega arith; room = omega arith; goes = λ r d. d }
 
 -- ---- the next part
@@ -62,7 +62,7 @@ module _ (s form : List ℕ) (v : Values) (at j : ℕ) (i : State s form v at j)
     is-next : parts (drop j form) ≡ value (kindOf (getD form j 0)) ∷ parts (drop (j + 1) form)
     is-next = next-is form j _ h (value-part (getD form j 0) b)
 
-    pub value-room : v .count < 4
+    pub value-room : v .count < numberCount
     unfolding valuesIn
     value-room = omega (arith, i .room, ap valuesIn is-next)
 

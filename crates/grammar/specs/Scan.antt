@@ -1,6 +1,6 @@
 -- How one line is read against one form, byte by byte: what the private functions promise. The public promises rest on `Line`
 -- alone. Assumes nothing.
-use Prim.Native.Nat.{ℕ, _+_, _≤_, _<_}
+use Prim.Native.Nat.{ℕ, zero, suc, _+_, _*_, _%_, _≤_, _<_}
 use mathlib.Core.Path.{_≡_}
 use mathlib.Core.Bool.{Bool, true, cond}
 use mathlib.Core.List.{List, [], _∷_}
@@ -76,9 +76,25 @@ pub data Reads (s : List ℕ) : List Part → ℕ → Values → Values → Type
   other : {p : List Part} {b at : ℕ} {v r : Values} → (at < length s → getD s at 0 ≡ b → ⊥) → r .fault ≡ 11 → Reads s (fixed b ∷ p) at v r
   aValue : {p : List Part} {q : Value} {at : ℕ} {v w r : Values} → ValueRead q v (valueAt s at) at w → Reads s p (at + length (valueAt s at)) w r → Reads s (value q ∷ p) at v r
 
+-- how many numbers a line has at most, how many rows the grammar has, and how many forms of journal (form 0, where the first line
+-- is due, counted)
+abbrev pub numberCount : ℕ
+numberCount = 4
+
+abbrev pub rowCount : ℕ
+rowCount = 10
+
+abbrev pub formCount : ℕ
+formCount = 2
+
+-- no numbers yet
+abbrev pub zeros : ℕ → List ℕ
+zeros zero = []
+zeros (suc n) = 0 ∷ zeros n
+
 -- nothing read yet: the data, if there are none, are the empty part at the line's end
 abbrev pub nothingRead : List ℕ → Values
-nothingRead s = record { fault = 0; count = 0; number = 0 ∷ 0 ∷ 0 ∷ 0 ∷ []; start = length s }
+nothingRead s = record { fault = 0; count = 0; number = zeros numberCount; start = length s }
 
 -- all rows, in the order of the code's table
 abbrev pub table : List Row
@@ -87,14 +103,28 @@ table = openings ++ steps
 abbrev pub formOf : ℕ → List Part
 formOf k = rowAt table k .form
 
+-- the rows of a form of journal are those from one up to another
+abbrev pub fromOf : ℕ → ℕ
+fromOf form = getD (0 ∷ 1 ∷ []) form 0
+
+abbrev pub toOf : ℕ → ℕ
+toOf form = getD (1 ∷ 10 ∷ []) form 0
+
 -- the byte of a part of fixed text
 abbrev pub byteOf : Part → ℕ
 byteOf (fixed b) = b
 byteOf (value q) = 0
 
--- the fourth byte of a row's form
-abbrev pub keyOf : ℕ → ℕ
-keyOf k = byteOf (getD (formOf k) 3 (fixed 0))
+-- the key of a line and of a form: by its seventh and its eighth byte
+abbrev pub keyOf : ℕ → ℕ → ℕ
+keyOf a b = (a * 15 + b) % 32
+
+abbrev pub rowKey : Row → ℕ
+rowKey r = keyOf (byteOf (getD (r .form) 6 (fixed 0))) (byteOf (getD (r .form) 7 (fixed 0)))
+
+-- r is the only row with this key
+abbrev pub RowAt : ℕ → ℕ → Type 0
+RowAt key r = (k : ℕ) → k < rowCount → rowKey (rowAt table k) ≡ key → k ≡ r
 
 -- the line s does not have the form p, whatever the values
 abbrev pub Fails : List ℕ → List Part → Type 0
@@ -107,7 +137,7 @@ pub data FoundIn (s : List ℕ) (from to : ℕ) (r : Found) : Type 0 where
 
 -- where nothing is wrong, the row is one of the table's
 abbrev pub Placed : Found → Type 0
-Placed f = f .values .fault ≡ 0 → f .row < 10
+Placed f = f .values .fault ≡ 0 → f .row < rowCount
 
 -- what a row says of what was read, or the refusal
 abbrev pub answerOf : Found → ℕ → Line

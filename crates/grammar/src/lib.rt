@@ -1,12 +1,12 @@
 // The journal's lines: what one line says, by the forms of the grammar.
 //
-// One function, `fill`, reads a line against any form, part by part; the forms are rows of a table. A new first line or step is
-// a new row: here in `FORMS`, `KEYS` and `STARTS` with the call that it makes, and in specs/Table.antt. The rows that a journal of
-// some form has are one part of the table, from one row up to another.
+// One function, `fill`, reads a line against any form, part by part; the forms are rows of a table, and two bytes of a line tell
+// the only row that it may have. A new first line or step is a new row: here in `PLACES`, in `fill_row` and in `call_of`, and in
+// specs/Table.antt. The rows that a journal of some form has are one part of the table, from one row up to another.
 ghost use mathlib.Core.Path.{_≡_};
 ghost use Prim.Native.Nat.{_≤_, _<_};
 ghost use Rattle.grammar.specs.Form.{parts};
-ghost use Rattle.grammar.specs.Scan.{valuesIn, isValue, kindOf, keyOf, formOf, NumberRead, DataRead, ValueRead, Reads, nothingRead, FoundIn, answerOf, Placed, Called};
+ghost use Rattle.grammar.specs.Scan.{valuesIn, isValue, kindOf, numberCount, rowCount, formCount, fromOf, toOf, keyOf, RowAt, formOf, NumberRead, DataRead, ValueRead, Reads, nothingRead, FoundIn, answerOf, Placed, Called};
 ghost use Rattle.grammar.specs.Table.{rowsOf};
 ghost use Rattle.grammar.specs.Line.{LineOf, numberOf};
 use protocol::Call;
@@ -30,37 +30,68 @@ pub enum Line {
     Refused(u32),
 }
 
-// The grammar: one form to a line, the first line and then the steps. N stands for a number and H for data.
-const FORMS: [u8; 220] = *b"\
-fabric=1 cores=N lines=N width=N lease=N\n\
-op=evict core=N line=N\n\
-op=load core=N line=N\n\
-op=store core=N line=N data=H\n\
-op=fence core=N\n\
-op=serve core=N\n\
-op=receive core=N\n\
-op=advance core=N by=N\n\
-op=yield line=N\n\
-op=take line=N\n";
+// How many rows the grammar has, how many numbers a line has at most, and how many forms of journal there are, where the first
+// line is due counted as one (`rowCount`, `numberCount` and `formCount` of specs/Scan.antt).
+const ROWS: usize = 10;
 
-// The fourth byte of each form: a row whose byte is not the line's need not be read.
-const KEYS: [u8; 10] = *b"relsfsrayt";
+const NUMBERS: usize = 4;
 
-// Where each form starts in `FORMS`, and the end.
-const STARTS: [usize; 11] = [0, 41, 64, 86, 116, 132, 148, 166, 189, 205, 220];
+const FORMS: u32 = 2;
+
+// The rows of each form of journal: from one up to another.
+const FROM: [u8; 2] = [0, 1];
+
+const TO: [u8; 2] = [1, 10];
+
+// The row of each key; 10, which no form has, where there is none. The key of a line or a form is 15 times its seventh byte and its
+// eighth, modulo 32: no two rows have the same.
+const PLACES: [u8; 32] = [
+    10,
+    1,
+    10,
+    10,
+    0,
+    10,
+    10,
+    10,
+    10,
+    10,
+    10,
+    9,
+    10,
+    10,
+    10,
+    5,
+    10,
+    10,
+    4,
+    3,
+    6,
+    10,
+    10,
+    10,
+    8,
+    10,
+    10,
+    10,
+    2,
+    7,
+    10,
+    10,
+];
 
 // What was read of a line by a form: 0 or the refusal, the numbers so far and how many, and where the data start (the line's
 // end, if there are none).
 struct Values {
     fault: u32,
     count: usize,
-    number: [u32; 4],
+    number: [u32; NUMBERS],
     start: usize,
 }
 
 // The values with one number more, where the form has an N; 12 where there is none.
 fn with_number(v: Values, s: &[u8]) -> Values
-    requires { ⌜ v .count < 4 ⌝ }
+    requires { ⌜ v .count < numberCount ⌝ }
     ensures { λ r. ⌜ NumberRead v (now (s .entry)) r ⌝ }
 {
     let mut w = v;
@@ -109,7 +140,7 @@ fn is_value(p: u8) -> bool
 
 // The values with one more, `s`, of the kind that a byte of a form stands for. It starts at `at`.
 fn with_value(v: Values, p: u8, s: &[u8], at: usize) -> Values
-    requires { ⌜ v .count < 4 ⌝ }
+    requires { ⌜ v .count < numberCount ⌝ }
     ensures { λ r. ⌜ ValueRead (kindOf p) v (now (s .entry)) at r ⌝ }
 {
     if p == b'N' {
@@ -125,20 +156,20 @@ fn no_form() -> Values
     Values {
         fault: 11,
         count: 0,
-        number: [0u32; 4],
+        number: [0u32; NUMBERS],
         start: 0,
     }
 }
 
 // The line read against one form, in which N stands for a number and H for data.
 fn fill(line: &[u8], form: &[u8]) -> Values
-    requires { ⌜ valuesIn (parts (now form)) ≤ 4 ⌝ }
+    requires { ⌜ valuesIn (parts (now form)) ≤ numberCount ⌝ }
     ensures { λ r. ⌜ Reads (now (line .entry)) (parts (now (form .entry))) 0 (nothingRead (now (line .entry))) r ⌝ }
 {
     let mut v = Values {
         fault: 0,
         count: 0,
-        number: [0u32; 4],
+        number: [0u32; NUMBERS],
         start: line.len(),
     };
     let mut at: usize = 0;
@@ -167,22 +198,52 @@ fn fill(line: &[u8], form: &[u8]) -> Values
     v
 }
 
-// The fourth byte of a row's form.
-fn key_of(row: usize) -> u8
-    requires { ⌜ row < 10 ⌝ }
-    ensures { λ r. ⌜ r ≡ keyOf row ⌝ }
-{
-    KEYS[row]
-}
-
 // The line read against the form of a row.
 fn fill_row(line: &[u8], row: usize) -> Values
-    requires { ⌜ row < 10 ⌝ }
+    requires { ⌜ row < rowCount ⌝ }
     ensures { λ r. ⌜ Reads (now (line .entry)) (formOf row) 0 (nothingRead (now (line .entry))) r ⌝ }
 {
-    let a = STARTS[row];
-    let e = STARTS[row + 1] - 1;
-    fill(line, &FORMS[a..e])
+    match row {
+        0 => fill(line, b"fabric=1 cores=N lines=N width=N lease=N"),
+        1 => fill(line, b"op=evict core=N line=N"),
+        2 => fill(line, b"op=load core=N line=N"),
+        3 => fill(line, b"op=store core=N line=N data=H"),
+        4 => fill(line, b"op=fence core=N"),
+        5 => fill(line, b"op=serve core=N"),
+        6 => fill(line, b"op=receive core=N"),
+        7 => fill(line, b"op=advance core=N by=N"),
+        8 => fill(line, b"op=yield line=N"),
+        _ => fill(line, b"op=take line=N"),
+    }
+}
+
+// A byte as an index.
+fn wide(b: u8) -> usize
+    ensures { λ r. ⌜ r ≡ b ⌝ }
+{
+    b as usize
+}
+
+// The only row that a line may have whose seventh and eighth byte are these.
+fn row_at(a: u8, b: u8) -> usize
+    ensures { λ r. ⌜ RowAt (keyOf a b) r ⌝ }
+{
+    wide(PLACES[(wide(a) * 15 + wide(b)) % 32])
+}
+
+// The first row of a form, and the row past its last.
+fn from_row(form: u32) -> usize
+    requires { ⌜ form < formCount ⌝ }
+    ensures { λ r. ⌜ r ≡ fromOf form ⌝ }
+{
+    wide(FROM[form as usize])
+}
+
+fn to_row(form: u32) -> usize
+    requires { ⌜ form < formCount ⌝ }
+    ensures { λ r. ⌜ r ≡ toOf form ⌝ }
+{
+    wide(TO[form as usize])
 }
 
 // The row whose form a line has, and what was read by it.
@@ -191,33 +252,33 @@ struct Found {
     values: Values,
 }
 
-// The rows from `from` up to `to`, one after the other, until one has the line.
+// Which of the rows from `from` up to `to` has the line.
 fn find(line: &[u8], from: usize, to: usize) -> Found
-    requires { ⌜ (from ≤ to) × (to ≤ 10) ⌝ }
+    requires { ⌜ (from ≤ to) × (to ≤ rowCount) ⌝ }
     ensures { λ r. ⌜ FoundIn (now (line .entry)) from to r ⌝ }
 {
-    if line.len() < 4 {
+    if line.len() < 8 {
         return Found {
             row: to,
             values: no_form(),
         };
     }
-    let key = line[3];
-    let mut row = from;
-    while row < to {
-        if key_of(row) != key {
-            row += 1;
-            continue;
-        }
-        let values = fill_row(line, row);
-        if values.fault != 11 {
-            return Found { row, values };
-        }
-        row += 1;
+    let row = row_at(line[6], line[7]);
+    if row < from {
+        return Found {
+            row: to,
+            values: no_form(),
+        };
+    }
+    if to <= row {
+        return Found {
+            row: to,
+            values: no_form(),
+        };
     }
     Found {
-        row: to,
-        values: no_form(),
+        row,
+        values: fill_row(line, row),
     }
 }
 
@@ -229,8 +290,8 @@ fn index(n: u32) -> usize
 }
 
 // The call of a step row, given the line's numbers.
-fn call_of(row: usize, number: [u32; 4]) -> Call
-    requires { ⌜ (0 < row) × (row < 10) ⌝ }
+fn call_of(row: usize, number: [u32; NUMBERS]) -> Call
+    requires { ⌜ (0 < row) × (row < rowCount) ⌝ }
     ensures { λ r. ⌜ Called row number r ⌝ }
 {
     let a = index(number[0]);
@@ -287,13 +348,10 @@ pub fn read_line(line: &[u8], form: u32) -> Line
     if 200 < line.len() {
         return Line::Refused(10);
     }
-    if form == 0 {
-        return answer(find(line, 0, 1), line.len());
+    if FORMS <= form {
+        return Line::Refused(11);
     }
-    if form == 1 {
-        return answer(find(line, 1, 10), line.len());
-    }
-    Line::Refused(11)
+    answer(find(line, from_row(form), to_row(form)), line.len())
 }
 
 // The scope's number of an answer: a refusal's own, and 0 for a line that is read.

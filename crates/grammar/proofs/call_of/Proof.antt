@@ -1,8 +1,7 @@
 -- `grammar::call_of` meets its contract: in each arm, what the row says of its numbers. Assumes nothing.
 use mathlib.Core.Path.{_≡_}
-use Prim.Native.Nat.{_≤_}
 use native.Mathlib.Nat.{le-antisymm, le-of-suc-le-suc}
-use Rattle.grammar.proofs.Rows.{past}
+use Rattle.grammar.proofs.Rows.{Others, past}
 use borrow.Author.Needs.{needs}
 use Rattle.grammar.proofs.call_of.Statement.{statement}
 use Rattle.grammar.proofs.call_of.Tie as tie
@@ -47,12 +46,10 @@ returns-8 : tie.Need-returns-8
 returns-8 c = rw (c .match .keys8, c .before .before .index .ensures)
 
 returns-9 : tie.Need-returns-9
+unfolding Others
 returns-9 c =
     let n = c .before .before .before .args .row in
-    let r = c .match .rest in
-    let four : 5 ≤ n = past n 1 (c .before .before .before .pre .0) (r .0 .0 .0 .0 .0 .0 .0 .1) (r .0 .0 .0 .0 .0 .0 .1) (r .0 .0 .0 .0 .0 .1) (r .0 .0 .0 .0 .1) in
-    let eight : 9 ≤ n = past n 5 four (r .0 .0 .0 .1) (r .0 .0 .1) (r .0 .1) (r .1) in
-    let e : n ≡ 9 = le-antisymm (le-of-suc-le-suc (c .before .before .before .pre .1)) eight in
+    let e : n ≡ 9 = le-antisymm (le-of-suc-le-suc (c .before .before .before .pre .1)) (past 1 n 8 (c .before .before .before .pre .0) (c .match .rest)) in
     rw (e, c .before .before .index .ensures)
 
 pub call-of-spec : {M : Type 1} → statement M

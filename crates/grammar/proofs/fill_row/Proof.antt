@@ -1,69 +1,42 @@
--- `grammar::fill_row` meets its contract, by the law of the table's entries. Assumes nothing.
-use Prim.Native.Nat.{_+_, _≤_, _<_}
-use mathlib.Core.Path.{sym, subst}
-use mathlib.Core.List.{List}
+-- `grammar::fill_row` meets its contract: in each arm, the row's own form. Assumes nothing.
+use mathlib.Core.Path.{_≡_}
+use native.Mathlib.Nat.{le-antisymm, le-of-suc-le-suc}
 use native.Mathlib.Omega.{arith}
-use Rattle.grammar.specs.Form.{Part}
-use Rattle.grammar.specs.Scan.{valuesIn, Reads, nothingRead}
-use Rattle.grammar.proofs.Rows.{startOf, entry-at}
+use lib.Dec.{lit≤}
+use Rattle.grammar.proofs.Rows.{entry-at, Others, past}
 use borrow.Author.Needs.{needs}
 use Rattle.grammar.proofs.fill_row.Statement.{statement}
 use Rattle.grammar.proofs.fill_row.Tie as tie
 
-mul-a : tie.Need-mul-a
-mul-a c = search needs
-
-array-read-a : tie.Need-array-read-a
-array-read-a c = search needs
-
-add-e : tie.Need-add-e
-add-e c = search needs
-
-mul-e : tie.Need-mul-e
-mul-e c = search needs
-
-array-read-e : tie.Need-array-read-e
-array-read-e c = search needs
-
--- a form starts before its end, inside the table
-bounds : (c : tie.Start) → (startOf (c .args .row) < startOf (c .args .row + 1)) × (startOf (c .args .row + 1) ≤ 220)
-bounds c = let e = entry-at (c .args .row) (c .pre) in (e .order, e .high)
-
-sub-e : tie.Need-sub-e
-sub-e c = let e = bounds (c .before) in omega arith
-
-sub-fill : tie.Need-sub-fill
-sub-fill c = let e = bounds (c .before) in omega arith
-
-part-fill-start : tie.Need-part-fill-start
-part-fill-start c = let e = bounds (c .before .before) in omega arith
-
-part-fill-end : tie.Need-part-fill-end
-part-fill-end c = let e = bounds (c .before .before) in omega arith
-
-fill-requires : tie.Need-fill-requires
-fill-requires c κs =
-    let e = entry-at (c .before .before .before .args .row) (c .before .before .before .pre) in
-    subst (λ (p : List Part). valuesIn p ≤ 4) (sym (e .same)) (e .room)
-
-returns : tie.Need-returns
-returns c =
-    let a = c .before .before .before .before .args in
-    let e = entry-at (a .row) (c .before .before .before .before .pre) in
-    subst (λ (p : List Part). Reads (a .line .now) p 0 (nothingRead (a .line .now)) (c .fill .result)) (e .same) (c .fill .ensures)
+-- the last arm has the last row
+last : tie.Need-returns-10
+unfolding Others
+last c =
+    let n = c .before .before .before .before .args .row in
+    let e : n ≡ 9 = le-antisymm (le-of-suc-le-suc (c .before .before .before .before .pre)) (past 0 n 9 (omega arith) (c .before .before .match .rest)) in
+    rw e (c .fill10 .ensures)
 
 pub fill-row-spec : {M : Type 1} → statement M
 fill-row-spec =
     tie.close
     (tie.spec
-    mul-a
-    array-read-a
-    add-e
-    mul-e
-    array-read-e
-    sub-e
-    sub-fill
-    part-fill-start
-    part-fill-end
-    fill-requires
-    returns)
+    (λ c. search needs) (λ c κs. entry-at 0 (lit≤ tt) .room)
+    (λ c. search needs) (λ c κs. entry-at 1 (lit≤ tt) .room)
+    (λ c. search needs) (λ c κs. entry-at 2 (lit≤ tt) .room)
+    (λ c. search needs) (λ c κs. entry-at 3 (lit≤ tt) .room)
+    (λ c. search needs) (λ c κs. entry-at 4 (lit≤ tt) .room)
+    (λ c. search needs) (λ c κs. entry-at 5 (lit≤ tt) .room)
+    (λ c. search needs) (λ c κs. entry-at 6 (lit≤ tt) .room)
+    (λ c. search needs) (λ c κs. entry-at 7 (lit≤ tt) .room)
+    (λ c. search needs) (λ c κs. entry-at 8 (lit≤ tt) .room)
+    (λ c. search needs) (λ c κs. entry-at 9 (lit≤ tt) .room)
+    (λ c. rw (c .before .before .match .keys1) (c .fill .ensures))
+    (λ c. rw (c .before .before .match .keys2) (c .fill2 .ensures))
+    (λ c. rw (c .before .before .match .keys3) (c .fill3 .ensures))
+    (λ c. rw (c .before .before .match .keys4) (c .fill4 .ensures))
+    (λ c. rw (c .before .before .match .keys5) (c .fill5 .ensures))
+    (λ c. rw (c .before .before .match .keys6) (c .fill6 .ensures))
+    (λ c. rw (c .before .before .match .keys7) (c .fill7 .ensures))
+    (λ c. rw (c .before .before .match .keys8) (c .fill8 .ensures))
+    (λ c. rw (c .before .before .match .keys9) (c .fill9 .ensures))
+    last)
