@@ -16,7 +16,7 @@ use Rattle.grammar.specs.Line.{said, Fits, LineOf, noForm, wrongNumber, 
 use Rattle.grammar.specs.Scan.{rowCount, numberCount, formCount, zeros, fromOf, toOf, RowAt, Reads, table, formOf, valuesIn, nothingRead, Fails, FoundIn, nowhere, here, answerOf, Placed}
 use Rattle.grammar.specs.declared.Found.{Found}
 use Rattle.grammar.proofs.Outcome.{Outcome, fails, badNumber, badData, fine, outcome-of, fails-of}
-use Rattle.grammar.proofs.Rows.{lineKey, entry-at, same-key}
+use Rattle.grammar.proofs.Rows.{lineTag, entry-at, same-tag}
 
 -- ---- the numbers that were read, as the row's numbers
 
@@ -127,22 +127,22 @@ no-row (suc (suc form)) s h k vs f = omega (arith, f .listed)
 -- ---- which row was found
 
 -- where the only row that the line may have is not one of a part of the table, no row of the part has it
-pub none-there : (s : List ℕ) (from to row : ℕ) → to ≤ rowCount → RowAt (lineKey s) row → (from ≤ row → row < to → ⊥) → (k : ℕ) → from ≤ k → k < to → Fails s (formOf k)
+pub none-there : (s : List ℕ) (from to row : ℕ) → to ≤ rowCount → RowAt (lineTag s) row → (from ≤ row → row < to → ⊥) → (k : ℕ) → from ≤ k → k < to → Fails s (formOf k)
 none-there s from to row h o n k a b vs f =
-    let e : k ≡ row = o k (omega arith) (same-key k s vs (omega arith) f .1) in
+    let e : k ≡ row = o k (omega arith) (same-tag k s vs (omega arith) f .1) in
     n (omega arith) (omega arith)
 
 pub none-short : (s : List ℕ) (from to : ℕ) → to ≤ rowCount → length s < 8 → (k : ℕ) → from ≤ k → k < to → Fails s (formOf k)
-none-short s from to h l k a b vs f = omega (arith, same-key k s vs (omega arith) f .0)
+none-short s from to h l k a b vs f = omega (arith, same-tag k s vs (omega arith) f .0)
 
 pub found-by :
-    (s : List ℕ) (from to : ℕ) (f : Found) → to ≤ rowCount → RowAt (lineKey s) (f .row) → from ≤ f .row → f .row < to
+    (s : List ℕ) (from to : ℕ) (f : Found) → to ≤ rowCount → RowAt (lineTag s) (f .row) → from ≤ f .row → f .row < to
     → Reads s (formOf (f .row)) 0 (nothingRead s) (f .values) → FoundIn s from to f
 found-by s from to f h o a b d = by (same-number (f .values .fault) 11)
   where
     fail : f .values .fault ≡ 11 → (k : ℕ) → from ≤ k → k < to → Fails s (formOf k)
     fail e k x y vs g =
-        let i : k ≡ f .row = o k (omega arith) (same-key k s vs (omega arith) g .1) in
+        let i : k ≡ f .row = o k (omega arith) (same-tag k s vs (omega arith) g .1) in
         fails-of s (formOf (f .row)) (f .values) (entry-at (f .row) (omega arith) .shape) d e vs (subst (λ (m : ℕ). Has s (formOf m) vs) i g)
 
     by : Told (f .values .fault ≡ 11) → FoundIn s from to f

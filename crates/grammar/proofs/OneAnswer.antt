@@ -21,7 +21,7 @@ use Rattle.grammar.specs.declared.Found.{Found}
 use Rattle.grammar.proofs.Fit.{Shaped}
 use Rattle.spelling.proofs.Split.{upTo-within}
 use Rattle.grammar.proofs.Outcome.{fails-of}
-use Rattle.grammar.proofs.Rows.{places, lineKey, entry-at, row-told}
+use Rattle.grammar.proofs.Rows.{letters, lineTag, entry-at, row-told}
 use Rattle.grammar.proofs.Judge.{answer-line, ranged, row-in}
 use Rattle.grammar.proofs.Unique.{same-answer}
 
@@ -88,11 +88,11 @@ module _ (rows : List Row) (from n : ℕ) (count : length rows ≡ n) (below : f
   shapes : (k : ℕ) → k < length rows → Shaped (rowAt rows k .form)
   shapes k h = rw (part k h) (entry-at (from + k) (omega arith) .shape)
 
-  told : (s : List ℕ) (k : ℕ) (vs : List (List ℕ)) → Fits rows s k vs → from + k ≡ getD places (lineKey s) 0
+  told : (s : List ℕ) (k : ℕ) (vs : List (List ℕ)) → Fits rows s k vs → getD letters (lineTag s) 0 ≡ 97 + (from + k)
   told s k vs f = row-told (from + k) s vs (omega (arith, f .listed)) (subst (λ (r : Row). Has s (r .form) vs) (part k (f .listed)) (f .has))
 
   apart : (s : List ℕ) (j k : ℕ) (vs ws : List (List ℕ)) → Fits rows s j vs → Fits rows s k ws → j ≡ k
-  apart s j k vs ws f g = let e : from + j ≡ from + k = told s j vs f ∙ sym (told s k ws g) in omega arith
+  apart s j k vs ws f g = omega (arith, told s j vs f, told s k ws g)
 
   short : (s : List ℕ) → length s ≤ 200 → (a : Line) × LineOf rows s a
   short s l = let f = found-some s n from below in (_, answer-line rows from (from + n) (omega arith) below part s (f .0) l (f .1))

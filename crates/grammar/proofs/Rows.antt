@@ -1,4 +1,4 @@
--- Laws of the table of forms: each row has the shape that reading asks, and a key of its own.
+-- Laws of the table of forms: each row has the shape that reading asks, and a tag of its own.
 -- One test, computed at each row. Assumes nothing.
 use Prim.Native.Nat.{ℕ, zero, suc, _+_, _≤_, _<_, _-_}
 use mathlib.Core.Path.{_≡_, refl, sym, _∙_, ap, ap₂, subst}
@@ -11,23 +11,28 @@ use lib.ListN.{length, getD, take, drop}
 use borrow.Author.Tests.{ltb-true, leb-true, eqb-true}
 use Rattle.grammar.specs.Form.{Part, fixed, value, number, pairs, parts, Has}
 use Rattle.grammar.specs.Table.{Row, rowAt}
-use Rattle.grammar.specs.Scan.{rowCount, numberCount, table, formOf, byteOf, keyOf, rowKey, valuesIn}
+use Rattle.grammar.specs.Scan.{rowCount, numberCount, table, formOf, byteOf, tagOf, rowTag, valuesIn}
 use Rattle.grammar.proofs.Fit.{Edged, Shaped, byte-only}
 
--- ---- the code's table of keys, as the rows of the definitions make it
+-- ---- the code's table of tags, as the rows of the definitions make it
 
--- the place of the first row with a key, counted from k
+-- the place of the first row with a tag, counted from k; 29 where there is none
 abbrev placeOf : ℕ → ℕ → List Row → ℕ
-placeOf key k [] = k
-placeOf key k (r ∷ rs) = cond (eqb (rowKey r) key) k (placeOf key (suc k) rs)
+placeOf tag k [] = 29
+placeOf tag k (r ∷ rs) = cond (eqb (rowTag r) tag) k (placeOf tag (suc k) rs)
 
--- the rows of n keys, from a key on
-abbrev placesFrom : ℕ → ℕ → List ℕ
-placesFrom key zero = []
-placesFrom key (suc n) = placeOf key 0 table ∷ placesFrom (suc key) n
+-- the rows of n tags, from a tag on, as letters from a on
+abbrev pub lettersFrom : ℕ → ℕ → List ℕ
+lettersFrom tag zero = []
+lettersFrom tag (suc n) = (97 + placeOf tag 0 table) ∷ lettersFrom (suc tag) n
 
-abbrev pub places : List ℕ
-places = placesFrom 0 32
+abbrev pub letters : List ℕ
+letters = lettersFrom 0 32
+
+pub letter-high : (tag n k : ℕ) → k < n → 97 ≤ getD (lettersFrom tag n) k 0
+letter-high tag zero k h = absurd (not-suc-le-zero h)
+letter-high tag (suc n) zero h = omega arith
+letter-high tag (suc n) (suc k) h = letter-high (suc tag) n k (le-of-suc-le-suc h)
 
 -- ---- tests on a form
 
@@ -98,13 +103,13 @@ byte-at (suc i) s (fixed b ∷ p) vs e h =
 fits : ℕ → Row → Bool
 fits k r =
     both (leb (valuesIn (r .form)) numberCount)
-    (both (fixedUpTo 8 (r .form)) (both (shaped (r .form)) (eqb (getD places (rowKey r) 0) k)))
+    (both (fixedUpTo 8 (r .form)) (both (shaped (r .form)) (eqb (getD letters (rowTag r) 0) (97 + k))))
 
 pub record Entry (k : ℕ) (r : Row) : Type 0 where
   pub room : valuesIn (r .form) ≤ numberCount
   pub head : fixedUpTo 8 (r .form) ≡ true
   pub shape : Shaped (r .form)
-  pub found : getD places (rowKey r) 0 ≡ k
+  pub found : getD letters (rowTag r) 0 ≡ 97 + k
 
 entry : (k : ℕ) (r : Row) → fits k r ≡ true → Entry k r
 unfolding fits
@@ -139,22 +144,22 @@ tested = refl
 pub entry-at : (k : ℕ) → k < rowCount → Entry k (rowAt table k)
 entry-at k h = entry k (rowAt table k) (subst (λ (m : ℕ). fits m (rowAt table k) ≡ true) (add-zero k) (every-at fits table 0 tested k (rw counted h)))
 
--- ---- the row of a line, by its key
+-- ---- the row of a line, by its tag
 
-abbrev pub lineKey : List ℕ → ℕ
-lineKey s = keyOf (getD s 6 0) (getD s 7 0)
+abbrev pub lineTag : List ℕ → ℕ
+lineTag s = tagOf (getD s 6 0) (getD s 7 0)
 
--- a line that has a row's form has its key
-pub same-key : (k : ℕ) (s : List ℕ) (vs : List (List ℕ)) → k < rowCount → Has s (formOf k) vs → (7 < length s) × (rowKey (rowAt table k) ≡ lineKey s)
-same-key k s vs h f =
+-- a line that has a row's form has its tag
+pub same-tag : (k : ℕ) (s : List ℕ) (vs : List (List ℕ)) → k < rowCount → Has s (formOf k) vs → (7 < length s) × (rowTag (rowAt table k) ≡ lineTag s)
+same-tag k s vs h f =
     let e = entry-at k h .head in
     let a = byte-at 6 s (formOf k) vs (fixed-fewer 7 (formOf k) e) f in
     let b = byte-at 7 s (formOf k) vs e f in
-    (b .0, sym (ap₂ keyOf (a .1) (b .1)))
+    (b .0, sym (ap₂ tagOf (a .1) (b .1)))
 
--- TWO ROWS NEVER HAVE THE SAME LINE: the row is told by the key
-pub row-told : (k : ℕ) (s : List ℕ) (vs : List (List ℕ)) → k < rowCount → Has s (formOf k) vs → k ≡ getD places (lineKey s) 0
-row-told k s vs h f = sym (entry-at k h .found) ∙ ap (λ (m : ℕ). getD places m 0) (same-key k s vs h f .1)
+-- TWO ROWS NEVER HAVE THE SAME LINE: the row is told by the tag
+pub row-told : (k : ℕ) (s : List ℕ) (vs : List (List ℕ)) → k < rowCount → Has s (formOf k) vs → getD letters (lineTag s) 0 ≡ 97 + k
+row-told k s vs h f = ap (λ (m : ℕ). getD letters m 0) (sym (same-tag k s vs h f .1)) ∙ entry-at k h .found
 
 -- ---- a match on a number
 

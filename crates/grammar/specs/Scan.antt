@@ -1,13 +1,14 @@
 -- How one line is read against one form, byte by byte: what the private functions promise. The public promises rest on `Line`
 -- alone. Assumes nothing.
-use Prim.Native.Nat.{ℕ, zero, suc, _+_, _*_, _%_, _≤_, _<_}
+use Prim.Native.Nat.{ℕ, zero, suc, _+_, _*_, _/_, _%_, _≤_, _<_}
 use mathlib.Core.Path.{_≡_}
-use mathlib.Core.Bool.{Bool, true, cond}
+use mathlib.Core.Bool.{cond}
 use mathlib.Core.List.{List, [], _∷_}
 use lib.Dec.{eqb}
 use lib.ListN.{length, drop, getD, set}
 use mathlib.Core.List.{_++_}
-use Rattle.spelling.specs.Bytes.{upTo}
+use Rattle.spelling.specs.Bytes.{upTo, Below}
+use Rattle.spelling.specs.Text.{text}
 use Rattle.spelling.specs.Decimal.{decimal, greatest, IsNumber}
 use Rattle.spelling.specs.Hex.{IsData}
 use Rattle.grammar.specs.Form.{Part, fixed, value, Value, number, pairs}
@@ -29,13 +30,6 @@ unfoldable pub valuesIn : List Part → ℕ
 valuesIn [] = 0
 valuesIn (fixed b ∷ p) = valuesIn p
 valuesIn (value q ∷ p) = 1 + valuesIn p
-
--- whether a byte of a form's text stands for a value, and of what kind (`partOf`)
-abbrev pub isValue : ℕ → Bool
-isValue b = cond (eqb b 78) true (eqb b 72)
-
-abbrev pub kindOf : ℕ → Value
-kindOf b = cond (eqb b 78) number pairs
 
 -- one number more
 abbrev pub withNumber : Values → ℕ → Values
@@ -96,6 +90,48 @@ zeros (suc n) = 0 ∷ zeros n
 abbrev pub nothingRead : List ℕ → Values
 nothingRead s = record { fault = 0; count = 0; number = zeros numberCount; start = length s }
 
+-- ---- a form by its kind and its keys
+
+-- a text, and then the parts p
+abbrev pub texted : List ℕ → List Part → List Part
+texted [] p = p
+texted (b ∷ bs) p = fixed b ∷ texted bs p
+
+-- the keys of the grammar, by number, and the last one, which has every number past them
+abbrev pub keys : List (List ℕ)
+keys = text " core=" ∷ text " line=" ∷ text " by=" ∷ text " data=" ∷ text " cores=" ∷ text " lines=" ∷ text " width=" ∷ []
+
+abbrev pub lastKey : List ℕ
+lastKey = text " lease="
+
+abbrev pub keyText : ℕ → List ℕ
+keyText k = getD keys k lastKey
+
+-- what a key's value is
+abbrev pub keyValue : ℕ → Value
+keyValue k = cond (eqb k 3) pairs number
+
+-- n keys, each with its value; their numbers are the digits of k to base 16, the last one first
+unfoldable pub fieldParts : ℕ → ℕ → List Part
+fieldParts zero k = []
+fieldParts (suc n) k = texted (keyText (k % 16)) (value (keyValue (k % 16)) ∷ fieldParts n (k / 16))
+
+-- the text t stands in the line s at a place
+abbrev pub Stands : List ℕ → ℕ → List ℕ → Type 0
+Stands s at t = (at + length t ≤ length s) × Below (length t) (λ k. getD s (at + k) 0 ≡ getD t k 0)
+
+-- the place after it, or 0
+pub data After (s : List ℕ) (at : ℕ) (t : List ℕ) (r : ℕ) : Type 0 where
+  there : Stands s at t → r ≡ at + length t → After s at t r
+  elsewhere : (Stands s at t → ⊥) → r ≡ 0 → After s at t r
+
+-- what is read of the parts p from a place on, which is 0 where the line has another kind
+pub record Filled (s : List ℕ) (head : ℕ) (p : List Part) (r : Values) : Type 0 where
+  pub otherKind : head ≡ 0 → r .fault ≡ 11
+  pub itsKind : (head ≡ 0 → ⊥) → Reads s p head (nothingRead s) r
+
+-- ---- the rows
+
 -- all rows, in the order of the code's table
 abbrev pub table : List Row
 table = openings ++ steps
@@ -115,16 +151,16 @@ abbrev pub byteOf : Part → ℕ
 byteOf (fixed b) = b
 byteOf (value q) = 0
 
--- the key of a line and of a form: by its seventh and its eighth byte
-abbrev pub keyOf : ℕ → ℕ → ℕ
-keyOf a b = (a * 15 + b) % 32
+-- the tag of a line and of a form: by its seventh and its eighth byte
+abbrev pub tagOf : ℕ → ℕ → ℕ
+tagOf a b = (a * 15 + b) % 32
 
-abbrev pub rowKey : Row → ℕ
-rowKey r = keyOf (byteOf (getD (r .form) 6 (fixed 0))) (byteOf (getD (r .form) 7 (fixed 0)))
+abbrev pub rowTag : Row → ℕ
+rowTag r = tagOf (byteOf (getD (r .form) 6 (fixed 0))) (byteOf (getD (r .form) 7 (fixed 0)))
 
--- r is the only row with this key
+-- r is the only row with this tag
 abbrev pub RowAt : ℕ → ℕ → Type 0
-RowAt key r = (k : ℕ) → k < rowCount → rowKey (rowAt table k) ≡ key → k ≡ r
+RowAt tag r = (k : ℕ) → k < rowCount → rowTag (rowAt table k) ≡ tag → k ≡ r
 
 -- the line s does not have the form p, whatever the values
 abbrev pub Fails : List ℕ → List Part → Type 0

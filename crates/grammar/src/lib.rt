@@ -5,8 +5,11 @@
 // specs/Table.antt. The rows that a journal of some form has are one part of the table, from one row up to another.
 ghost use mathlib.Core.Path.{_≡_};
 ghost use Prim.Native.Nat.{_≤_, _<_};
-ghost use Rattle.grammar.specs.Form.{parts};
-ghost use Rattle.grammar.specs.Scan.{valuesIn, isValue, kindOf, numberCount, rowCount, formCount, fromOf, toOf, keyOf, RowAt, formOf, NumberRead, DataRead, ValueRead, Reads, nothingRead, FoundIn, answerOf, Placed, Called};
+ghost use mathlib.Core.Bool.{cond};
+ghost use lib.Dec.{eqb};
+ghost use lib.ListN.{length};
+ghost use Rattle.grammar.specs.Scan.{numberCount, rowCount, formCount, fromOf, toOf, tagOf, RowAt, formOf, keyText, fieldParts, After, Filled};
+ghost use Rattle.grammar.specs.Scan.{Reads, nothingRead, FoundIn, answerOf, Placed, Called};
 ghost use Rattle.grammar.specs.Table.{rowsOf};
 ghost use Rattle.grammar.specs.Line.{LineOf, numberOf};
 use protocol::Call;
@@ -43,42 +46,9 @@ const FROM: [u8; 2] = [0, 1];
 
 const TO: [u8; 2] = [1, 10];
 
-// The row of each key; 10, which no form has, where there is none. The key of a line or a form is 15 times its seventh byte and its
-// eighth, modulo 32: no two rows have the same.
-const PLACES: [u8; 32] = [
-    10,
-    1,
-    10,
-    10,
-    0,
-    10,
-    10,
-    10,
-    10,
-    10,
-    10,
-    9,
-    10,
-    10,
-    10,
-    5,
-    10,
-    10,
-    4,
-    3,
-    6,
-    10,
-    10,
-    10,
-    8,
-    10,
-    10,
-    10,
-    2,
-    7,
-    10,
-    10,
-];
+// The row of each tag, as a letter from a on; ~, which is no row's, where there is none. The tag of a line or a form is 15 times its
+// seventh byte and its eighth, modulo 32: no two rows have the same.
+const PLACES: [u8; 32] = *b"~b~~a~~~~~~j~~~f~~edg~~~i~~~ch~~";
 
 // What was read of a line by a form: 0 or the refusal, the numbers so far and how many, and where the data start (the line's
 // end, if there are none).
@@ -87,66 +57,6 @@ struct Values {
     count: usize,
     number: [u32; NUMBERS],
     start: usize,
-}
-
-// The values with one number more, where the form has an N; 12 where there is none.
-fn with_number(v: Values, s: &[u8]) -> Values
-    requires { ⌜ v .count < numberCount ⌝ }
-    ensures { λ r. ⌜ NumberRead v (now (s .entry)) r ⌝ }
-{
-    let mut w = v;
-    match spelling::read_number(s) {
-        Number::Value(n) => {
-            let k = w.count;
-            w.number[k] = n;
-            w.count = k + 1;
-            w
-        }
-        Number::Wrong => {
-            w.fault = 12;
-            w
-        }
-    }
-}
-
-// The values with the data, which start at `at`, where the form has an H; 13 where there are none and no number was wrong.
-fn with_data(v: Values, s: &[u8], at: usize) -> Values
-    ensures { λ r. ⌜ DataRead v (now (s .entry)) at r ⌝ }
-{
-    let mut w = v;
-    if spelling::is_data(s) {
-        w.start = at;
-        return w;
-    }
-    if w.fault == 0 {
-        w.fault = 13;
-        return w;
-    }
-    w
-}
-
-// Whether a byte of a form stands for a value.
-fn is_value(p: u8) -> bool
-    ensures { λ r. ⌜ r ≡ isValue p ⌝ }
-{
-    if p == b'N' {
-        return true;
-    }
-    if p == b'H' {
-        return true;
-    }
-    false
-}
-
-// The values with one more, `s`, of the kind that a byte of a form stands for. It starts at `at`.
-fn with_value(v: Values, p: u8, s: &[u8], at: usize) -> Values
-    requires { ⌜ v .count < numberCount ⌝ }
-    ensures { λ r. ⌜ ValueRead (kindOf p) v (now (s .entry)) at r ⌝ }
-{
-    if p == b'N' {
-        return with_number(v, s);
-    }
-    with_data(v, s, at)
 }
 
 // No form: refusal 11.
@@ -161,59 +71,122 @@ fn no_form() -> Values
     }
 }
 
-// The line read against one form, in which N stands for a number and H for data.
-fn fill(line: &[u8], form: &[u8]) -> Values
-    requires { ⌜ valuesIn (parts (now form)) ≤ numberCount ⌝ }
-    ensures { λ r. ⌜ Reads (now (line .entry)) (parts (now (form .entry))) 0 (nothingRead (now (line .entry))) r ⌝ }
+// The place after a text that stands in a line at a place, or 0 where it does not stand there.
+fn after(line: &[u8], at: usize, text: &[u8]) -> usize
+    requires { ⌜ at ≤ length (now line) ⌝ }
+    ensures { λ r. ⌜ After (now (line .entry)) at (now (text .entry)) r ⌝ }
 {
-    let mut v = Values {
-        fault: 0,
-        count: 0,
-        number: [0u32; NUMBERS],
-        start: line.len(),
-    };
-    let mut at: usize = 0;
-    let mut j: usize = 0;
-    while j < form.len() {
-        let p = form[j];
-        if is_value(p) {
-            let e = spelling::run_end(line, at, b' ');
-            v = with_value(v, p, &line[at..e], at);
-            at = e;
-            j += 1;
+    if line.len() - at < text.len() {
+        return 0;
+    }
+    let mut same = true;
+    let mut k: usize = 0;
+    while k < text.len() {
+        same = same & (line[at + k] == text[k]);
+        k += 1;
+    }
+    if !same {
+        return 0;
+    }
+    at + k
+}
+
+// The place after a key, by its number, or 0 where it does not stand there.
+fn after_key(line: &[u8], at: usize, key: u32) -> usize
+    requires { ⌜ at ≤ length (now line) ⌝ }
+    ensures { λ r. ⌜ After (now (line .entry)) at (keyText key) r ⌝ }
+{
+    match key {
+        0 => after(line, at, b" core="),
+        1 => after(line, at, b" line="),
+        2 => after(line, at, b" by="),
+        3 => after(line, at, b" data="),
+        4 => after(line, at, b" cores="),
+        5 => after(line, at, b" lines="),
+        6 => after(line, at, b" width="),
+        _ => after(line, at, b" lease="),
+    }
+}
+
+// The refusal after data that are wrong: 13, unless a number was wrong.
+fn wrong_data(fault: u32) -> u32
+    ensures { λ r. ⌜ r ≡ cond (eqb fault 0) 13 fault ⌝ }
+{
+    if fault == 0 { 13 } else { fault }
+}
+
+// The line read from `head` on, where its kind ends (0: it is of another kind), against `fields` keys, each with its value. The keys'
+// numbers are the digits of `keys` to base 16, the last one first.
+fn fill(line: &[u8], head: usize, fields: usize, keys: u32) -> Values
+    requires { ⌜ (head ≤ length (now line)) × (fields ≤ numberCount) ⌝ }
+    ensures { λ r. ⌜ Filled (now (line .entry)) head (fieldParts fields keys) r ⌝ }
+{
+    if head == 0 {
+        return no_form();
+    }
+    let mut fault: u32 = 0;
+    let mut count: usize = 0;
+    let mut number = [0u32; NUMBERS];
+    let mut start = line.len();
+    let mut at = head;
+    let mut left = fields;
+    let mut rest = keys;
+    while 0 < left {
+        let key = rest % 16;
+        let a = after_key(line, at, key);
+        if a == 0 {
+            return no_form();
+        }
+        at = spelling::run_end(line, a, b' ');
+        left -= 1;
+        rest = rest / 16;
+        if key == 3 {
+            if spelling::is_data(&line[a..at]) {
+                start = a;
+                continue;
+            }
+            fault = wrong_data(fault);
             continue;
         }
-        if line.len() <= at {
-            return no_form();
+        match spelling::read_number(&line[a..at]) {
+            Number::Value(n) => {
+                number[count] = n;
+                count += 1;
+                continue;
+            }
+            Number::Wrong => {
+                fault = 12;
+                continue;
+            }
         }
-        if line[at] != p {
-            return no_form();
-        }
-        at += 1;
-        j += 1;
     }
     if at < line.len() {
         return no_form();
     }
-    v
+    Values {
+        fault,
+        count,
+        number,
+        start,
+    }
 }
 
-// The line read against the form of a row.
+// The line read against the form of a row: its kind, how many values it has, and the numbers of their keys.
 fn fill_row(line: &[u8], row: usize) -> Values
     requires { ⌜ row < rowCount ⌝ }
     ensures { λ r. ⌜ Reads (now (line .entry)) (formOf row) 0 (nothingRead (now (line .entry))) r ⌝ }
 {
     match row {
-        0 => fill(line, b"fabric=1 cores=N lines=N width=N lease=N"),
-        1 => fill(line, b"op=evict core=N line=N"),
-        2 => fill(line, b"op=load core=N line=N"),
-        3 => fill(line, b"op=store core=N line=N data=H"),
-        4 => fill(line, b"op=fence core=N"),
-        5 => fill(line, b"op=serve core=N"),
-        6 => fill(line, b"op=receive core=N"),
-        7 => fill(line, b"op=advance core=N by=N"),
-        8 => fill(line, b"op=yield line=N"),
-        _ => fill(line, b"op=take line=N"),
+        0 => fill(line, after(line, 0, b"fabric=1"), 4, 0x7654),
+        1 => fill(line, after(line, 0, b"op=evict"), 2, 0x10),
+        2 => fill(line, after(line, 0, b"op=load"), 2, 0x10),
+        3 => fill(line, after(line, 0, b"op=store"), 3, 0x310),
+        4 => fill(line, after(line, 0, b"op=fence"), 1, 0x0),
+        5 => fill(line, after(line, 0, b"op=serve"), 1, 0x0),
+        6 => fill(line, after(line, 0, b"op=receive"), 1, 0x0),
+        7 => fill(line, after(line, 0, b"op=advance"), 2, 0x20),
+        8 => fill(line, after(line, 0, b"op=yield"), 1, 0x1),
+        _ => fill(line, after(line, 0, b"op=take"), 1, 0x1),
     }
 }
 
@@ -226,9 +199,9 @@ fn wide(b: u8) -> usize
 
 // The only row that a line may have whose seventh and eighth byte are these.
 fn row_at(a: u8, b: u8) -> usize
-    ensures { λ r. ⌜ RowAt (keyOf a b) r ⌝ }
+    ensures { λ r. ⌜ RowAt (tagOf a b) r ⌝ }
 {
-    wide(PLACES[(wide(a) * 15 + wide(b)) % 32])
+    wide(PLACES[(wide(a) * 15 + wide(b)) % 32]) - 97
 }
 
 // The first row of a form, and the row past its last.

@@ -16,12 +16,19 @@ test-at-most a b = go (leb a b) refl
     go true e = leb-true a b e
     go false e = let n = leb-false a b e in λ h. omega arith
 
-pub test-other : (a b : ℕ) → Test (a ≡ b → ⊥) (not (eqb a b))
-test-other a b = go (eqb a b) refl
+pub test-same : (a b : ℕ) → Test (a ≡ b) (eqb a b)
+test-same a b = go (eqb a b) refl
   where
-    go : (t : Bool) → eqb a b ≡ t → Test (a ≡ b → ⊥) (not t)
-    go true e = λ n. n (eqb-true a b e)
+    go : (t : Bool) → eqb a b ≡ t → Test (a ≡ b) t
+    go true e = eqb-true a b e
     go false e = eqb-false a b e
+
+pub test-other : (a b : ℕ) → Test (a ≡ b → ⊥) (not (eqb a b))
+test-other a b = go (eqb a b) (test-same a b)
+  where
+    go : (t : Bool) → Test (a ≡ b) t → Test (a ≡ b → ⊥) (not t)
+    go true e = λ n. n e
+    go false n = n
 
 test-both : (A B : Type 0) (t u : Bool) → Test A t → Test B u → Test (A × B) (t && u)
 test-both A B true true a b = (a, b)
