@@ -70,13 +70,19 @@ pub data Reads (s : List ℕ) : List Part → ℕ → Values → Values → Type
   other : {p : List Part} {b at : ℕ} {v r : Values} → (at < length s → getD s at 0 ≡ b → ⊥) → r .fault ≡ 11 → Reads s (fixed b ∷ p) at v r
   aValue : {p : List Part} {q : Value} {at : ℕ} {v w r : Values} → ValueRead q v (valueAt s at) at w → Reads s p (at + length (valueAt s at)) w r → Reads s (value q ∷ p) at v r
 
--- how many numbers a line has at most, how many rows the grammar has, and how many forms of journal (form 0, where the first line
--- is due, counted)
+-- how many numbers a line has at most, how many of the rows are steps and first lines, and how many forms of journal there are (form
+-- 0, where the first line is due, counted)
 abbrev pub numberCount : ℕ
 numberCount = 4
 
+abbrev pub stepCount : ℕ
+stepCount = 9
+
+abbrev pub openingCount : ℕ
+openingCount = 1
+
 abbrev pub rowCount : ℕ
-rowCount = 10
+rowCount = stepCount + openingCount
 
 abbrev pub formCount : ℕ
 formCount = 2
@@ -132,19 +138,19 @@ pub record Filled (s : List ℕ) (head : ℕ) (p : List Part) (r : Values) : Typ
 
 -- ---- the rows
 
--- all rows, in the order of the code's table
+-- all rows, in the order of the code's table: the first lines last, so that a new one moves no other row
 abbrev pub table : List Row
-table = openings ++ steps
+table = steps ++ openings
 
 abbrev pub formOf : ℕ → List Part
 formOf k = rowAt table k .form
 
 -- the rows of a form of journal are those from one up to another
 abbrev pub fromOf : ℕ → ℕ
-fromOf form = getD (0 ∷ 1 ∷ []) form 0
+fromOf form = getD (9 ∷ 0 ∷ []) form 0
 
 abbrev pub toOf : ℕ → ℕ
-toOf form = getD (1 ∷ 10 ∷ []) form 0
+toOf form = getD (10 ∷ 9 ∷ []) form 0
 
 -- the byte of a part of fixed text
 abbrev pub byteOf : Part → ℕ

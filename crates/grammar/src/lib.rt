@@ -8,7 +8,7 @@ ghost use Prim.Native.Nat.{_≤_, _<_};
 ghost use mathlib.Core.Bool.{cond};
 ghost use lib.Dec.{eqb};
 ghost use lib.ListN.{length};
-ghost use Rattle.grammar.specs.Scan.{numberCount, rowCount, formCount, fromOf, toOf, tagOf, RowAt, formOf, keyText, fieldParts, After, Filled};
+ghost use Rattle.grammar.specs.Scan.{numberCount, stepCount, rowCount, formCount, fromOf, toOf, tagOf, RowAt, formOf, keyText, fieldParts, After, Filled};
 ghost use Rattle.grammar.specs.Scan.{Reads, nothingRead, FoundIn, answerOf, Placed, Called};
 ghost use Rattle.grammar.specs.Table.{rowsOf};
 ghost use Rattle.grammar.specs.Line.{LineOf, numberOf};
@@ -33,22 +33,22 @@ pub enum Line {
     Refused(u32),
 }
 
-// How many rows the grammar has, how many numbers a line has at most, and how many forms of journal there are, where the first
-// line is due counted as one (`rowCount`, `numberCount` and `formCount` of specs/Scan.antt).
-const ROWS: usize = 10;
+// How many of the rows are steps (the others are first lines), how many numbers a line has at most, and how many forms of journal there
+// are, where the first line is due counted as one (`stepCount`, `numberCount` and `formCount` of specs/Scan.antt).
+const STEPS: usize = 9;
 
 const NUMBERS: usize = 4;
 
 const FORMS: u32 = 2;
 
 // The rows of each form of journal: from one up to another.
-const FROM: [u8; 2] = [0, 1];
+const FROM: [u8; 2] = [9, 0];
 
-const TO: [u8; 2] = [1, 10];
+const TO: [u8; 2] = [10, 9];
 
 // The row of each tag, as a letter from a on; ~, which is no row's, where there is none. The tag of a line or a form is 15 times its
 // seventh byte and its eighth, modulo 32: no two rows have the same.
-const PLACES: [u8; 32] = *b"~b~~a~~~~~~j~~~f~~edg~~~i~~~ch~~";
+const PLACES: [u8; 32] = *b"~a~~j~~~~~~i~~~e~~dcf~~~h~~~bg~~";
 
 // What was read of a line by a form: 0 or the refusal, the numbers so far and how many, and where the data start (the line's
 // end, if there are none).
@@ -177,16 +177,16 @@ fn fill_row(line: &[u8], row: usize) -> Values
     ensures { λ r. ⌜ Reads (now (line .entry)) (formOf row) 0 (nothingRead (now (line .entry))) r ⌝ }
 {
     match row {
-        0 => fill(line, after(line, 0, b"fabric=1"), 4, 0x7654),
-        1 => fill(line, after(line, 0, b"op=evict"), 2, 0x10),
-        2 => fill(line, after(line, 0, b"op=load"), 2, 0x10),
-        3 => fill(line, after(line, 0, b"op=store"), 3, 0x310),
-        4 => fill(line, after(line, 0, b"op=fence"), 1, 0x0),
-        5 => fill(line, after(line, 0, b"op=serve"), 1, 0x0),
-        6 => fill(line, after(line, 0, b"op=receive"), 1, 0x0),
-        7 => fill(line, after(line, 0, b"op=advance"), 2, 0x20),
-        8 => fill(line, after(line, 0, b"op=yield"), 1, 0x1),
-        _ => fill(line, after(line, 0, b"op=take"), 1, 0x1),
+        0 => fill(line, after(line, 0, b"op=evict"), 2, 0x10),
+        1 => fill(line, after(line, 0, b"op=load"), 2, 0x10),
+        2 => fill(line, after(line, 0, b"op=store"), 3, 0x310),
+        3 => fill(line, after(line, 0, b"op=fence"), 1, 0x0),
+        4 => fill(line, after(line, 0, b"op=serve"), 1, 0x0),
+        5 => fill(line, after(line, 0, b"op=receive"), 1, 0x0),
+        6 => fill(line, after(line, 0, b"op=advance"), 2, 0x20),
+        7 => fill(line, after(line, 0, b"op=yield"), 1, 0x1),
+        8 => fill(line, after(line, 0, b"op=take"), 1, 0x1),
+        _ => fill(line, after(line, 0, b"fabric=1"), 4, 0x7654),
     }
 }
 
@@ -264,21 +264,21 @@ fn index(n: u32) -> usize
 
 // The call of a step row, given the line's numbers.
 fn call_of(row: usize, number: [u32; NUMBERS]) -> Call
-    requires { ⌜ (0 < row) × (row < rowCount) ⌝ }
+    requires { ⌜ row < stepCount ⌝ }
     ensures { λ r. ⌜ Called row number r ⌝ }
 {
     let a = index(number[0]);
     let b = index(number[1]);
     let by = number[1];
     match row {
-        1 => Call::Evict { core: a, line: b },
-        2 => Call::Load { core: a, line: b },
-        3 => Call::Store { core: a, line: b },
-        4 => Call::Fence { core: a },
-        5 => Call::Serve { core: a },
-        6 => Call::Receive { core: a },
-        7 => Call::Advance { core: a, by },
-        8 => Call::Yield { line: a },
+        0 => Call::Evict { core: a, line: b },
+        1 => Call::Load { core: a, line: b },
+        2 => Call::Store { core: a, line: b },
+        3 => Call::Fence { core: a },
+        4 => Call::Serve { core: a },
+        5 => Call::Receive { core: a },
+        6 => Call::Advance { core: a, by },
+        7 => Call::Yield { line: a },
         _ => Call::Take { line: a },
     }
 }
@@ -295,21 +295,21 @@ fn answer(f: Found, end: usize) -> Line
     }
     let row = f.row;
     let number = v.number;
-    if row == 0 {
-        return Line::Opening {
-            form: 1,
-            opening: Opening {
-                cores: index(number[0]),
-                lines: index(number[1]),
-                width: index(number[2]),
-                lease: number[3],
-            },
+    if row < STEPS {
+        return Line::Step {
+            call: call_of(row, number),
+            start: v.start,
+            end,
         };
     }
-    Line::Step {
-        call: call_of(row, number),
-        start: v.start,
-        end,
+    Line::Opening {
+        form: (row - STEPS) as u32 + 1,
+        opening: Opening {
+            cores: index(number[0]),
+            lines: index(number[1]),
+            width: index(number[2]),
+            lease: number[3],
+        },
     }
 }
 

@@ -10,8 +10,8 @@ use borrow.Author.Needs.{needs}
 use Rattle.grammar.proofs.read_line.Statement.{statement}
 use Rattle.grammar.proofs.read_line.Tie as tie
 
-unknown : tie.Need-returns-2
-unknown c = let a = c .before .before .before .args in noForm (omega arith) (no-row (a .form) (a .line .now) (omega arith))
+beyond : tie.Need-returns-2
+beyond c = let a = c .before .before .before .args in noForm (omega arith) (no-row (a .form) (a .line .now) (omega arith))
 
 in-table : tie.Need-find-requires
 in-table c κs =
@@ -32,4 +32,4 @@ answered c =
     (subst₂ (λ (m n : ℕ). FoundIn (a .line .now) m n (c .before .find .result)) (c .before .before .before .from-row .ensures) (c .before .before .to-row .ensures) (c .before .find .ensures)))
 
 pub read-line-spec : {M : Type 1} → statement M
-read-line-spec = tie.close (tie.spec (λ c. tooLong (c .if1 .taken)) unknown (λ c κs. search needs) (λ c κs. search needs) in-table is-placed answered)
+read-line-spec = tie.close (tie.spec (λ c. tooLong (c .if1 .taken)) beyond (λ c κs. search needs) (λ c κs. search needs) in-table is-placed answered)
