@@ -1,17 +1,11 @@
 -- What is known of the rows of each form of journal: their shape, and what their lines say. Assumes nothing.
 use Prim.Native.Nat.{ℕ, zero, suc, _+_, _<_}
-use mathlib.Core.Path.{_≡_, refl}
-use mathlib.Core.Bool.{Bool, true, false}
-use mathlib.Core.List.{List, [], _∷_}
+use mathlib.Core.{Path._≡_, Path.refl, Bool.Bool, Bool.true, Bool.false}
 use native.Mathlib.Omega.{arith}
-use lib.Dec.{ltb}
+use lib.{Dec.ltb, ListN.length}
 use borrow.Author.Tests.{ltb-true}
-use lib.ListN.{length}
-use Rattle.grammar.specs.Table.{Numbered, Says, opens, calls, Row, rowsOf, rowAt}
-use Rattle.grammar.specs.Scan.{fromOf}
-use Rattle.grammar.proofs.Fit.{Shaped}
-use Rattle.grammar.proofs.Rows.{entry-at, both, every, every-at}
-use Rattle.grammar.proofs.Judge.{ranged, row-in}
+use Rattle.grammar.specs.{Table.Numbered, Table.Says, Table.opens, Table.calls, Table.rowsOf, Table.rowAt, Scan.fromOf}
+use Rattle.grammar.proofs.{Fit.Shaped, Rows.entry-at, Rows.both, Rows.every, Rows.every-at, Judge.ranged, Judge.row-in}
 
 pub row-shape : (form k : ℕ) → k < length (rowsOf form) → Shaped (rowAt (rowsOf form) k .form)
 row-shape form k h = let r = ranged form in rw (row-in form k h) (entry-at (fromOf form + k) (omega (arith, r .count, r .order, r .high)) .shape)

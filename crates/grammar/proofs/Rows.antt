@@ -1,15 +1,12 @@
 -- Laws of the table of forms: each row has the shape that reading asks, and a tag of its own.
 -- One test, computed at each row. Assumes nothing.
 use Prim.Native.Nat.{ℕ, zero, suc, _+_, _≤_, _<_, _-_}
-use mathlib.Core.Path.{_≡_, refl, sym, _∙_, ap, ap₂, subst}
-use mathlib.Core.Bool.{Bool, true, false, cond}
-use mathlib.Core.List.{List, [], _∷_, _++_}
-use native.Mathlib.Omega.{arith}
-use native.Mathlib.Nat.{le-of-suc-le-suc, not-suc-le-zero, suc-add, add-suc, add-zero, zero-add}
-use lib.Dec.{ltb, leb, eqb}
-use lib.ListN.{length, getD, take, drop}
-use borrow.Author.Tests.{ltb-true, leb-true, eqb-true}
-use Rattle.grammar.specs.Form.{Part, fixed, value, number, pairs, parts, Has}
+use mathlib.Core.{Path._≡_, Path.refl, Path.sym, Path._∙_, Path.ap, Path.ap₂, Path.subst, Bool.Bool, Bool.true, Bool.false, Bool.cond}
+use mathlib.Core.List.{List, [], _∷_}
+use native.Mathlib.{Omega.arith, Nat.le-of-suc-le-suc, Nat.not-suc-le-zero, Nat.suc-add, Nat.add-suc, Nat.add-zero, Nat.zero-add}
+use lib.{Dec.leb, Dec.eqb, ListN.length, ListN.getD}
+use borrow.Author.Tests.{leb-true, eqb-true}
+use Rattle.grammar.specs.Form.{Part, fixed, value, number, pairs, Has}
 use Rattle.protocol.specs.declared.Opening.{Opening as Sizes}
 use Rattle.grammar.specs.Table.{Numbered, opens, Row, rowAt}
 use Rattle.grammar.specs.Scan.{stepCount, openingCount, rowCount, numberCount, table, formOf, byteOf, tagOf, rowTag, valuesIn}
@@ -17,15 +14,15 @@ use Rattle.grammar.proofs.Fit.{Edged, Shaped, byte-only}
 
 -- ---- the code's table of tags, as the rows of the definitions make it
 
--- the place of the first row with a tag, counted from k; 29 where there is none
-abbrev placeOf : ℕ → ℕ → List Row → ℕ
-placeOf tag k [] = 29
-placeOf tag k (r ∷ rs) = cond (eqb (rowTag r) tag) k (placeOf tag (suc k) rs)
+-- the first row with a tag, counted from k; 29 where there is none
+abbrev rowOf : ℕ → ℕ → List Row → ℕ
+rowOf tag k [] = 29
+rowOf tag k (r ∷ rs) = cond (eqb (rowTag r) tag) k (rowOf tag (suc k) rs)
 
 -- the rows of n tags, from a tag on, as letters from a on
 abbrev pub lettersFrom : ℕ → ℕ → List ℕ
 lettersFrom tag zero = []
-lettersFrom tag (suc n) = (97 + placeOf tag 0 table) ∷ lettersFrom (suc tag) n
+lettersFrom tag (suc n) = (97 + rowOf tag 0 table) ∷ lettersFrom (suc tag) n
 
 abbrev pub letters : List ℕ
 letters = lettersFrom 0 32

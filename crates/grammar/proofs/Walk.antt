@@ -1,48 +1,43 @@
 -- A line read against a form, a text and a value at a time: what holds before each key, and that each key keeps it. Assumes nothing.
 use Prim.Native.Nat.{ℕ, zero, suc, _+_, _/_, _%_, _≤_, _<_, _-_, suc-le-suc}
-use mathlib.Core.Path.{_≡_, refl, sym, ap, subst}
-use mathlib.Core.List.{List, [], _∷_}
-use mathlib.Core.Logic.{_⊎_, inl, inr}
-use native.Mathlib.Omega.{arith}
-use native.Mathlib.Nat.{add-zero, le-of-suc-le-suc}
+use mathlib.Core.{Path._≡_, Path.refl, Path.subst, List.List, List.[], List._∷_, Logic._⊎_, Logic.inl, Logic.inr}
+use native.Mathlib.{Omega.arith, Nat.add-zero, Nat.le-of-suc-le-suc}
 use lib.ListN.{length, getD, take, drop}
 use Rattle.spelling.specs.Bytes.{Below}
-use Rattle.spelling.proofs.Lists.{le-or-lt}
-use Rattle.spelling.proofs.Decide.{Told, same-number}
-use Rattle.spelling.proofs.Split.{upTo-within, upTo-part}
+use Rattle.spelling.proofs.{Lists.le-or-lt, Decide.Told, Decide.same-number, Split.upTo-within, Split.upTo-part}
 use Rattle.grammar.specs.Form.{Part, fixed, value, Value, number, pairs}
-use Rattle.grammar.specs.Scan.{numberCount, valueAt, texted, keyText, keyValue, fieldParts, Stands, After, there, elsewhere, Filled, ValueRead, Reads, right, wrong, ended, longer, same, other, aValue, nothingRead}
+use Rattle.grammar.specs.Scan.{numberCount, valueAt, texted, keyText, keyValue, fieldParts, TextAt, After, there, elsewhere, Filled, ValueRead, Reads, right, wrong, ended, longer, same, other, aValue, nothingRead}
 use Rattle.grammar.specs.declared.Values.{Values}
 
 -- ---- a text
 
 module _ (s : List ℕ) (b : ℕ) (t : List ℕ) (at : ℕ) where
-  first-stands : Stands s at (b ∷ t) → getD s at 0 ≡ b
-  first-stands h = subst (λ (m : ℕ). getD s m 0 ≡ b) (add-zero at) (h .1 0 (omega arith))
+  first-byte : TextAt s at (b ∷ t) → getD s at 0 ≡ b
+  first-byte h = subst (λ (m : ℕ). getD s m 0 ≡ b) (add-zero at) (h .1 0 (omega arith))
 
-  rest-stands : Stands s at (b ∷ t) → Stands s (at + 1) t
-  rest-stands h =
+  rest-text : TextAt s at (b ∷ t) → TextAt s (at + 1) t
+  rest-text h =
       (omega (arith, h .0), λ k l. let e : at + suc k ≡ at + 1 + k = omega arith in subst (λ (m : ℕ). getD s m 0 ≡ getD t k 0) e (h .1 (suc k) (suc-le-suc l)))
 
-  whole-stands : at < length s → getD s at 0 ≡ b → Stands s (at + 1) t → Stands s at (b ∷ t)
-  whole-stands l e h = (omega (arith, h .0), go)
+  whole-text : at < length s → getD s at 0 ≡ b → TextAt s (at + 1) t → TextAt s at (b ∷ t)
+  whole-text l e h = (omega (arith, h .0), go)
     where
       go : Below (suc (length t)) (λ k. getD s (at + k) 0 ≡ getD (b ∷ t) k 0)
       go zero m = rw (add-zero at) e
       go (suc k) m = let x : at + 1 + k ≡ at + suc k = omega arith in subst (λ (n : ℕ). getD s n 0 ≡ getD t k 0) x (h .1 k (le-of-suc-le-suc m))
 
--- a text that stands there, and what is read after it
-pub text-read : (s t : List ℕ) (p : List Part) (at : ℕ) (v r : Values) → Stands s at t → Reads s p (at + length t) v r → Reads s (texted t p) at v r
+-- a text that is there, and what is read after it
+pub text-read : (s t : List ℕ) (p : List Part) (at : ℕ) (v r : Values) → TextAt s at t → Reads s p (at + length t) v r → Reads s (texted t p) at v r
 text-read s [] p at v r h d = subst (λ (m : ℕ). Reads s p m v r) (add-zero at) d
 text-read s (b ∷ t) p at v r h d =
     let e : at + suc (length t) ≡ at + 1 + length t = omega arith in
-    same {at = at} (omega (arith, h .0)) (first-stands s b t at h) (text-read s t p (at + 1) v r (rest-stands s b t at h) (subst (λ (m : ℕ). Reads s p m v r) e d))
+    same {at = at} (omega (arith, h .0)) (first-byte s b t at h) (text-read s t p (at + 1) v r (rest-text s b t at h) (subst (λ (m : ℕ). Reads s p m v r) e d))
 
--- a text that does not stand there
-pub text-missing : (s t : List ℕ) (p : List Part) (at : ℕ) (v r : Values) → at ≤ length s → (Stands s at t → ⊥) → r .fault ≡ 11 → Reads s (texted t p) at v r
+-- a text that is not there
+pub text-missing : (s t : List ℕ) (p : List Part) (at : ℕ) (v r : Values) → at ≤ length s → (TextAt s at t → ⊥) → r .fault ≡ 11 → Reads s (texted t p) at v r
 text-missing s [] p at v r h n f = absurd (n (omega arith, λ k l. absurd (omega arith)))
 text-missing s (b ∷ t) p at v r h n f =
-    go (le-or-lt (length s) at) (same-number (getD s at 0) b) (λ l e. text-missing s t p (at + 1) v r (omega arith) (λ x. n (whole-stands s b t at l e x)) f)
+    go (le-or-lt (length s) at) (same-number (getD s at 0) b) (λ l e. text-missing s t p (at + 1) v r (omega arith) (λ x. n (whole-text s b t at l e x)) f)
   where
     go : (length s ≤ at) ⊎ (at < length s) → Told (getD s at 0 ≡ b) → (at < length s → getD s at 0 ≡ b → Reads s (texted t p) (at + 1) v r) → Reads s (fixed b ∷ texted t p) at v r
     go (inl l) x d = other (λ (k : at < length s) (e : getD s at 0 ≡ b). omega arith) f

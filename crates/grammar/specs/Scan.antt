@@ -1,25 +1,14 @@
--- How one line is read against one form, byte by byte: what the private functions promise. The public promises rest on `Line`
+-- How one line is read against one form, key by key: what the private functions promise. The public promises rest on `Line`
 -- alone. Assumes nothing.
 use Prim.Native.Nat.{ℕ, zero, suc, _+_, _*_, _/_, _%_, _≤_, _<_}
-use mathlib.Core.Path.{_≡_}
-use mathlib.Core.Bool.{cond}
-use mathlib.Core.List.{List, [], _∷_}
-use lib.Dec.{eqb}
-use lib.ListN.{length, drop, getD, set}
-use mathlib.Core.List.{_++_}
-use Rattle.spelling.specs.Bytes.{upTo, Below}
-use Rattle.spelling.specs.Text.{text}
-use Rattle.spelling.specs.Decimal.{decimal, greatest, IsNumber}
-use Rattle.spelling.specs.Hex.{IsData}
-use Rattle.grammar.specs.Form.{Part, fixed, value, Value, number, pairs}
-use Rattle.grammar.specs.Form.{Has}
+use mathlib.Core.{Path._≡_, Bool.cond, List.List, List.[], List._∷_, List._++_}
+use lib.{Dec.eqb, ListN.length, ListN.drop, ListN.getD, ListN.set}
+use Rattle.spelling.specs.{Bytes.upTo, Bytes.Below, Text.text, Decimal.decimal, Decimal.greatest, Decimal.IsNumber, Hex.IsData}
+use Rattle.grammar.specs.{Form.Part, Form.fixed, Form.value, Form.Value, Form.number, Form.pairs, Form.Has, Line.said}
 use Rattle.grammar.specs.Table.{calls, Row, openings, steps, rowAt}
-use Rattle.grammar.specs.Line.{said}
-use Rattle.grammar.specs.declared.Line.{Line}
+use Rattle.grammar.specs.declared.{Line.Line, Values.Values, Found.Found}
 use Rattle.grammar.specs.declared.Line.the-variants.{Refused}
 use Rattle.protocol.specs.declared.Call.{Call}
-use Rattle.grammar.specs.declared.Values.{Values}
-use Rattle.grammar.specs.declared.Found.{Found}
 
 -- the value that starts at a place of a line: up to the next blank or the end
 abbrev pub valueAt : List ℕ → ℕ → List ℕ
@@ -47,12 +36,12 @@ withData v at = record { fault = v .fault; count = v .count; number = v .number;
 abbrev pub withoutData : Values → Values
 withoutData v = record { fault = cond (eqb (v .fault) 0) 13 (v .fault); count = v .count; number = v .number; start = v .start }
 
--- the value s, where an N stands, takes v to r
+-- the value s, where an N is, takes v to r
 pub data NumberRead (v : Values) (s : List ℕ) (r : Values) : Type 0 where
   right : (n : ℕ) → n ≤ greatest → s ≡ decimal n → r ≡ withNumber v n → NumberRead v s r
   wrong : (IsNumber s → ⊥) → r ≡ withoutNumber v → NumberRead v s r
 
--- the value s, where an H stands, takes v to r; the value starts at a place of the line
+-- the value s, where an H is, takes v to r; the value starts at a place of the line
 pub data DataRead (v : Values) (s : List ℕ) (at : ℕ) (r : Values) : Type 0 where
   right : IsData s → r ≡ withData v at → DataRead v s at r
   wrong : (IsData s → ⊥) → r ≡ withoutData v → DataRead v s at r
@@ -122,14 +111,14 @@ unfoldable pub fieldParts : ℕ → ℕ → List Part
 fieldParts zero k = []
 fieldParts (suc n) k = texted (keyText (k % 16)) (value (keyValue (k % 16)) ∷ fieldParts n (k / 16))
 
--- the text t stands in the line s at a place
-abbrev pub Stands : List ℕ → ℕ → List ℕ → Type 0
-Stands s at t = (at + length t ≤ length s) × Below (length t) (λ k. getD s (at + k) 0 ≡ getD t k 0)
+-- the text t is in the line s at a place
+abbrev pub TextAt : List ℕ → ℕ → List ℕ → Type 0
+TextAt s at t = (at + length t ≤ length s) × Below (length t) (λ k. getD s (at + k) 0 ≡ getD t k 0)
 
 -- the place after it, or 0
 pub data After (s : List ℕ) (at : ℕ) (t : List ℕ) (r : ℕ) : Type 0 where
-  there : Stands s at t → r ≡ at + length t → After s at t r
-  elsewhere : (Stands s at t → ⊥) → r ≡ 0 → After s at t r
+  there : TextAt s at t → r ≡ at + length t → After s at t r
+  elsewhere : (TextAt s at t → ⊥) → r ≡ 0 → After s at t r
 
 -- what is read of the parts p from a place on, which is 0 where the line has another kind
 pub record Filled (s : List ℕ) (head : ℕ) (p : List Part) (r : Values) : Type 0 where

@@ -1,17 +1,16 @@
 // The journal's lines: what one line says, by the forms of the grammar.
 //
-// One function, `fill`, reads a line against any form, part by part; the forms are rows of a table, and two bytes of a line tell
-// the only row that it may have. A new first line or step is a new row: here in `PLACES`, in `fill_row` and in `call_of`, and in
-// specs/Table.antt. The rows that a journal of some form has are one part of the table, from one row up to another.
-ghost use mathlib.Core.Path.{_≡_};
+// A form is a kind (`op=load`) and then keys, each with its value. Two bytes of a line, its tag, tell the only row of the table that it
+// may have; one function, `fill`, reads the keys of any row. A new first line or step is a new row: here in `ROWS_BY_TAG`, `fill_row`
+// and, for a step, `call_of`; in specs/Table.antt; and in the counts of specs/Scan.antt. The rows that a journal of some form has are
+// one part of the table, from one row up to another. Texts are named where they are compared, and not in a table of texts, since a
+// constant array is made anew at each use.
+ghost use mathlib.Core.{Path._≡_, Bool.cond};
 ghost use Prim.Native.Nat.{_≤_, _<_};
-ghost use mathlib.Core.Bool.{cond};
-ghost use lib.Dec.{eqb};
-ghost use lib.ListN.{length};
-ghost use Rattle.grammar.specs.Scan.{numberCount, stepCount, rowCount, formCount, fromOf, toOf, tagOf, RowAt, formOf, keyText, fieldParts, After, Filled};
-ghost use Rattle.grammar.specs.Scan.{Reads, nothingRead, FoundIn, answerOf, Placed, Called};
-ghost use Rattle.grammar.specs.Table.{rowsOf};
-ghost use Rattle.grammar.specs.Line.{LineOf, numberOf};
+ghost use lib.{Dec.eqb, ListN.length};
+ghost use Rattle.grammar.specs.Scan.{numberCount, stepCount, rowCount, formCount, fromOf, toOf, tagOf, RowAt, formOf, keyText, fieldParts};
+ghost use Rattle.grammar.specs.Scan.{After, Filled, Reads, nothingRead, FoundIn, answerOf, Placed, Called};
+ghost use Rattle.grammar.specs.{Table.rowsOf, Line.LineOf, Line.numberOf};
 use protocol::Call;
 use protocol::Opening;
 use spelling::Number;
@@ -23,7 +22,7 @@ pub enum Line {
         form: u32,
         opening: Opening,
     },
-    // A step line; data digits stand at `start..end` of the line, an empty part but for a store.
+    // A step line; data digits are at `start..end` of the line, an empty part but for a store.
     Step {
         call: Call,
         start: usize,
@@ -48,7 +47,7 @@ const TO: [u8; 2] = [10, 9];
 
 // The row of each tag, as a letter from a on; ~, which is no row's, where there is none. The tag of a line or a form is 15 times its
 // seventh byte and its eighth, modulo 32: no two rows have the same.
-const PLACES: [u8; 32] = *b"~a~~j~~~~~~i~~~e~~dcf~~~h~~~bg~~";
+const ROWS_BY_TAG: [u8; 32] = *b"~a~~j~~~~~~i~~~e~~dcf~~~h~~~bg~~";
 
 // What was read of a line by a form: 0 or the refusal, the numbers so far and how many, and where the data start (the line's
 // end, if there are none).
@@ -71,7 +70,7 @@ fn no_form() -> Values
     }
 }
 
-// The place after a text that stands in a line at a place, or 0 where it does not stand there.
+// The place after a text that is in a line at a place, or 0 where it is not there.
 fn after(line: &[u8], at: usize, text: &[u8]) -> usize
     requires { ⌜ at ≤ length (now line) ⌝ }
     ensures { λ r. ⌜ After (now (line .entry)) at (now (text .entry)) r ⌝ }
@@ -91,7 +90,7 @@ fn after(line: &[u8], at: usize, text: &[u8]) -> usize
     at + k
 }
 
-// The place after a key, by its number, or 0 where it does not stand there.
+// The place after a key, by its number, or 0 where it is not there.
 fn after_key(line: &[u8], at: usize, key: u32) -> usize
     requires { ⌜ at ≤ length (now line) ⌝ }
     ensures { λ r. ⌜ After (now (line .entry)) at (keyText key) r ⌝ }
@@ -201,7 +200,7 @@ fn wide(b: u8) -> usize
 fn row_at(a: u8, b: u8) -> usize
     ensures { λ r. ⌜ RowAt (tagOf a b) r ⌝ }
 {
-    wide(PLACES[(wide(a) * 15 + wide(b)) % 32]) - 97
+    wide(ROWS_BY_TAG[(wide(a) * 15 + wide(b)) % 32]) - 97
 }
 
 // The first row of a form, and the row past its last.
@@ -332,15 +331,8 @@ pub fn number_of(line: Line) -> u32
     ensures { λ r. ⌜ r ≡ numberOf line ⌝ }
 {
     match line {
-        Line::Opening {
-            form: _,
-            opening: _,
-        } => 0,
-        Line::Step {
-            call: _,
-            start: _,
-            end: _,
-        } => 0,
+        Line::Opening { .. } => 0,
+        Line::Step { .. } => 0,
         Line::Refused(n) => n,
     }
 }

@@ -1,11 +1,7 @@
 -- H of 01: bytes as lower-case hex pairs. Assumes nothing.
 use Prim.Native.Nat.{ℕ, _+_, _/_, _%_, _≤_, _<_}
-use mathlib.Core.Path.{_≡_}
-use mathlib.Core.Bool.{Bool, cond}
-use mathlib.Core.List.{List, [], _∷_}
-use mathlib.Core.Logic.{_⊎_}
-use lib.Dec.{ltb}
-use lib.ListN.{length}
+use mathlib.Core.{Path._≡_, Bool.Bool, Bool.cond, List.List, List.[], List._∷_, Logic._⊎_}
+use lib.{Dec.ltb, ListN.length}
 use Rattle.spelling.specs.Bytes.{All, Byte, Test}
 
 -- the digit of a number below 16: 0 to 9, a to f

@@ -1,7 +1,7 @@
 // Numbers in decimal and bytes in hex, as the journal and the listing spell them (N and H of the scope).
 //
 // Reading and printing are promised by the same two definitions, `decimal` and `hex` of specs/, so what is printed is read
-// back as it was, and what is read prints as it stood.
+// back as it was, and what is read prints as it was.
 ghost use mathlib.Core.Path.{_≡_};
 ghost use Prim.Native.Nat.{_+_, _≤_, _<_};
 ghost use lib.ListN.{length, getD, drop};
@@ -41,7 +41,7 @@ fn past_clear(s: &[u8], at: usize, stop: u8) -> usize
     p
 }
 
-// Where the next byte `stop` stands, from `at` on, or else the end: a blank ends a value, a newline a line.
+// Where the next byte `stop` is, from `at` on, or else the end: a blank ends a value, a newline a line.
 pub fn run_end(s: &[u8], at: usize, stop: u8) -> usize
     ensures { λ r. ⌜ r ≡ at + length (upTo stop (drop at (now (s .entry)))) ⌝ }
 {
@@ -149,7 +149,7 @@ fn has_room(size: usize, at: usize, n: usize) -> bool
     true
 }
 
-// A text as it stands, into a lent buffer at a place. Where it does not fit, the buffer is left as it was.
+// A text as it is, into a lent buffer at a place. Where it does not fit, the buffer is left as it was.
 pub fn put_text(out: &mut [u8], at: usize, text: &[u8]) -> Put
     ensures { λ r. ⌜ PutAt (now (out .entry)) at (now (text .entry)) (now (out .exit)) r ⌝ }
 {
@@ -164,7 +164,7 @@ pub fn put_text(out: &mut [u8], at: usize, text: &[u8]) -> Put
     Put::End(at + i)
 }
 
-// A number in decimal, the last digit just before a place of a lent buffer; the answer is where the first digit stands. A
+// A number in decimal, the last digit just before a place of a lent buffer; the answer is where the first digit is. A
 // number has at most twenty digits: where fewer bytes lie before the place, or it lies past the buffer's end, the buffer is
 // left as it was and the answer is the place itself.
 pub fn put_number_before(out: &mut [u8], end: usize, n: u64) -> usize

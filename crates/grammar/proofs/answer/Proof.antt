@@ -1,9 +1,8 @@
 -- `grammar::answer` meets its contract. Assumes nothing.
-use Prim.Native.Nat.{ℕ, _<_}
+use Prim.Native.Nat.{_<_}
 use native.Mathlib.Omega.{arith}
 use lib.ListN.{getD}
-use borrow.Author.Tests.{ne-eqb}
-use borrow.Author.Needs.{needs}
+use borrow.Author.{Tests.ne-eqb, Needs.needs}
 use Rattle.grammar.specs.Scan.{rowCount}
 use Rattle.grammar.proofs.Rows.{opening-row}
 use Rattle.grammar.proofs.answer.Statement.{statement}

@@ -1,7 +1,6 @@
 -- `grammar::call_of` meets its contract: in each arm, what the row says of its numbers. Assumes nothing.
 use mathlib.Core.Path.{_≡_}
-use native.Mathlib.Nat.{le-antisymm, le-of-suc-le-suc}
-use native.Mathlib.Omega.{arith}
+use native.Mathlib.{Nat.le-antisymm, Nat.le-of-suc-le-suc, Omega.arith}
 use Rattle.grammar.proofs.Rows.{Others, past}
 use borrow.Author.Needs.{needs}
 use Rattle.grammar.proofs.call_of.Statement.{statement}

@@ -1,14 +1,10 @@
 -- `grammar::fill` meets its contract; `Walk` has the invariant and the laws. Assumes nothing.
-use Prim.Native.Nat.{ℕ, _+_, _/_, _%_, _≤_, _<_, _-_}
-use mathlib.Core.Path.{_≡_, refl, sym, subst}
-use mathlib.Core.List.{List}
+use Prim.Native.Nat.{ℕ, _/_, _%_, _≤_, _-_}
+use mathlib.Core.{Path._≡_, Path.refl, Path.subst, List.List}
 use native.Mathlib.Omega.{arith}
 use lib.ListN.{length, take, drop}
-use borrow.Author.Needs.{needs}
-use borrow.Author.Tests.{ne-eqb}
-use Rattle.spelling.specs.Bytes.{Test}
-use Rattle.spelling.specs.Decimal.{NumberOf}
-use Rattle.spelling.specs.Hex.{DataTest}
+use borrow.Author.{Needs.needs, Tests.ne-eqb}
+use Rattle.spelling.specs.{Decimal.NumberOf, Hex.DataTest}
 use Rattle.spelling.proofs.Split.{upTo-within}
 use Rattle.grammar.specs.Form.{Value, number as aNumber, pairs}
 use Rattle.grammar.specs.Scan.{keyValue, fieldParts, ValueRead, NumberRead, DataRead, right, wrong}

@@ -1,11 +1,9 @@
 -- `grammar::fill_row` meets its contract: in each arm, the row's own kind and keys. Assumes nothing.
 use mathlib.Core.Path.{_≡_}
-use native.Mathlib.Nat.{le-antisymm, le-of-suc-le-suc}
-use native.Mathlib.Omega.{arith}
+use native.Mathlib.{Nat.le-antisymm, Nat.le-of-suc-le-suc, Omega.arith}
 use lib.Dec.{lit≤}
 use Rattle.grammar.specs.Scan.{fieldParts}
-use Rattle.grammar.proofs.Rows.{Others, past}
-use Rattle.grammar.proofs.Walk.{after-within, kind-read}
+use Rattle.grammar.proofs.{Rows.Others, Rows.past, Walk.after-within, Walk.kind-read}
 use borrow.Author.Needs.{needs}
 use Rattle.grammar.proofs.fill_row.Statement.{statement}
 use Rattle.grammar.proofs.fill_row.Tie as tie
@@ -16,7 +14,7 @@ unfolding Others fieldParts
 last c =
     let a = c .before .before .before .before .before in
     let e : a .args .row ≡ 9 = le-antisymm (le-of-suc-le-suc (a .pre)) (past 0 (a .args .row) 9 (omega arith) (c .before .before .before .match .rest)) in
-    rw e (kind-read _ _ (fieldParts 4 30292) _ _ (lit≤ tt) (c .before .after10 .ensures) (c .fill10 .ensures))
+    rw e (kind-read _ _ _ _ _ (lit≤ tt) (c .before .after10 .ensures) (c .fill10 .ensures))
 
 pub fill-row-spec : {M : Type 1} → statement M
 unfolding fieldParts
@@ -33,13 +31,13 @@ fill-row-spec =
     (λ c. search needs) (λ c κs. omega arith) (λ c κs. (after-within _ _ 0 _ (c .after8 .ensures), lit≤ tt))
     (λ c. search needs) (λ c κs. omega arith) (λ c κs. (after-within _ _ 0 _ (c .after9 .ensures), lit≤ tt))
     (λ c. search needs) (λ c κs. omega arith) (λ c κs. (after-within _ _ 0 _ (c .after10 .ensures), lit≤ tt))
-    (λ c. rw (c .before .before .before .match .keys1) (kind-read _ _ (fieldParts 2 16) _ _ (lit≤ tt) (c .before .after .ensures) (c .fill .ensures)))
-    (λ c. rw (c .before .before .before .match .keys2) (kind-read _ _ (fieldParts 2 16) _ _ (lit≤ tt) (c .before .after2 .ensures) (c .fill2 .ensures)))
-    (λ c. rw (c .before .before .before .match .keys3) (kind-read _ _ (fieldParts 3 784) _ _ (lit≤ tt) (c .before .after3 .ensures) (c .fill3 .ensures)))
-    (λ c. rw (c .before .before .before .match .keys4) (kind-read _ _ (fieldParts 1 0) _ _ (lit≤ tt) (c .before .after4 .ensures) (c .fill4 .ensures)))
-    (λ c. rw (c .before .before .before .match .keys5) (kind-read _ _ (fieldParts 1 0) _ _ (lit≤ tt) (c .before .after5 .ensures) (c .fill5 .ensures)))
-    (λ c. rw (c .before .before .before .match .keys6) (kind-read _ _ (fieldParts 1 0) _ _ (lit≤ tt) (c .before .after6 .ensures) (c .fill6 .ensures)))
-    (λ c. rw (c .before .before .before .match .keys7) (kind-read _ _ (fieldParts 2 32) _ _ (lit≤ tt) (c .before .after7 .ensures) (c .fill7 .ensures)))
-    (λ c. rw (c .before .before .before .match .keys8) (kind-read _ _ (fieldParts 1 1) _ _ (lit≤ tt) (c .before .after8 .ensures) (c .fill8 .ensures)))
-    (λ c. rw (c .before .before .before .match .keys9) (kind-read _ _ (fieldParts 1 1) _ _ (lit≤ tt) (c .before .after9 .ensures) (c .fill9 .ensures)))
+    (λ c. rw (c .before .before .before .match .keys1) (kind-read _ _ _ _ _ (lit≤ tt) (c .before .after .ensures) (c .fill .ensures)))
+    (λ c. rw (c .before .before .before .match .keys2) (kind-read _ _ _ _ _ (lit≤ tt) (c .before .after2 .ensures) (c .fill2 .ensures)))
+    (λ c. rw (c .before .before .before .match .keys3) (kind-read _ _ _ _ _ (lit≤ tt) (c .before .after3 .ensures) (c .fill3 .ensures)))
+    (λ c. rw (c .before .before .before .match .keys4) (kind-read _ _ _ _ _ (lit≤ tt) (c .before .after4 .ensures) (c .fill4 .ensures)))
+    (λ c. rw (c .before .before .before .match .keys5) (kind-read _ _ _ _ _ (lit≤ tt) (c .before .after5 .ensures) (c .fill5 .ensures)))
+    (λ c. rw (c .before .before .before .match .keys6) (kind-read _ _ _ _ _ (lit≤ tt) (c .before .after6 .ensures) (c .fill6 .ensures)))
+    (λ c. rw (c .before .before .before .match .keys7) (kind-read _ _ _ _ _ (lit≤ tt) (c .before .after7 .ensures) (c .fill7 .ensures)))
+    (λ c. rw (c .before .before .before .match .keys8) (kind-read _ _ _ _ _ (lit≤ tt) (c .before .after8 .ensures) (c .fill8 .ensures)))
+    (λ c. rw (c .before .before .before .match .keys9) (kind-read _ _ _ _ _ (lit≤ tt) (c .before .after9 .ensures) (c .fill9 .ensures)))
     last)

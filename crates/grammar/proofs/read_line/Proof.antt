@@ -2,9 +2,7 @@
 use Prim.Native.Nat.{ℕ}
 use mathlib.Core.Path.{subst₂}
 use native.Mathlib.Omega.{arith}
-use Rattle.grammar.specs.Line.{tooLong, noForm}
-use Rattle.grammar.specs.Table.{rowsOf}
-use Rattle.grammar.specs.Scan.{fromOf, toOf, FoundIn}
+use Rattle.grammar.specs.{Line.tooLong, Line.noForm, Table.rowsOf, Scan.fromOf, Scan.toOf, Scan.FoundIn}
 use Rattle.grammar.proofs.Judge.{answer-line, placed, ranged, row-in, no-row}
 use borrow.Author.Needs.{needs}
 use Rattle.grammar.proofs.read_line.Statement.{statement}

@@ -1,5 +1,5 @@
 -- `grammar::wrong_data` meets its contract. Assumes nothing.
-use borrow.Author.Tests.{eq-eqb, ne-eqb}
+use borrow.Author.Tests.{ne-eqb}
 use Rattle.grammar.proofs.wrong_data.Statement.{statement}
 use Rattle.grammar.proofs.wrong_data.Tie as tie
 

@@ -1,16 +1,11 @@
 -- `spelling::is_data` meets its contract. The invariant: whether each byte passed is a hex digit. Assumes nothing.
-use Prim.Native.Nat.{ℕ, _≤_, _<_, _-_, _%_}
-use mathlib.Core.Path.{_≡_}
-use mathlib.Core.Bool.{Bool, true, false}
-use mathlib.Core.List.{List}
+use Prim.Native.Nat.{ℕ, _≤_, _-_, _%_}
+use mathlib.Core.{Path._≡_, Bool.Bool, Bool.true, Bool.false, List.List}
 use native.Mathlib.Omega.{arith}
 use borrow.Author.Needs.{needs}
 use lib.ListN.{length, getD}
-use Rattle.spelling.specs.Bytes.{Test, Below}
-use Rattle.spelling.specs.Hex.{HexDigit, DataTest}
-use Rattle.spelling.proofs.Lists.{all-from}
-use Rattle.spelling.proofs.Tests.{test-more}
-use Rattle.spelling.proofs.HexLaws.{unhex, spelt, spells-length, spells-at}
+use Rattle.spelling.specs.{Bytes.Test, Bytes.Below, Hex.HexDigit, Hex.DataTest}
+use Rattle.spelling.proofs.{Lists.all-from, Tests.test-more, HexLaws.unhex, HexLaws.spelt, HexLaws.spells-length, HexLaws.spells-at}
 use Rattle.spelling.proofs.is_data.Statement.{statement}
 use Rattle.spelling.proofs.is_data.Tie as tie
 

@@ -3,7 +3,6 @@ use Prim.Native.Nat.{_+_, _-_}
 use mathlib.Core.Path.{_≡_, refl, _∙_, subst}
 use native.Mathlib.Omega.{arith}
 use borrow.Author.Tests.{not-false}
-use borrow.Author.Needs.{needs}
 use lib.ListN.{length, drop}
 use Rattle.spelling.specs.Bytes.{upTo, Test}
 use Rattle.spelling.proofs.Split.{upTo-run}
