@@ -9,7 +9,7 @@ use lib.Dec.{eqb}
 use lib.ListN.{length, drop, length-append, length-take, length-drop}
 use lib.Seq.{length-take-le}
 use borrow.Author.Tests.{eqb-true, ne-eqb, le-leb}
-use Rattle.protocol.specs.Pick.{pick, fails}
+use Rattle.protocol.specs.Pick.{pick}
 use Rattle.protocol.specs.Buffers.{Bytes, copyStart, copyBytes}
 use Rattle.protocol.specs.About.{about}
 use Rattle.protocol.specs.Machine.{Machine, machine}
@@ -24,7 +24,6 @@ use Rattle.protocol.specs.declared.Act.the-variants.{Load, Store, Fence, Advanc
 use Rattle.protocol.specs.declared.Answer.the-variants.{Done}
 use Rattle.protocol.specs.declared.Name.the-variants.{Open}
 use Rattle.protocol.specs.declared.Effect.{Effect}
-use Rattle.protocol.proofs.Tests.{both-true}
 use Rattle.protocol.proofs.Places.{inside}
 use Rattle.protocol.proofs.Refusals.{machine-fit, named, store-width, not-refused}
 use Rattle.grammar.specs.declared.Line.{Line}
@@ -217,7 +216,7 @@ told-begun :
     {j : Bytes} {there : Checkpoint} {text : Bytes} {room : ℕ} {g : Progress} → Begins j there text room g → (g ≡ Short → ⊥) → Begun j there g
 told-begun {j} (opens {form = f} {o = o} {next = n} x h t u) k =
     let i = next-inside x (omega arith) in
-    running (rw t (resumes-again (length j) (firstCheckpoint n f o) (record { named = λ z. omega (arith, known x .1, z); inside = i; few = rw (le-leb 0 n (omega arith)) })))
+    running (rw t (resumes-again (length j) (firstCheckpoint n f o) (record { named = known x .1; inside = i; few = rw (le-leb 0 n (omega arith)) })))
 told-begun (turned n t u) k = listed
 told-begun (noRoom x h t u r) k = absurd (k refl)
 told-begun (noRoomToEnd x t u r) k = absurd (k refl)

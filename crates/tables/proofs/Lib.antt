@@ -1,4 +1,3 @@
--- `Effects`, `Allowed`, `Making`: what `step` is by the effect, and the core and the line that a call is about.
+-- What `step` is by the effect, and one call made in place.
 pub mod Effects
-pub mod Allowed
 pub mod Making

@@ -1,6 +1,5 @@
 -- `driver::few` meets its contract: each test decides one count. Assumes nothing.
 use borrow.Author.Tests.{le-leb, lt-leb}
-use borrow.Author.Needs.{needs}
 use Rattle.driver.proofs.few.Statement.{statement}
 use Rattle.driver.proofs.few.Tie as tie
 

@@ -1,5 +1,5 @@
 -- `driver::one_line::due` meets its contract: what is known of the line there. Assumes nothing.
-use mathlib.Core.Path.{_≡_, subst}
+use mathlib.Core.Path.{subst}
 use native.Mathlib.Omega.{arith}
 use Rattle.journal.specs.Journal.{NextOf}
 use Rattle.driver.specs.Listing.{atEnd, atRefusal}

@@ -1,5 +1,4 @@
 -- `driver::one_line::put_last` meets its contract: the end line alone, or after the line that is refused. Assumes nothing.
-use mathlib.Core.Path.{refl}
 use borrow.Author.Needs.{needs}
 use Rattle.driver.proofs.one_line.put_last.Statement.{statement}
 use Rattle.driver.proofs.one_line.put_last.Tie as tie
