@@ -8,9 +8,7 @@ use native.Mathlib.Omega.{arith}
 use lib.Dec.{leb}
 use lib.ListN.{length}
 use borrow.Author.Tests.{leb-true, le-leb}
-use Rattle.protocol.specs.Buffers.{Bytes}
-use Rattle.protocol.specs.Step.{Reply, refused, done, commit, meaning}
-use Rattle.protocol.specs.Run.{Record}
+use Rattle.protocol.specs.{Buffers.Bytes, Step.Reply, Step.refused, Step.done, Step.commit, Step.meaning, Run.Record}
 use Rattle.protocol.specs.Counts.{nothingMet, countsOf, plus, total}
 use Rattle.protocol.specs.declared.{Call.Call, Answer.Answer, Counts.Counts}
 use Rattle.protocol.specs.declared.Answer.the-variants.{Refused, Done, Commit}

@@ -6,17 +6,12 @@ use mathlib.Core.List.{[]}
 use native.Mathlib.Omega.{arith}
 use lib.ListN.{length, take, drop, length-drop}
 use lib.Seq.{length-take-le}
-use Rattle.protocol.specs.Buffers.{Bytes, part}
-use Rattle.protocol.specs.Step.{actBytes}
-use Rattle.protocol.specs.declared.Act.{Act}
+use Rattle.protocol.specs.{Buffers.Bytes, Buffers.part, Step.actBytes, declared.Act.Act}
 use Rattle.protocol.specs.declared.Act.the-variants.{Load, Store, Fence, Advance, Transfer}
-use Rattle.spelling.specs.Hex.{IsData}
-use Rattle.spelling.specs.Over.{over, DecodedOf, decoded, noRoom, noData}
-use Rattle.spelling.specs.declared.Decoded.{Decoded}
+use Rattle.spelling.specs.{Hex.IsData, Over.over, Over.DecodedOf, Over.decoded, Over.noRoom, Over.noData, declared.Decoded.Decoded}
 use Rattle.spelling.specs.declared.Decoded.the-variants.{Bytes as Spelt, Wrong, NoRoom}
 use Rattle.spelling.proofs.HexLaws.{spells-length}
-use Rattle.driver.specs.Listing.{Data, noData as without, someData}
-use Rattle.driver.specs.Pieces.{isStore, Digits, Decodes}
+use Rattle.driver.specs.{Listing.Data, Listing.noData as without, Listing.someData, Pieces.isStore, Pieces.Digits, Pieces.Decodes}
 use Rattle.driver.proofs.Putting.{over-written}
 
 -- no digits

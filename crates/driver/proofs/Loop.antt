@@ -8,19 +8,12 @@ use lib.Dec.{eqb, leb}
 use lib.ListN.{length, take, drop}
 use lib.Seq.{length-take-le, drop-drop}
 use borrow.Author.Tests.{leb-true, eqb-false}
-use Rattle.protocol.specs.Pick.{fails}
-use Rattle.protocol.specs.Limits.{mostCores, mostLines}
-use Rattle.protocol.specs.Buffers.{Bytes}
-use Rattle.protocol.specs.About.{about, namedLine}
+use Rattle.protocol.specs.{Pick.fails, Limits.mostCores, Limits.mostLines, Buffers.Bytes, About.about, About.namedLine, Refusals.machineRefusal}
 use Rattle.protocol.specs.Machine.{Machine, machine, coreAt, lineAt, piecesAt, theCore, theLine, written, applied}
-use Rattle.protocol.specs.Refusals.{machineRefusal}
-use Rattle.protocol.specs.Step.{Reply, meaning, actBytes, Outcome, accepted, step}
-use Rattle.protocol.specs.Run.{Given, place, run}
+use Rattle.protocol.specs.{Step.Reply, Step.meaning, Step.actBytes, Step.Outcome, Step.accepted, Step.step, Run.Given, Run.place, Run.run}
 use Rattle.protocol.specs.Counts.{countsOf, plus}
 use Rattle.protocol.specs.declared.{Opening.Opening as Sizes, State.State, Call.Call, About.About, Counts.Counts, Effect.Effect}
-use Rattle.spelling.specs.Over.{PutAt}
-use Rattle.spelling.specs.declared.Put.{Put}
-use Rattle.spelling.specs.declared.Put.the-variants.{End as PutEnd, Short as NoRoom}
+use Rattle.spelling.specs.{Over.PutAt, declared.Put.Put, declared.Put.the-variants.End as PutEnd, declared.Put.the-variants.Short as NoRoom}
 use Rattle.refusals.specs.Input.{inputRefusal}
 use Rattle.buffers.specs.Moves.{Moves}
 use Rattle.protocol.proofs.{Tests.both-true, Keep.still}
@@ -32,10 +25,9 @@ use Rattle.driver.specs.Play.{runFrom, few, resumable, Leads, Piece, aSt
 use Rattle.driver.specs.Pieces.{endingOf, Numbered, StepDue, DueAt, aStep as isStep, theEnd as isEnd, shown, Shows, answerLine, checkpointAt, playedBy}
 use Rattle.driver.specs.declared.{Checkpoint.Checkpoint, Played.Played, Last.Last, Due.Due}
 use Rattle.driver.specs.declared.Due.the-variants.{Step, Last as AtLast}
-use Rattle.driver.proofs.Counting.{one-step, same-counts, few-one, few-later, few-sum}
+use Rattle.driver.proofs.{Counting.one-step, Counting.same-counts, Counting.few-one, Counting.few-later, Counting.few-sum, Stepping.replied}
 use Rattle.driver.proofs.Running.{given, leads-none, leads-more, lines-more}
 use Rattle.driver.proofs.Putting.{Written, put-written, put-short}
-use Rattle.driver.proofs.Stepping.{replied}
 
 -- at the loop's head: the steps gs were made from one checkpoint to the other, and their lines are written
 pub record Reached (j : Bytes) (from : Checkpoint) (p₀ q₀ old : Bytes) (o : Sizes) (base : ℕ) (p q out : Bytes) (there : Checkpoint) (used : ℕ) : Type 0 where

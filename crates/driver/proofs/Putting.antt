@@ -7,14 +7,9 @@ use native.Mathlib.Omega.{arith}
 use lib.ListN.{length, take, drop, length-append, length-take, length-drop}
 use lib.Seq.{drop-at, take-at}
 use borrow.Author.Tests.{leb-true, leb-false}
-use Rattle.protocol.specs.Buffers.{Bytes}
-use Rattle.spelling.specs.Over.{fits, over, PutAt}
-use Rattle.protocol.specs.Step.{refused, meaning}
-use Rattle.protocol.specs.declared.Answer.the-variants.{Refused}
-use Rattle.protocol.specs.Run.{place}
+use Rattle.protocol.specs.{Buffers.Bytes, Step.refused, Step.meaning, declared.Answer.the-variants.Refused, Run.place}
 use Rattle.protocol.specs.declared.{Place.Place, Counts.Counts}
-use Rattle.spelling.specs.declared.Put.{Put}
-use Rattle.spelling.specs.declared.Put.the-variants.{End, Short}
+use Rattle.spelling.specs.{Over.fits, Over.over, Over.PutAt, declared.Put.Put, declared.Put.the-variants.End, declared.Put.the-variants.Short}
 use Rattle.listing.specs.Record.{recordText, endText}
 use Rattle.listing.proofs.Lengths.{record-length, end-length}
 use Rattle.driver.specs.Listing.{stopLines}

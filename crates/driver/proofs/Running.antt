@@ -4,17 +4,12 @@ use mathlib.Core.Path.{_≡_, refl, sym, _∙_, ap}
 use mathlib.Core.List.{List, [], _∷_, _++_, append-assoc, append-nil}
 use native.Mathlib.Omega.{arith}
 use lib.ListN.{length}
-use Rattle.protocol.specs.Buffers.{Bytes, part}
-use Rattle.protocol.specs.Machine.{Machine, machine}
-use Rattle.protocol.specs.Step.{Reply, step}
-use Rattle.protocol.specs.Run.{Given, Record, place, run}
-use Rattle.protocol.specs.Counts.{countsOf, plus, total}
+use Rattle.protocol.specs.{Buffers.Bytes, Buffers.part, Machine.Machine, Machine.machine, Step.Reply, Step.step}
+use Rattle.protocol.specs.{Run.Given, Run.Record, Run.place, Run.run, Counts.countsOf, Counts.plus, Counts.total}
 use Rattle.protocol.specs.declared.{Call.Call, Counts.Counts}
-use Rattle.journal.specs.Journal.{NextOf}
-use Rattle.journal.specs.declared.Next.the-variants.{Step}
+use Rattle.journal.specs.{Journal.NextOf, declared.Next.the-variants.Step}
 use Rattle.listing.specs.Record.{recordText}
-use Rattle.driver.specs.Listing.{Data, Between, noLine, aLine, lines}
-use Rattle.driver.specs.Play.{runFrom, Leads}
+use Rattle.driver.specs.{Listing.Data, Listing.Between, Listing.noLine, Listing.aLine, Listing.lines, Play.runFrom, Play.Leads}
 use Rattle.driver.specs.declared.Checkpoint.{Checkpoint}
 use Rattle.driver.proofs.Counting.{plus-assoc, plus-none, total-append, total-steps}
 

@@ -3,27 +3,14 @@ use Prim.Native.Nat.{ℕ}
 use mathlib.Core.Path.{_≡_, refl, subst}
 use mathlib.Core.Bool.{Bool, true, false}
 use native.Mathlib.Omega.{arith}
-use Rattle.protocol.specs.Pick.{first}
-use Rattle.protocol.specs.Limits.{openingFits}
-use Rattle.protocol.specs.Buffers.{Bytes}
-use Rattle.protocol.specs.Refusals.{openRefusal}
-use Rattle.protocol.specs.Step.{done, openReply}
-use Rattle.protocol.specs.Run.{place}
-use Rattle.protocol.specs.declared.Opening.{Opening as Sizes}
-use Rattle.protocol.specs.declared.Name.the-variants.{Open}
-use Rattle.spelling.specs.Over.{PutAt}
-use Rattle.spelling.specs.declared.Put.{Put}
-use Rattle.spelling.specs.declared.Put.the-variants.{End, Short}
-use Rattle.journal.specs.Journal.{NextOf}
-use Rattle.journal.specs.declared.Next.the-variants.{Opening}
+use Rattle.protocol.specs.{Pick.first, Limits.openingFits, Buffers.Bytes, Refusals.openRefusal, Step.done, Step.openReply, Run.place}
+use Rattle.protocol.specs.{declared.Opening.Opening as Sizes, declared.Name.the-variants.Open}
+use Rattle.spelling.specs.{Over.PutAt, declared.Put.Put, declared.Put.the-variants.End, declared.Put.the-variants.Short}
+use Rattle.journal.specs.{Journal.NextOf, declared.Next.the-variants.Opening}
 use Rattle.listing.specs.Record.{recordText}
-use Rattle.driver.specs.Listing.{NotOpened, outside, notOpened}
-use Rattle.driver.specs.Play.{Begins, opens, fails, noRoom, noRoomToEnd, Starts}
-use Rattle.driver.specs.Pieces.{Puts, refusedBy, openedBy}
-use Rattle.driver.specs.declared.Checkpoint.{Checkpoint}
-use Rattle.driver.specs.declared.Progress.{Progress}
-use Rattle.driver.specs.declared.Progress.the-variants.{More}
-use Rattle.driver.specs.declared.Played.{Played}
+use Rattle.driver.specs.{Listing.NotOpened, Listing.outside, Listing.notOpened, Pieces.Puts, Pieces.refusedBy, Pieces.openedBy}
+use Rattle.driver.specs.{Play.Begins, Play.opens, Play.fails, Play.noRoom, Play.noRoomToEnd, Play.Starts, declared.Checkpoint.Checkpoint}
+use Rattle.driver.specs.{declared.Progress.Progress, declared.Progress.the-variants.More, declared.Played.Played}
 use Rattle.driver.proofs.Putting.{put-written, put-short}
 
 -- what the test of the limits says of 7

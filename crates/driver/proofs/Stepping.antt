@@ -2,10 +2,7 @@
 use Prim.Native.Nat.{ℕ}
 use mathlib.Core.Path.{_≡_, refl, sym, _∙_, ap}
 use lib.ListN.{length, length-replicate}
-use Rattle.protocol.specs.Buffers.{Bytes}
-use Rattle.protocol.specs.About.{about}
-use Rattle.protocol.specs.Machine.{Machine, machine}
-use Rattle.protocol.specs.Refusals.{stateFits, machineRefusal}
+use Rattle.protocol.specs.{Buffers.Bytes, About.about, Machine.Machine, Machine.machine, Refusals.stateFits, Refusals.machineRefusal}
 use Rattle.protocol.specs.Step.{meaning, actBytes, Outcome, accepted, step}
 use Rattle.protocol.specs.declared.{State.State, Call.Call, Act.Act, Answer.Answer}
 use Rattle.protocol.specs.declared.Act.the-variants.{Load, Store, Fence, Advance, Transfer}

@@ -3,12 +3,8 @@
 use Prim.Native.Nat.{ℕ, _-_}
 use mathlib.Core.Path.{_≡_}
 use mathlib.Core.List.{List, [], _∷_, _++_}
-use Rattle.protocol.specs.Buffers.{Bytes, part}
-use Rattle.protocol.specs.Refusals.{openRefusal}
-use Rattle.protocol.specs.Step.{refused}
-use Rattle.protocol.specs.Run.{Given, Record, place}
-use Rattle.protocol.specs.Counts.{counts, plus}
-use Rattle.protocol.specs.declared.{Opening.Opening as Sizes, Call.Call, Counts.Counts}
+use Rattle.protocol.specs.{Buffers.Bytes, Buffers.part, Refusals.openRefusal, Step.refused, Run.Given, Run.Record, Run.place}
+use Rattle.protocol.specs.{Counts.counts, Counts.plus, declared.Opening.Opening as Sizes, declared.Call.Call, declared.Counts.Counts}
 use Rattle.spelling.specs.Hex.{Spells}
 use Rattle.journal.specs.Journal.{NextOf}
 use Rattle.journal.specs.declared.Next.the-variants.{Opening, Step, End, Refused}

@@ -7,17 +7,11 @@ use mathlib.Core.List.{List, [], _++_}
 use lib.Dec.{leb, eqb}
 use lib.ListN.{length, take, drop}
 use denote.Ref.{RefT, now}
-use Rattle.protocol.specs.Pick.{both, fails as untrue}
-use Rattle.protocol.specs.Fresh.{freshState, smallest}
-use Rattle.protocol.specs.Buffers.{Bytes, part}
-use Rattle.protocol.specs.Machine.{machine}
-use Rattle.protocol.specs.Refusals.{openRefusal}
-use Rattle.protocol.specs.Step.{openReply, step}
-use Rattle.protocol.specs.Run.{Given, Run, place, run}
+use Rattle.protocol.specs.{Pick.both, Pick.fails as untrue, Fresh.freshState, Fresh.smallest, Buffers.Bytes, Buffers.part, Machine.machine}
+use Rattle.protocol.specs.{Refusals.openRefusal, Step.openReply, Step.step, Run.Given, Run.Run, Run.place, Run.run}
 use Rattle.protocol.specs.Counts.{nothingMet, plus, total}
 use Rattle.protocol.specs.declared.{Opening.Opening as Sizes, Call.Call, Counts.Counts}
-use Rattle.journal.specs.Journal.{NextOf}
-use Rattle.journal.specs.declared.Next.the-variants.{Opening, Step}
+use Rattle.journal.specs.{Journal.NextOf, declared.Next.the-variants.Opening, declared.Next.the-variants.Step}
 use Rattle.listing.specs.Record.{recordText}
 use Rattle.driver.specs.Listing.{Ending, Data, Between, EndsAt, lines, lastLines, NotOpened, notOpened}
 use Rattle.driver.specs.declared.{Checkpoint.Checkpoint, Progress.Progress, Played.Played}

@@ -6,14 +6,10 @@ use mathlib.Core.List.{List, [], _∷_, _++_}
 use native.Mathlib.Omega.{arith}
 use lib.ListN.{length, length-append}
 use lib.Seq.{append-snoc}
-use Rattle.protocol.specs.Buffers.{Bytes}
-use Rattle.protocol.specs.Machine.{Machine, machine}
-use Rattle.protocol.specs.Run.{Given, Record, run}
-use Rattle.protocol.specs.Counts.{plus, total}
+use Rattle.protocol.specs.{Buffers.Bytes, Machine.Machine, Machine.machine, Run.Given, Run.Record, Run.run, Counts.plus, Counts.total}
 use Rattle.driver.specs.Listing.{Ending, Between, aLine, EndsAt, lines, lastLines}
 use Rattle.driver.specs.Play.{runFrom, Leads, Piece, aStep, theEnd, Tells, finished, more, unfit}
-use Rattle.driver.specs.declared.Checkpoint.{Checkpoint}
-use Rattle.driver.specs.declared.Progress.{Progress}
+use Rattle.driver.specs.{declared.Checkpoint.Checkpoint, declared.Progress.Progress}
 use Rattle.driver.proofs.Running.{given, lines-append, run-records, lines-more}
 use Rattle.playing.specs.Theorems.{PlayOneTheorem}
 use Rattle.playing.proofs.OneReading.{step-same, ends-same, no-end, Compared, alike, fewer, further, compare, none-after}

@@ -4,21 +4,15 @@ use mathlib.Core.Path.{_≡_, sym, _∙_, ap, ap₂, subst}
 use mathlib.Core.List.{List, [], _++_, append-nil, append-assoc}
 use native.Mathlib.Omega.{arith}
 use lib.ListN.{length, replicate}
-use Rattle.protocol.specs.Buffers.{Bytes, privateLength, sharedLength}
-use Rattle.protocol.specs.Machine.{Machine, machine}
-use Rattle.protocol.specs.Run.{Given, Record, run}
-use Rattle.protocol.specs.Counts.{plus, total}
-use Rattle.protocol.specs.declared.Counts.{Counts}
-use Rattle.driver.specs.Listing.{Ending, noLine, EndsAt, lines, lastLines}
+use Rattle.protocol.specs.{Buffers.Bytes, Buffers.privateLength, Buffers.sharedLength, Machine.Machine, Machine.machine, Counts.plus, Counts.total}
+use Rattle.protocol.specs.{Run.Given, Run.Record, Run.run, declared.Counts.Counts}
+use Rattle.driver.specs.{Listing.Ending, Listing.noLine, Listing.EndsAt, Listing.lines, Listing.lastLines, declared.Checkpoint.Checkpoint}
 use Rattle.driver.specs.Play.{runFrom, Leads, Tells, finished, more, unfit, firstCheckpoint, Begins, opens, fails, noRoom, noRoomToEnd}
-use Rattle.driver.specs.declared.Checkpoint.{Checkpoint}
-use Rattle.driver.specs.declared.Progress.{Progress}
-use Rattle.driver.specs.declared.Progress.the-variants.{Finished, More}
+use Rattle.driver.specs.{declared.Progress.Progress, declared.Progress.the-variants.Finished, declared.Progress.the-variants.More}
 use Rattle.driver.proofs.Running.{steps-append, lines-append, run-records, run-length}
 use Rattle.driver.proofs.Counting.{plus-assoc, plus-none, total-append, total-steps}
 use Rattle.playing.specs.Listing.{Reads, listingFrom, Listing, opens as opensListing, fails as failsListing}
-use Rattle.playing.specs.Calls.{joined, Plays-on, last, next, over, begun}
-use Rattle.playing.specs.Theorems.{WholeTheorem}
+use Rattle.playing.specs.{Calls.joined, Calls.Plays-on, Calls.last, Calls.next, Calls.over, Calls.begun, Theorems.WholeTheorem}
 
 -- ---- the listing from a checkpoint on
 

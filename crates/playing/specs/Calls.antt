@@ -3,8 +3,7 @@ use mathlib.Core.Path.{_≡_}
 use mathlib.Core.List.{List, [], _∷_, _++_}
 use lib.ListN.{take, replicate}
 use Rattle.protocol.specs.Buffers.{Bytes, privateLength, sharedLength}
-use Rattle.driver.specs.Play.{Plays, Starts}
-use Rattle.driver.specs.declared.{Checkpoint.Checkpoint, Played.Played}
+use Rattle.driver.specs.{Play.Plays, Play.Starts, declared.Checkpoint.Checkpoint, declared.Played.Played}
 use Rattle.driver.specs.declared.Progress.the-variants.{Finished, More}
 
 -- the texts that calls wrote, one after the other

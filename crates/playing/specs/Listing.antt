@@ -3,15 +3,10 @@
 use Prim.Native.Nat.{ℕ, _+_}
 use mathlib.Core.Path.{_≡_}
 use mathlib.Core.List.{List, _++_}
-use Rattle.protocol.specs.Buffers.{Bytes}
-use Rattle.protocol.specs.Machine.{Machine, freshMachine}
-use Rattle.protocol.specs.Refusals.{openRefusal}
-use Rattle.protocol.specs.Step.{openReply}
-use Rattle.protocol.specs.Run.{Given, place, run}
-use Rattle.protocol.specs.Counts.{nothingMet, plus, total}
+use Rattle.protocol.specs.{Buffers.Bytes, Machine.Machine, Machine.freshMachine, Refusals.openRefusal, Step.openReply}
+use Rattle.protocol.specs.{Run.Given, Run.place, Run.run, Counts.nothingMet, Counts.plus, Counts.total}
 use Rattle.protocol.specs.declared.{Opening.Opening as Sizes, Counts.Counts}
-use Rattle.journal.specs.Journal.{NextOf}
-use Rattle.journal.specs.declared.Next.the-variants.{Opening}
+use Rattle.journal.specs.{Journal.NextOf, declared.Next.the-variants.Opening}
 use Rattle.listing.specs.Record.{recordText}
 use Rattle.driver.specs.Listing.{Ending, Between, EndsAt, lines, lastLines, NotOpened, notOpened}
 

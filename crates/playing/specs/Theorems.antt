@@ -4,14 +4,11 @@ use mathlib.Core.Path.{_≡_}
 use mathlib.Core.Bool.{true}
 use mathlib.Core.List.{List}
 use lib.ListN.{length}
-use Rattle.protocol.specs.Buffers.{Bytes}
-use Rattle.protocol.specs.Run.{Given}
-use Rattle.driver.specs.Listing.{Ending}
-use Rattle.driver.specs.Play.{resumable, Plays, Starts}
+use Rattle.protocol.specs.{Buffers.Bytes, Run.Given}
+use Rattle.driver.specs.{Listing.Ending, Play.resumable, Play.Plays, Play.Starts}
 use Rattle.driver.specs.declared.{Checkpoint.Checkpoint, Progress.Progress, Played.Played}
 use Rattle.driver.specs.declared.Progress.the-variants.{Finished, More}
-use Rattle.playing.specs.Listing.{Reads, Listing}
-use Rattle.playing.specs.Calls.{joined, Playing}
+use Rattle.playing.specs.{Listing.Reads, Listing.Listing, Calls.joined, Calls.Playing}
 
 -- ---- the listing
 

@@ -3,17 +3,10 @@
 use Prim.Native.Nat.{ℕ}
 use mathlib.Core.Path.{_≡_}
 use mathlib.Core.List.{List, [], _∷_}
-use Rattle.protocol.specs.Stamps.{stamp}
-use Rattle.protocol.specs.Fresh.{smallest}
-use Rattle.protocol.specs.Buffers.{Bytes}
-use Rattle.protocol.specs.Machine.{Machine, freshMachine}
-use Rattle.protocol.specs.Step.{fence, step}
-use Rattle.protocol.specs.Run.{place, Commit}
-use Rattle.protocol.specs.declared.Call.{Call}
+use Rattle.protocol.specs.{Stamps.stamp, Fresh.smallest, Buffers.Bytes, Machine.Machine, Machine.freshMachine, Step.fence, Step.step}
+use Rattle.protocol.specs.{Run.place, Run.Commit, declared.Call.Call, declared.Answer.Answer, declared.Kind.the-variants.Fence as OfFence}
 use Rattle.protocol.specs.declared.Call.the-variants.{Load, Fence, Take}
-use Rattle.protocol.specs.declared.Answer.{Answer}
 use Rattle.protocol.specs.declared.Answer.the-variants.{Refused, Done, Commit as Committed}
-use Rattle.protocol.specs.declared.Kind.the-variants.{Fence as OfFence}
 use Rattle.protocol.specs.declared.Name.the-variants.{Ask}
 use Rattle.engine.specs.History.{Made, MadeFrom, history}
 

@@ -3,27 +3,16 @@
 use Prim.Native.Nat.{ℕ}
 use mathlib.Core.Path.{_≡_}
 use mathlib.Core.List.{List, [], _∷_, _++_, map}
-use Rattle.protocol.specs.Stamps.{stamp}
-use Rattle.protocol.specs.Machine.{machine, Pieces}
-use Rattle.protocol.specs.Step.{done, commit, load, store, fence}
-use Rattle.protocol.specs.Step.{Outcome, step}
-use Rattle.protocol.specs.declared.Name.{Name}
+use Rattle.protocol.specs.{Stamps.stamp, Machine.machine, Machine.Pieces, Step.done, Step.commit, Step.load, Step.store, Step.fence}
+use Rattle.protocol.specs.{Step.Outcome, Step.step, declared.Name.Name, declared.Copy.Copy, declared.Copy.the-variants.None as NoCopy}
 use Rattle.protocol.specs.declared.Name.the-variants.{Ask as ask, Recall as recall, Share as share, Renew as renew, Own as own, Drop as dropped}
 use Rattle.protocol.specs.declared.Name.the-variants.{Evict as evict, Advance as advance, Yield as yield, Take as taken}
-use Rattle.protocol.specs.declared.Copy.{Copy}
-use Rattle.protocol.specs.declared.Copy.the-variants.{None as NoCopy}
-use Rattle.protocol.specs.declared.Want.{Want}
-use Rattle.protocol.specs.declared.Want.the-variants.{Load as WantLoad, Store as WantStore}
-use Rattle.protocol.specs.declared.Held.{Held}
-use Rattle.protocol.specs.declared.Held.the-variants.{None as NothingHeld, Version}
+use Rattle.protocol.specs.{declared.Want.Want, declared.Want.the-variants.Load as WantLoad, declared.Want.the-variants.Store as WantStore}
+use Rattle.protocol.specs.{declared.Held.Held, declared.Held.the-variants.None as NothingHeld, declared.Held.the-variants.Version}
 use Rattle.protocol.specs.declared.Grant.the-variants.{Share as GrantShare, Renew as GrantRenew, Own as GrantOwn}
-use Rattle.protocol.specs.declared.Slot.{Slot}
-use Rattle.protocol.specs.declared.Slot.the-variants.{Empty, Answered}
-use Rattle.protocol.specs.declared.Recall.{Recall}
+use Rattle.protocol.specs.{declared.Slot.Slot, declared.Slot.the-variants.Empty, declared.Slot.the-variants.Answered, declared.Recall.Recall}
 use Rattle.protocol.specs.declared.Recall.the-variants.{None as NoRecall, Downgrade, Flush}
-use Rattle.protocol.specs.declared.Line.{Line}
-use Rattle.protocol.specs.declared.State.{State}
-use Rattle.protocol.specs.declared.Call.{Call}
+use Rattle.protocol.specs.{declared.Line.Line, declared.State.State, declared.Call.Call}
 use Rattle.protocol.specs.declared.Call.the-variants.{Load, Store, Fence, Evict, Advance, Serve, Receive, Yield, Take}
 use Rattle.reference_points.specs.Rows.{core, asked, answered, askedElsewhere, answeredElsewhere, sharedCopy, cleanCopy, dirtyCopy, pieces}
 use Rattle.reference_points.specs.Rows.{sharedLine, ownedLine, withRecall, withWriteback, busy, greatest, Row, AllHold}

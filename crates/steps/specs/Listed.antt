@@ -3,8 +3,7 @@ use mathlib.Core.Bool.{Bool, true, false}
 use mathlib.Core.List.{List}
 use Rattle.protocol.specs.Buffers.{Bytes}
 use Rattle.driver.specs.declared.Checkpoint.{Checkpoint}
-use Rattle.playing.specs.Listing.{Listing}
-use Rattle.playing.specs.Calls.{joined, Plays-on, Playing}
+use Rattle.playing.specs.{Listing.Listing, Calls.joined, Calls.Plays-on, Calls.Playing}
 
 -- from a checkpoint on, with the buffers p and q: true, and calls of `play` lead from there to the listing's end
 pub data Ended (journal : Bytes) (from : Checkpoint) (p q : Bytes) : Bool → Type 0 where

@@ -6,11 +6,9 @@ use native.Mathlib.Omega.{arith}
 use lib.ListN.{length}
 use borrow.Author.Needs.{needs}
 use borrow.Author.Tests.{not-true, not-false}
-use Rattle.driver.specs.Play.{unfit}
-use Rattle.driver.specs.Pieces.{checkpointAt}
-use Rattle.driver.proofs.Stepping.{looked-over}
+use Rattle.driver.specs.{Play.unfit, Pieces.checkpointAt}
+use Rattle.driver.proofs.{Stepping.looked-over, play.Statement.statement}
 use Rattle.driver.proofs.Loop.{Reached, reached-start, room-for, finish, step-due, end-due, Made, shows, step-short, step-made}
-use Rattle.driver.proofs.play.Statement.{statement}
 use Rattle.driver.proofs.play.Tie as tie
 
 abbrev Inv-loop : tie.InvT-loop
@@ -130,22 +128,10 @@ returns-2 c =
 
 -- ---- a step
 
-met-requires : tie.Need-met-requires Inv-loop μ-loop
-met-requires c κs = let h = at-head (at-step (at-about (c .before .before .before))) in room-for (h .loop .inv .2) _ (short h)
-
-part-put-answer-end : tie.Need-part-put-answer-end Inv-loop μ-loop
-part-put-answer-end c = made (c .before .before) .due .bytes .fits
-
-put-answer-requires : tie.Need-put-answer-requires Inv-loop μ-loop
-put-answer-requires c κs = shows (made (c .before .before .before .before))
-
 returns-3 : tie.Need-returns-3 Inv-loop μ-loop
 returns-3 c =
     let p = c .before .before .before .before .before in
     step-short (made (at-met p)) _ _ _ (p .put-answer .ensures) (c .before .enum-told .given .1) (c .played2 .ensures)
-
-part-move-bytes-end : tie.Need-part-move-bytes-end Inv-loop μ-loop
-part-move-bytes-end c = made (at-met (at-put (c .before .before .before .before .before .before))) .due .bytes .fits
 
 loop-less : tie.Need-loop-less Inv-loop μ-loop
 loop-less c =
@@ -164,57 +150,24 @@ pub play-spec : {M : Type 1} → statement M
 play-spec =
     tie.close
     (tie.spec
-    Inv-loop
-    μ-loop
-    (λ c κs. search needs)
-    returns
-    (λ c κs. search needs)
-    loop-holds
-    (λ c κs. c .before .loop .inv .2 .named)
-    (λ c. search needs)
-    put-last-requires
-    (λ c κs. search needs)
-    (λ c. at-head (at-last (c .before .before .before)) .loop .inv .0)
+    Inv-loop μ-loop (λ c κs. search needs) returns (λ c κs. search needs) loop-holds (λ c κs. c .before .loop .inv .2 .named) (λ c. search needs)
+    put-last-requires (λ c κs. search needs) (λ c. at-head (at-last (c .before .before .before)) .loop .inv .0)
     (λ c. at-head (at-last (c .before .before .before)) .loop .inv .1)
-    (λ c. c .before .before .out .given ∙ at-head (at-last (c .before .before .before)) .loop .inv .2 .size)
-    returns-2
-    (λ c. search needs)
-    (λ c κs. search needs)
-    (λ c κs. search needs)
-    (λ c. search needs)
-    (λ c. search needs)
-    (λ c κs. search needs)
-    (λ c. search needs)
-    (λ c. search needs)
-    (λ c κs. search needs)
-    (λ c. let a = low (c) in omega arith)
-    (λ c. let a = low (c) in omega arith)
-    (λ c. let a = low (c) in omega arith)
-    (λ c. let a = low (c) in omega arith)
-    (λ c. let a = low (c .before) in omega arith)
-    (λ c. let a = low (c .before) in omega arith)
-    (λ c κs. search needs)
-    met-requires
-    (λ c. search needs)
-    (λ c. search needs)
-    part-put-answer-end
-    put-answer-requires
-    (λ c. search needs)
-    (λ c κs. search needs)
+    (λ c. c .before .before .out .given ∙ at-head (at-last (c .before .before .before)) .loop .inv .2 .size) returns-2 (λ c. search needs)
+    (λ c κs. search needs) (λ c κs. search needs) (λ c. search needs) (λ c. search needs) (λ c κs. search needs) (λ c. search needs)
+    (λ c. search needs) (λ c κs. search needs) (λ c. let a = low (c) in omega arith) (λ c. let a = low (c) in omega arith)
+    (λ c. let a = low (c) in omega arith) (λ c. let a = low (c) in omega arith) (λ c. let a = low (c .before) in omega arith)
+    (λ c. let a = low (c .before) in omega arith) (λ c κs. search needs)
+    (λ c κs. let h = at-head (at-step (at-about (c .before .before .before))) in room-for (h .loop .inv .2) _ (short h)) (λ c. search needs)
+    (λ c. search needs) (λ c. made (c .before .before) .due .bytes .fits) (λ c κs. shows (made (c .before .before .before .before)))
+    (λ c. search needs) (λ c κs. search needs)
     (λ c. at-head (at-step (at-about (at-line (at-met (c .before .before .before .before .before))))) .loop .inv .0)
     (λ c. at-head (at-step (at-about (at-line (at-met (c .before .before .before .before .before))))) .loop .inv .1)
     (λ c. c .before .before .before .before .out2 .given ∙ at-head (at-step (at-about (at-line (at-met (c .before .before .before .before .before))))) .loop .inv .2 .size)
-    returns-3
-    (λ c. search needs)
+    returns-3 (λ c. search needs) (λ c. let a = low (at-line (at-met (at-put (c .before .before .before)))) in omega arith)
     (λ c. let a = low (at-line (at-met (at-put (c .before .before .before)))) in omega arith)
     (λ c. let a = low (at-line (at-met (at-put (c .before .before .before)))) in omega arith)
     (λ c. let a = low (at-line (at-met (at-put (c .before .before .before)))) in omega arith)
     (λ c. let a = low (at-line (at-met (at-put (c .before .before .before)))) in omega arith)
-    (λ c. let a = low (at-line (at-met (at-put (c .before .before .before)))) in omega arith)
-    (λ c. let a = low (at-line (at-met (at-put (c .before .before .before)))) in omega arith)
-    (λ c. search needs)
-    (λ c. search needs)
-    part-move-bytes-end
-    (λ c κs. search needs)
-    loop-less
-    loop-again)
+    (λ c. let a = low (at-line (at-met (at-put (c .before .before .before)))) in omega arith) (λ c. search needs) (λ c. search needs)
+    (λ c. made (at-met (at-put (c .before .before .before .before .before .before))) .due .bytes .fits) (λ c κs. search needs) loop-less loop-again)

@@ -17,12 +17,6 @@ Inv-loop journal private₀ shared₀ out₀ there₀ private shared out there =
 abbrev μ-loop : tie.MeasureT-loop
 μ-loop journal private₀ shared₀ out₀ there₀ private shared out there = length journal - there .at
 
-loop-holds : tie.Need-loop-holds Inv-loop μ-loop
-loop-holds c = let a = c .before .before .before .before in (refl, refl, refl, called-start (a .pre .0) (a .pre .1))
-
-part-write-all-end : tie.Need-part-write-all-end Inv-loop μ-loop
-part-write-all-end c = c .before .before .before .before .before .before .before .play .ensures .within
-
 same-length : tie.Need-same-length Inv-loop μ-loop
 same-length c = c .before .before .before .before .before .before .before .before .before .private .given ∙ c .before .before .before .before .before .before .before .before .before .before .before .before .before .before .loop .inv .0
 
@@ -31,9 +25,6 @@ same-length-2 c = c .before .before .before .before .before .before .before .sha
 
 same-length-3 : tie.Need-same-length-3 Inv-loop μ-loop
 same-length-3 c = c .before .before .before .before .before .out .given ∙ c .before .before .before .before .before .before .before .before .before .before .before .before .before .before .loop .inv .2
-
-returns : tie.Need-returns Inv-loop μ-loop
-returns c = stopped
 
 loop-less : tie.Need-loop-less Inv-loop μ-loop
 loop-less c =
@@ -85,33 +76,8 @@ pub play-on-spec : {M : Type 1} → statement M
 play-on-spec =
     tie.close
     (tie.spec
-    Inv-loop
-    μ-loop
-    loop-holds
-    (λ c κs. search needs)
-    (λ c. search needs)
-    (λ c. search needs)
-    part-write-all-end
-    (λ c κs. search needs)
-    same-length
-    same-length-2
-    same-length-3
-    returns
-    (λ c. search needs)
-    loop-less
-    loop-again
-    (λ c. search needs)
-    same-length-4
-    same-length-5
-    same-length-6
-    returns-2
-    (λ c. search needs)
-    same-length-7
-    same-length-8
-    same-length-9
-    returns-3
-    (λ c. search needs)
-    same-length-10
-    same-length-11
-    same-length-12
-    returns-4)
+    Inv-loop μ-loop (λ c. let a = c .before .before .before .before in (refl, refl, refl, called-start (a .pre .0) (a .pre .1)))
+    (λ c κs. search needs) (λ c. search needs) (λ c. search needs)
+    (λ c. c .before .before .before .before .before .before .before .play .ensures .within) (λ c κs. search needs) same-length same-length-2
+    same-length-3 (λ c. stopped) (λ c. search needs) loop-less loop-again (λ c. search needs) same-length-4 same-length-5 same-length-6 returns-2
+    (λ c. search needs) same-length-7 same-length-8 same-length-9 returns-3 (λ c. search needs) same-length-10 same-length-11 same-length-12 returns-4)

@@ -4,12 +4,6 @@ use borrow.Author.Needs.{needs}
 use Rattle.driver.proofs.one_line.decode.Statement.{statement}
 use Rattle.driver.proofs.one_line.decode.Tie as tie
 
-returns : tie.Need-returns
-returns c = decodes-none _ _ _ _ (c .if1 .taken)
-
-returns-2 : tie.Need-returns-2
-returns-2 c = decodes-some (c .before .before .before .before .before .decode .ensures) (c .before .n .given .1)
-
 returns-3 : tie.Need-returns-3
 returns-3 c =
     let d = c .before .before .before .before in
@@ -26,17 +20,7 @@ pub decode-spec : {M : Type 1} → statement M
 decode-spec =
     tie.close
     (tie.spec
-    returns
-    (λ c. search needs)
-    (λ c. search needs)
-    (λ c. search needs)
-    (λ c κs. search needs)
-    (λ c. search needs)
-    (λ c. search needs)
-    (λ c. search needs)
-    (λ c. search needs)
-    returns-2
-    (λ c. search needs)
-    returns-3
-    (λ c. search needs)
-    returns-4)
+    (λ c. decodes-none _ _ _ _ (c .if1 .taken)) (λ c. search needs) (λ c. search needs) (λ c. search needs) (λ c κs. search needs) (λ c. search needs)
+    (λ c. search needs) (λ c. search needs) (λ c. search needs)
+    (λ c. decodes-some (c .before .before .before .before .before .decode .ensures) (c .before .n .given .1)) (λ c. search needs) returns-3
+    (λ c. search needs) returns-4)

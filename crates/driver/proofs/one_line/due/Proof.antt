@@ -2,12 +2,9 @@
 use mathlib.Core.Path.{subst}
 use native.Mathlib.Omega.{arith}
 use Rattle.journal.specs.Journal.{NextOf}
-use Rattle.driver.specs.Listing.{atEnd, atRefusal}
-use Rattle.driver.specs.Pieces.{aStep, theEnd}
-use Rattle.driver.specs.declared.Last.the-variants.{Refused}
-use Rattle.driver.proofs.Reading.{known}
+use Rattle.driver.specs.{Listing.atEnd, Listing.atRefusal, Pieces.aStep, Pieces.theEnd, declared.Last.the-variants.Refused}
+use Rattle.driver.proofs.{Reading.known, one_line.due.Statement.statement}
 use borrow.Author.Needs.{needs}
-use Rattle.driver.proofs.one_line.due.Statement.{statement}
 use Rattle.driver.proofs.one_line.due.Tie as tie
 
 decode-requires : tie.Need-decode-requires
@@ -19,9 +16,6 @@ returns : tie.Need-returns
 returns c =
     let s = c .before .before in
     absurd (s .before .before .pre (known (subst (NextOf _ _ _) (c .enum-told .given .1) (s .step-at .ensures)) .0))
-
-returns-2 : tie.Need-returns-2
-returns-2 c = theEnd (atEnd (subst (NextOf _ _ _) (c .enum-told2 .given .1) (c .before .before .step-at .ensures))) tt
 
 returns-3 : tie.Need-returns-3
 returns-3 c =
@@ -39,14 +33,5 @@ pub due-spec : {M : Type 1} → statement M
 due-spec =
     tie.close
     (tie.spec
-    (λ c κs. search needs)
-    (λ c. search needs)
-    (λ c. search needs)
-    (λ c. search needs)
-    (λ c. search needs)
-    decode-requires
-    (λ c κs. search needs)
-    returns
-    returns-2
-    returns-3
-    returns-4)
+    (λ c κs. search needs) (λ c. search needs) (λ c. search needs) (λ c. search needs) (λ c. search needs) decode-requires (λ c κs. search needs)
+    returns (λ c. theEnd (atEnd (subst (NextOf _ _ _) (c .enum-told2 .given .1) (c .before .before .step-at .ensures))) tt) returns-3 returns-4)

@@ -3,19 +3,9 @@ use borrow.Author.Needs.{needs}
 use Rattle.driver.proofs.one_line.played.Statement.{statement}
 use Rattle.driver.proofs.one_line.played.Tie as tie
 
-returns : tie.Need-returns
-returns c = rw (c .checkpoint .ensures, c .before .before .put .given .1)
-
-returns-2 : tie.Need-returns-2
-returns-2 c = rw (c .checkpoint2 .ensures, c .before .enum-told .given .1)
-
 pub played-spec : {M : Type 1} → statement M
 played-spec =
     tie.close
     (tie.spec
-    (λ c. search needs)
-    (λ c κs. search needs)
-    (λ c. search needs)
-    (λ c κs. search needs)
-    returns
-    returns-2)
+    (λ c. search needs) (λ c κs. search needs) (λ c. search needs) (λ c κs. search needs)
+    (λ c. rw (c .checkpoint .ensures, c .before .before .put .given .1)) (λ c. rw (c .checkpoint2 .ensures, c .before .enum-told .given .1)))

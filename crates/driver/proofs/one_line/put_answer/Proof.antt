@@ -3,9 +3,8 @@ use Prim.Native.Nat.{_+_, _-_, _≤_}
 use lib.ListN.{length}
 use mathlib.Core.Path.{_≡_, sym, _∙_}
 use native.Mathlib.Omega.{arith}
-use Rattle.driver.proofs.Decoding.{store-bytes, copy-bytes}
+use Rattle.driver.proofs.{Decoding.store-bytes, Decoding.copy-bytes, one_line.put_answer.Statement.statement}
 use borrow.Author.Needs.{needs}
-use Rattle.driver.proofs.one_line.put_answer.Statement.{statement}
 use Rattle.driver.proofs.one_line.put_answer.Tie as tie
 
 -- the bytes lie in the private buffer
@@ -16,12 +15,6 @@ returns : tie.Need-returns
 returns c =
     let s = c .before .before .before .before .before in
     rw (store-bytes _ _ _ (sym (s .is-store .ensures) ∙ c .before .before .before .before .if1 .taken)) (c .before .before .put-record .ensures)
-
-add-end : tie.Need-add-end
-add-end c = let a = ends (c .before) in omega arith
-
-part-put-record-end : tie.Need-part-put-record-end
-part-put-record-end c = let a = ends (c .before .before) in omega arith
 
 returns-2 : tie.Need-returns-2
 returns-2 c =
@@ -35,16 +28,6 @@ pub put-answer-spec : {M : Type 1} → statement M
 put-answer-spec =
     tie.close
     (tie.spec
-    (λ c κs. search needs)
-    (λ c κs. search needs)
-    (λ c. search needs)
-    returns
-    (λ c κs. search needs)
-    (λ c κs. search needs)
-    add-end
-    (λ c. search needs)
-    (λ c. search needs)
-    part-put-record-end
-    (λ c κs. search needs)
-    (λ c. search needs)
-    returns-2)
+    (λ c κs. search needs) (λ c κs. search needs) (λ c. search needs) returns (λ c κs. search needs) (λ c κs. search needs)
+    (λ c. let a = ends (c .before) in omega arith) (λ c. search needs) (λ c. search needs) (λ c. let a = ends (c .before .before) in omega arith)
+    (λ c κs. search needs) (λ c. search needs) returns-2)

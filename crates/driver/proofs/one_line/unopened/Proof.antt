@@ -3,14 +3,9 @@ use borrow.Author.Needs.{needs}
 use Rattle.driver.proofs.one_line.unopened.Statement.{statement}
 use Rattle.driver.proofs.one_line.unopened.Tie as tie
 
-returns : tie.Need-returns
-returns c = rw (c .checkpoint .ensures, c .before .fresh .ensures, c .before .before .smallest .ensures)
-
 pub unopened-spec : {M : Type 1} → statement M
 unopened-spec =
     tie.close
     (tie.spec
-    (λ c κs. search needs)
-    (λ c κs. search needs)
-    (λ c κs. search needs)
-    returns)
+    (λ c κs. search needs) (λ c κs. search needs) (λ c κs. search needs)
+    (λ c. rw (c .checkpoint .ensures, c .before .fresh .ensures, c .before .before .smallest .ensures)))
