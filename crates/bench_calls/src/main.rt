@@ -7,6 +7,7 @@
 use engine::Done;
 use libc::STDERR_FILENO;
 use libc::STDOUT_FILENO;
+use protocol::Answer;
 use protocol::Call;
 use protocol::Opening;
 use protocol::State;
@@ -74,6 +75,15 @@ fn named(s: State, private: &mut [u8], shared: &mut [u8], call: Call, given: &[u
     }
 }
 
+// 1 for a refusal, and 0 for any other answer.
+fn refusals(answer: Answer) -> u64 {
+    match answer {
+        Answer::Refused(_) => 1,
+        Answer::Done(_) => 0,
+        Answer::Commit { .. } => 0,
+    }
+}
+
 // Makes `count` calls on a fresh engine: 25 in 100 loads, 20 stores, 15 serves, 15 receives, and 5
 // each of evict, yield, take, fence and advance. Answers how many of them were refused.
 fn calls(count: u64, opening: Opening, private: &mut [u8], shared: &mut [u8], given: &[u8]) -> u64 {
@@ -94,7 +104,7 @@ fn calls(count: u64, opening: Opening, private: &mut [u8], shared: &mut [u8], gi
     while i < count {
         i += 1;
         let a = d.answer;
-        refused = std::num::wrapping_add_u64(refused, answers::refusals_of(a));
+        refused = std::num::wrapping_add_u64(refused, refusals(a));
         x = next(x);
         let kind = (x % 4294967296) % 20;
         let core = below(x >> 32, cores);
@@ -107,7 +117,7 @@ fn calls(count: u64, opening: Opening, private: &mut [u8], shared: &mut [u8], gi
         }
     }
     let a = d.answer;
-    std::num::wrapping_add_u64(refused, answers::refusals_of(a))
+    std::num::wrapping_add_u64(refused, refusals(a))
 }
 
 // One more than the greatest number of an argument.

@@ -9,13 +9,12 @@ use Rattle.protocol.specs.Buffers.{Bytes, part}
 use Rattle.spelling.specs.Decimal.{decimal}
 use Rattle.spelling.specs.Hex.{hex}
 use Rattle.grammar.specs.Form.{Part, fixed, value, number, pairs, lay, Given as Spelled, spellings, spell}
-use Rattle.grammar.specs.Table.{Numbered, Says, opens as saysOpening, calls, Row, steps, rowsOf, rowAt}
+use Rattle.grammar.specs.Table.{Numbered, Says, opens as saysOpening, calls, rowsOf, rowAt}
 use Rattle.grammar.specs.Line.{said, Spelt, LineOf, tooLong, noForm, wrongNumber, wrongData, spelt}
 use Rattle.grammar.specs.declared.Line.{Line}
 use Rattle.grammar.specs.declared.Line.the-variants.{Opening as OpeningLine, Step as StepLine, Refused as RefusedLine}
 use Rattle.grammar.proofs.Fit.{Shaped}
-use Rattle.grammar.proofs.Rows.{EachRow, row-from, entry-at}
-use Rattle.grammar.proofs.Judge.{later}
+use Rattle.grammar.proofs.Forms.{SaysIn, row-says, row-shape}
 use Rattle.journal.specs.Journal.{placed, LineAt, NextOf, tooMuch, empty, ended, unended, aLine as wholeLine}
 use Rattle.journal.specs.declared.Next.{Next}
 use Rattle.journal.specs.declared.Next.the-variants.{Opening, Step, End, Refused}
@@ -56,43 +55,22 @@ ends-drop s bs e =
 
 -- what is known of a line's answer in a journal of some form
 abbrev LineKnown : ℕ → Bytes → Line → Type 0
-LineKnown form s (OpeningLine f o) = (form ≡ 0) × (f ≡ 1)
+LineKnown form s (OpeningLine f o) = (form ≡ 0) × (f ≡ 0 → ⊥)
 LineKnown form s (StepLine call start end) =
     (form ≡ 0 → ⊥) × (start ≤ end) × (end ≡ length s) × (length s ≤ 200) × ((bs : Bytes) × Data (drop start s) bs)
 LineKnown form s (RefusedLine n) = n ≤ 14
 
-IsCall : Says → Type 0
-IsCall (saysOpening f o) = ⊥
-IsCall (calls c) = Unit
-
-Calls : ℕ → Row → Type 0
-Calls i r = (n : Numbered) → IsCall (r .says n)
-
-step-rows : EachRow Calls 0 steps
-unfolding Calls IsCall
-step-rows = (λ n. tt, (λ n. tt, (λ n. tt, (λ n. tt, (λ n. tt, (λ n. tt, (λ n. tt, (λ n. tt, (λ n. tt, tt)))))))))
-
-call-known : (form : ℕ) (s : Bytes) (w : Says) (bs : Bytes) → IsCall w → (form ≡ 0 → ⊥) → length s ≤ 200 → Ends s bs → LineKnown form s (said w (length s - length (hex bs)) (length s))
-unfolding IsCall
-call-known form s (saysOpening f o) bs i n h e = absurd i
-call-known form s (calls c) bs i n h e = (n, omega arith, refl, h, (bs, rw (ends-drop s bs e) (e .spelt)))
+says-known : (form : ℕ) (s : Bytes) (w : Says) (bs : Bytes) → SaysIn form w → length s ≤ 200 → Ends s bs → LineKnown form s (said w (length s - length (hex bs)) (length s))
+says-known form s (saysOpening f o) bs i h e = i
+says-known form s (calls c) bs i h e = (i, omega arith, refl, h, (bs, rw (ends-drop s bs e) (e .spelt)))
 
 spelt-known : (form : ℕ) (s : Bytes) (a : Line) → length s ≤ 200 → Spelt (rowsOf form) s a → LineKnown form s a
-unfolding Calls
-spelt-known zero s a h x = subst (LineKnown zero s) (sym (x .answer)) (first (x .k) (x .listed))
-  where
-    first : (k : ℕ) → k < 1 → LineKnown zero s (said (rowAt (rowsOf zero) k .says (λ i. getD (x .numbers) i 0)) (length s - length (hex (x .bytes))) (length s))
-    first zero l = (refl, refl)
-    first (suc k) l = absurd (omega arith)
-spelt-known (suc zero) s a h x =
-    let k = x .k in
-    let l : k < 9 = x .listed in
-    let shape : Shaped (rowAt steps k .form) = rw (later k l) (entry-at (1 + k) (omega arith) .shape) in
-    subst (LineKnown (suc zero) s) (sym (x .answer))
-    (call-known (suc zero) s (rowAt steps k .says (λ i. getD (x .numbers) i 0)) (x .bytes)
-    (row-from Calls steps 0 step-rows k l (λ i. getD (x .numbers) i 0)) (λ z. omega (arith, z)) h
-    (subst (λ (t : Bytes). Ends t (x .bytes)) (sym (x .same)) (ends-in (rowAt steps k .form) shape (x .numbers) (x .bytes) (x .given))))
-spelt-known (suc (suc form)) s a h x = absurd (omega (arith, x .listed))
+spelt-known form s a h x =
+    let r = rowAt (rowsOf form) (x .k) in
+    let n : Numbered = λ i. getD (x .numbers) i 0 in
+    subst (LineKnown form s) (sym (x .answer))
+    (says-known form s (r .says n) (x .bytes) (row-says form (x .k) n (x .listed)) h
+    (subst (λ (t : Bytes). Ends t (x .bytes)) (sym (x .same)) (ends-in (r .form) (row-shape form (x .k) (x .listed)) (x .numbers) (x .bytes) (x .given))))
 
 line-known : (form : ℕ) (s : Bytes) {a : Line} → LineOf (rowsOf form) s a → LineKnown form s a
 line-known form s (tooLong l) = omega arith
@@ -111,7 +89,7 @@ pub record StepAt (j : Bytes) (at start end next : ℕ) : Type 0 where
 
 -- what is known of an answer at a place, in a journal of some form
 abbrev pub Known : Bytes → ℕ → ℕ → Next → Type 0
-Known j at form (Opening f o next) = (form ≡ 0) × (f ≡ 1)
+Known j at form (Opening f o next) = (form ≡ 0) × (f ≡ 0 → ⊥)
 Known j at form (Step call start end next) = (form ≡ 0 → ⊥) × StepAt j at start end next
 Known j at form End = form ≡ 0 → ⊥
 Known j at form (Refused n) = n ≤ 14

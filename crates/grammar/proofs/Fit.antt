@@ -1,10 +1,7 @@
--- Laws of a line that has a form: part by part, each value is the one that stands there. Assumes nothing.
+-- Laws of a line that has a form: part by part, each value is the one that is there. Assumes nothing.
 use Prim.Native.Nat.{ℕ, _+_}
-use mathlib.Core.Path.{_≡_, refl, sym, _∙_, ap, ap₂}
-use mathlib.Core.List.{List, [], _∷_, _++_}
-use mathlib.Core.Logic.{inl, inr}
-use lib.ListN.{length, drop}
-use lib.Seq.{drop-append-seam}
+use mathlib.Core.{Path._≡_, Path.refl, Path.sym, Path._∙_, Path.ap, Path.ap₂, List.List, List.[], List._∷_, List._++_, Logic.inl, Logic.inr}
+use lib.{ListN.length, ListN.drop, Seq.drop-append-seam}
 use Rattle.grammar.specs.Form.{Part, fixed, value, Value, number, pairs, lay, Each, Has}
 use Rattle.spelling.specs.Bytes.{upTo}
 use Rattle.spelling.proofs.Split.{Edge, upTo-split, upTo-clean, upTo-unique}
@@ -15,7 +12,7 @@ Edged [] = Unit
 Edged (fixed b ∷ p) = b ≡ 32
 Edged (value q ∷ p) = ⊥
 
--- a form as the grammar has them: a blank or the end follows each value, and data stand last
+-- a form as the grammar has them: a blank or the end follows each value, and data are last
 abbrev pub Shaped : List Part → Type 0
 Shaped [] = Unit
 Shaped (fixed b ∷ p) = Shaped p
@@ -58,7 +55,7 @@ byte-only t b p vs h = (lay p vs, h .laid, record { fit = h .fit; laid = refl })
 
 -- ---- a value
 
--- what stands after the value that begins a text
+-- what is after the value that begins a text
 abbrev pub after : List ℕ → List ℕ
 after t = drop (length (upTo 32 t)) t
 

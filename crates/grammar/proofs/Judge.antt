@@ -1,21 +1,19 @@
 -- From the row that was found to the answer of the line. Assumes nothing.
 use Prim.Native.Nat.{ℕ, zero, suc, _+_, _≤_, _<_, _-_}
-use mathlib.Core.Path.{_≡_, refl, sym, _∙_, ap, subst}
-use mathlib.Core.List.{List, [], _∷_, _++_}
-use mathlib.Core.Logic.{⊎-elim}
+use mathlib.Core.{Path._≡_, Path.refl, Path.sym, Path._∙_, Path.ap, Path.subst, List.List, List.[], List._∷_, List._++_}
+use mathlib.Core.Logic.{⊎-elim, inl, inr}
 use native.Mathlib.Omega.{arith}
-use native.Mathlib.Numerals.{one-add}
-use lib.ListN.{length, getD, drop, List·getD-append, List·getD-eq-default}
-use lib.Seq.{sets, sets-eq, getD-append-add, getD-drop}
+use lib.{Dec.lit≤, ListN.length, ListN.getD, ListN.take, ListN.drop, ListN.List·getD-append, ListN.List·getD-eq-default}
+use lib.Seq.{sets, sets-eq, getD-append-add, getD-take, getD-drop}
 use Rattle.spelling.specs.Hex.{hex}
-use Rattle.spelling.proofs.Lists.{le-or-lt}
+use Rattle.spelling.proofs.{Lists.le-or-lt, Decide.Told, Decide.same-number}
 use Rattle.grammar.specs.Form.{Part, fixed, value, number, pairs, Has, Given}
-use Rattle.grammar.specs.Table.{Row, rowAt, rowsOf, openings, steps}
+use Rattle.grammar.specs.Table.{Row, rowAt, noRow, rowsOf}
 use Rattle.grammar.specs.Line.{said, Fits, LineOf, noForm, wrongNumber, wrongData, spelt}
-use Rattle.grammar.specs.Scan.{table, formOf, valuesIn, nothingRead, Fails, FoundIn, nowhere, here, answerOf, Placed}
+use Rattle.grammar.specs.Scan.{rowCount, numberCount, formCount, zeros, fromOf, toOf, RowAt, Reads, table, formOf, valuesIn, nothingRead, Fails, FoundIn, nowhere, here, answerOf, Placed}
 use Rattle.grammar.specs.declared.Found.{Found}
-use Rattle.grammar.proofs.Outcome.{Outcome, fails, badNumber, badData, fine, outcome-of}
-use Rattle.grammar.proofs.Rows.{entry-at}
+use Rattle.grammar.proofs.Outcome.{Outcome, fails, badNumber, badData, fine, outcome-of, fails-of}
+use Rattle.grammar.proofs.Rows.{lineTag, entry-at, same-tag}
 
 -- ---- the numbers that were read, as the row's numbers
 
@@ -28,25 +26,24 @@ given-count (value number ∷ p) [] bs g = absurd g
 given-count (value number ∷ p) (n ∷ ns) bs g = omega (arith, given-count p ns bs (g .1))
 given-count (value pairs ∷ p) ns bs g = rw (g .0) (omega arith)
 
-abbrev zeros : List ℕ
-zeros = 0 ∷ 0 ∷ 0 ∷ 0 ∷ []
+zero-at : (n i : ℕ) → getD (zeros n) i 0 ≡ 0
+zero-at zero i = refl
+zero-at (suc n) zero = refl
+zero-at (suc n) (suc i) = zero-at n i
 
-zero-at : (i : ℕ) → getD zeros i 0 ≡ 0
-zero-at zero = refl
-zero-at (suc zero) = refl
-zero-at (suc (suc zero)) = refl
-zero-at (suc (suc (suc zero))) = refl
-zero-at (suc (suc (suc (suc i)))) = refl
+zeros-count : (n : ℕ) → length (zeros n) ≡ n
+zeros-count zero = refl
+zeros-count (suc n) = ap suc (zeros-count n)
 
--- four places hold the numbers, and zeros past them
-padded : (ns : List ℕ) → length ns ≤ 4 → (i : ℕ) → getD (sets zeros 0 ns) i 0 ≡ getD ns i 0
-padded ns h i =
-    ap (λ (l : List ℕ). getD l i 0) (sets-eq ns zeros 0 (omega arith))
+-- the places hold the numbers, and zeros past them
+padded : (m : ℕ) (ns : List ℕ) → length ns ≤ m → (i : ℕ) → getD (sets (zeros m) 0 ns) i 0 ≡ getD ns i 0
+padded m ns h i =
+    ap (λ (l : List ℕ). getD l i 0) (sets-eq ns (zeros m) 0 (omega (arith, zeros-count m)))
     ∙ ⊎-elim
-    (λ a. let m : length ns + (i - length ns) ≡ i = omega arith in
-    ap (λ (k : ℕ). getD (ns ++ drop (0 + length ns) zeros) k 0) (sym m) ∙ getD-append-add ns (drop (0 + length ns) zeros) (i - length ns) 0 ∙ getD-drop (0 + length ns) zeros (i - length ns) 0
-    ∙ zero-at (0 + length ns + (i - length ns)) ∙ sym (List·getD-eq-default ns 0 {n = i} a))
-    (λ a. List·getD-append ns (drop (0 + length ns) zeros) 0 i a)
+    (λ a. let e : length ns + (i - length ns) ≡ i = omega arith in
+    ap (λ (k : ℕ). getD (ns ++ drop (0 + length ns) (zeros m)) k 0) (sym e) ∙ getD-append-add ns (drop (0 + length ns) (zeros m)) (i - length ns) 0 ∙ getD-drop (0 + length ns) (zeros m) (i - length ns) 0
+    ∙ zero-at m (0 + length ns + (i - length ns)) ∙ sym (List·getD-eq-default ns 0 {n = i} a))
+    (λ a. List·getD-append ns (drop (0 + length ns) (zeros m)) 0 i a)
     (le-or-lt (length ns) i)
 
 abbrev numbered : List ℕ → ℕ → ℕ
@@ -57,7 +54,7 @@ numbers-same f g h = λ j i. h i j
 
 -- ---- the answer by a part of the table
 
-module _ (rows : List Row) (from to : ℕ) (count : length rows ≡ to - from) (below : to ≤ 10) (same : (k : ℕ) → k < length rows → rowAt rows k ≡ rowAt table (from + k)) where
+module _ (rows : List Row) (from to : ℕ) (count : length rows ≡ to - from) (below : to ≤ rowCount) (same : (k : ℕ) → k < length rows → rowAt rows k ≡ rowAt table (from + k)) where
   -- the row at a place of the table, as a row of this part
   part-row : (row : ℕ) → from ≤ row → row < to → rowAt rows (row - from) ≡ rowAt table row
   part-row row a b =
@@ -76,8 +73,8 @@ module _ (rows : List Row) (from to : ℕ) (count : length rows ≡ to - from) (
   found-answer s f l a b (badData vs o h k m) x = rw o (wrongData (f .row - from) vs l (part-fits s vs (f .row) a b h) (rw (part-row (f .row) a b) k) (rw (part-row (f .row) a b) m))
   found-answer s f l a b (fine ns bs o g k q e) x =
       let r = entry-at (f .row) (omega arith) in
-      let c : length ns ≤ 4 = omega (arith, given-count (formOf (f .row)) ns bs g, r .room) in
-      let n : numbered (f .values .number) ≡ numbered ns = numbers-same _ _ (λ i. rw q (padded ns c i)) in
+      let c : length ns ≤ numberCount = omega (arith, given-count (formOf (f .row)) ns bs g, r .room) in
+      let n : numbered (f .values .number) ≡ numbered ns = numbers-same _ _ (λ i. rw q (padded numberCount ns c i)) in
       let st : f .values .start ≡ length s - length (hex bs) = omega (arith, e) in
       rw o
       (spelt {a = said (rowAt table (f .row) .says (numbered (f .values .number))) (f .values .start) (length s)} l
@@ -96,23 +93,55 @@ module _ (rows : List Row) (from to : ℕ) (count : length rows ≡ to - from) (
   answer-line s f l (here a b d x) = found-answer s f l a b (outcome-of s (formOf (f .row)) (f .values) (entry-at (f .row) (omega arith) .shape) d) x
 
 -- a row that was found is one of the table's
-pub placed : (s : List ℕ) (from to : ℕ) (f : Found) → to ≤ 10 → FoundIn s from to f → Placed f
+pub placed : (s : List ℕ) (from to : ℕ) (f : Found) → to ≤ rowCount → FoundIn s from to f → Placed f
 placed s from to f h (nowhere e n) z = absurd (omega (arith, e, z))
 placed s from to f h (here a b d x) z = omega arith
 
--- no form is known beyond 1
-pub no-rows : (form : ℕ) → (form ≡ 0 → ⊥) → (form ≡ 1 → ⊥) → rowsOf form ≡ []
-no-rows zero a b = absurd (a refl)
-no-rows (suc zero) a b = absurd (b refl)
-no-rows (suc (suc form)) a b = refl
+-- ---- the rows of each form are one part of the table
 
-pub no-row : (s : List ℕ) (k : ℕ) (vs : List (List ℕ)) → Fits [] s k vs → ⊥
-no-row s k vs f = omega (arith, f .listed)
+pub record Ranged (form : ℕ) : Type 0 where
+  pub order : fromOf form ≤ toOf form
+  pub high : toOf form ≤ rowCount
+  pub count : length (rowsOf form) ≡ toOf form - fromOf form
+  pub same : rowsOf form ≡ take (toOf form - fromOf form) (drop (fromOf form) table)
 
--- the first lines and the steps as parts of the table
-pub first : (k : ℕ) → k < length openings → rowAt openings k ≡ rowAt table (0 + k)
-first zero h = refl
-first (suc k) h = absurd (omega arith)
+pub ranged : (form : ℕ) → Ranged form
+ranged zero = record { order = lit≤ tt; high = lit≤ tt; count = refl; same = refl }
+ranged (suc zero) = record { order = lit≤ tt; high = lit≤ tt; count = refl; same = refl }
+ranged (suc (suc form)) = record { order = lit≤ tt; high = lit≤ tt; count = refl; same = refl }
 
-pub later : (k : ℕ) → k < length steps → rowAt steps k ≡ rowAt table (1 + k)
-later k h = rw (one-add k)
+pub row-in : (form k : ℕ) → k < length (rowsOf form) → rowAt (rowsOf form) k ≡ rowAt table (fromOf form + k)
+row-in form k h =
+    let r = ranged form in
+    ap (λ (l : List Row). rowAt l k) (r .same) ∙ getD-take (toOf form - fromOf form) (drop (fromOf form) table) k noRow (rw (← r .count) h) ∙ getD-drop (fromOf form) table k noRow
+
+-- no form is known beyond the last
+pub no-row : (form : ℕ) (s : List ℕ) → formCount ≤ form → (k : ℕ) (vs : List (List ℕ)) → Fits (rowsOf form) s k vs → ⊥
+no-row zero s h k vs f = absurd (omega arith)
+no-row (suc zero) s h k vs f = absurd (omega arith)
+no-row (suc (suc form)) s h k vs f = omega (arith, f .listed)
+
+-- ---- which row was found
+
+-- where the only row that the line may have is not one of a part of the table, no row of the part has it
+pub none-there : (s : List ℕ) (from to row : ℕ) → to ≤ rowCount → RowAt (lineTag s) row → (from ≤ row → row < to → ⊥) → (k : ℕ) → from ≤ k → k < to → Fails s (formOf k)
+none-there s from to row h o n k a b vs f =
+    let e : k ≡ row = o k (omega arith) (same-tag k s vs (omega arith) f .1) in
+    n (omega arith) (omega arith)
+
+pub none-short : (s : List ℕ) (from to : ℕ) → to ≤ rowCount → length s < 8 → (k : ℕ) → from ≤ k → k < to → Fails s (formOf k)
+none-short s from to h l k a b vs f = omega (arith, same-tag k s vs (omega arith) f .0)
+
+pub found-by :
+    (s : List ℕ) (from to : ℕ) (f : Found) → to ≤ rowCount → RowAt (lineTag s) (f .row) → from ≤ f .row → f .row < to
+    → Reads s (formOf (f .row)) 0 (nothingRead s) (f .values) → FoundIn s from to f
+found-by s from to f h o a b d = by (same-number (f .values .fault) 11)
+  where
+    fail : f .values .fault ≡ 11 → (k : ℕ) → from ≤ k → k < to → Fails s (formOf k)
+    fail e k x y vs g =
+        let i : k ≡ f .row = o k (omega arith) (same-tag k s vs (omega arith) g .1) in
+        fails-of s (formOf (f .row)) (f .values) (entry-at (f .row) (omega arith) .shape) d e vs (subst (λ (m : ℕ). Has s (formOf m) vs) i g)
+
+    by : Told (f .values .fault ≡ 11) → FoundIn s from to f
+    by (inl e) = nowhere e (fail e)
+    by (inr n) = here a b d n

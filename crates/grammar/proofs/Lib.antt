@@ -3,6 +3,7 @@ pub mod Fit
 pub mod Outcome
 pub mod Rows
 pub mod Judge
+pub mod Forms
 pub mod Unique
 pub mod OneAnswer
 pub mod Inside

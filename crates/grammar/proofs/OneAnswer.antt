@@ -1,60 +1,16 @@
 -- Each line has exactly one answer. Assumes nothing.
-use Prim.Native.Nat.{ℕ, zero, suc, _+_, _*_, _≤_, _<_}
-use mathlib.Core.Path.{_≡_, refl, sym, _∙_, ap₂, subst}
-use mathlib.Core.Bool.{cond}
-use mathlib.Core.List.{List, [], _∷_}
-use mathlib.Core.Logic.{_⊎_, inl, inr}
+use Prim.Native.Nat.{ℕ, zero, suc, _+_, _-_, _≤_, _<_}
+use mathlib.Core.{Path._≡_, Path.refl, Path.subst, List.List, List.[], List._∷_, Logic._⊎_, Logic.inl, Logic.inr}
 use native.Mathlib.Omega.{arith}
-use native.Mathlib.Nat.{add-zero}
-use lib.Dec.{eqb, lit≤}
 use lib.ListN.{length, getD}
-use Rattle.spelling.specs.Decimal.{IsNumber}
-use Rattle.spelling.specs.Hex.{IsData}
-use Rattle.spelling.specs.One.{One}
-use Rattle.spelling.proofs.Lists.{le-or-lt}
-use Rattle.spelling.proofs.Decide.{Told, same-number, number-told, data-told}
-use Rattle.grammar.specs.Form.{Part, fixed, value, number, pairs, Has}
-use Rattle.grammar.specs.Table.{Row, rowAt, openings, steps}
-use Rattle.grammar.specs.Line.{Fits, LineOf, tooLong}
-use Rattle.grammar.specs.Theorems.{OneAnswerTheorem}
-use Rattle.grammar.specs.Scan.{valueAt, table, formOf, byteOf, Reads, right, wrong, ended, longer, same, other, aValue, nothingRead, withNumber, withoutNumber, withData, withoutData, Fails, FoundIn, nowhere, here}
-use Rattle.grammar.specs.declared.Line.{Line}
-use Rattle.grammar.specs.declared.Values.{Values}
-use Rattle.grammar.specs.declared.Found.{Found}
-use Rattle.grammar.proofs.Fit.{Shaped}
-use Rattle.spelling.proofs.Split.{upTo-within}
-use Rattle.grammar.proofs.Outcome.{fails-of}
-use Rattle.grammar.proofs.Rows.{entry-at, fixed-fewer, byte-at, EachRow, row-from}
-use Rattle.grammar.proofs.Judge.{answer-line, first, later}
-use Rattle.grammar.proofs.Unique.{same-answer}
-
--- ---- two rows never have the same line: their fourth and fifth bytes differ
-
-rowHead : Row → ℕ
-rowHead r = byteOf (getD (r .form) 3 (fixed 0)) * 256 + byteOf (getD (r .form) 4 (fixed 0))
-
-lineHead : List ℕ → ℕ
-lineHead s = getD s 3 0 * 256 + getD s 4 0
-
--- the place of the first row with these two bytes
-placeOf : ℕ → List Row → ℕ
-placeOf h [] = 0
-placeOf h (r ∷ rs) = cond (eqb (rowHead r) h) 0 (suc (placeOf h rs))
-
-Placed : ℕ → Row → Type 0
-Placed k r = placeOf (rowHead r) table ≡ k
-
-placed : EachRow Placed 0 table
-unfolding Placed placeOf rowHead
-placed = (refl, (refl, (refl, (refl, (refl, (refl, (refl, (refl, (refl, (refl, tt))))))))))
-
-place : (k : ℕ) (s : List ℕ) (vs : List (List ℕ)) → k < 10 → Has s (formOf k) vs → placeOf (lineHead s) table ≡ k
-unfolding Placed rowHead lineHead
-place k s vs h f =
-    let e = entry-at k h .head in
-    let a = byte-at 3 s (formOf k) vs (fixed-fewer 4 (formOf k) e) f .1 in
-    let b = byte-at 4 s (formOf k) vs e f .1 in
-    ap₂ (λ (x y : ℕ). placeOf (x * 256 + y) table) a b ∙ row-from Placed table 0 placed k h ∙ add-zero k
+use Rattle.spelling.specs.{Decimal.IsNumber, Hex.IsData, One.One}
+use Rattle.spelling.proofs.{Lists.le-or-lt, Decide.Told, Decide.same-number, Decide.number-told, Decide.data-told, Split.upTo-within}
+use Rattle.grammar.specs.{Form.Part, Form.fixed, Form.value, Form.number, Form.pairs, Form.Has, Table.Row, Table.rowAt, Table.rowsOf}
+use Rattle.grammar.specs.{Line.Fits, Line.LineOf, Line.tooLong, Theorems.OneAnswerTheorem}
+use Rattle.grammar.specs.Scan.{valueAt, rowCount, fromOf, toOf, table, formOf, Reads, right, wrong, ended, longer, same, other, aValue, nothingRead, withNumber, withoutNumber, withData, withoutData, Fails, FoundIn, nowhere, here}
+use Rattle.grammar.specs.declared.{Line.Line, Values.Values, Found.Found}
+use Rattle.grammar.proofs.{Fit.Shaped, Outcome.fails-of, Rows.letters, Rows.lineTag, Rows.entry-at, Rows.row-told}
+use Rattle.grammar.proofs.{Judge.answer-line, Judge.ranged, Judge.row-in, Unique.same-answer}
 
 -- ---- a line is read in some way by each form
 
@@ -86,7 +42,7 @@ reads-some s (value pairs ∷ p) at v h = go (data-told (valueAt s at)) (λ w. r
     go (inr n) d = (d (withoutData v) .0, aValue {q = pairs} (wrong n refl) (d (withoutData v) .1))
 
 -- some row of a part of the table has the line, or none has it
-found-some : (s : List ℕ) (n from : ℕ) → from + n ≤ 10 → (f : Found) × FoundIn s from (from + n) f
+found-some : (s : List ℕ) (n from : ℕ) → from + n ≤ rowCount → (f : Found) × FoundIn s from (from + n) f
 unfolding noneRead
 found-some s zero from h = (record { row = 0; values = noneRead }, nowhere refl (λ k a b. absurd (omega arith)))
 found-some s (suc n) from h = go (reads-some s (formOf from) 0 (nothingRead s) (omega arith)) (found-some s n (suc from) (omega arith))
@@ -115,15 +71,15 @@ found-some s (suc n) from h = go (reads-some s (formOf from) 0 (nothingRead s) (
 
 -- ---- the theorem
 
-module _ (rows : List Row) (from n : ℕ) (count : length rows ≡ n) (below : from + n ≤ 10) (part : (k : ℕ) → k < length rows → rowAt rows k ≡ rowAt table (from + k)) where
+module _ (rows : List Row) (from n : ℕ) (count : length rows ≡ n) (below : from + n ≤ rowCount) (part : (k : ℕ) → k < length rows → rowAt rows k ≡ rowAt table (from + k)) where
   shapes : (k : ℕ) → k < length rows → Shaped (rowAt rows k .form)
   shapes k h = rw (part k h) (entry-at (from + k) (omega arith) .shape)
 
-  place-of : (s : List ℕ) (k : ℕ) (vs : List (List ℕ)) → Fits rows s k vs → placeOf (lineHead s) table ≡ from + k
-  place-of s k vs f = place (from + k) s vs (omega (arith, f .listed)) (subst (λ (r : Row). Has s (r .form) vs) (part k (f .listed)) (f .has))
+  told : (s : List ℕ) (k : ℕ) (vs : List (List ℕ)) → Fits rows s k vs → getD letters (lineTag s) 0 ≡ 97 + (from + k)
+  told s k vs f = row-told (from + k) s vs (omega (arith, f .listed)) (subst (λ (r : Row). Has s (r .form) vs) (part k (f .listed)) (f .has))
 
   apart : (s : List ℕ) (j k : ℕ) (vs ws : List (List ℕ)) → Fits rows s j vs → Fits rows s k ws → j ≡ k
-  apart s j k vs ws f g = let e : from + j ≡ from + k = sym (place-of s j vs f) ∙ place-of s k ws g in omega arith
+  apart s j k vs ws f g = omega (arith, told s j vs f, told s k ws g)
 
   short : (s : List ℕ) → length s ≤ 200 → (a : Line) × LineOf rows s a
   short s l = let f = found-some s n from below in (_, answer-line rows from (from + n) (omega arith) below part s (f .0) l (f .1))
@@ -138,6 +94,6 @@ module _ (rows : List Row) (from n : ℕ) (count : length rows ≡ n) (below : f
       record { answer = a .0; holds = a .1; only = λ b x. same-answer rows shapes apart s b (a .0) x (a .1) }
 
 pub one-answer-theorem : OneAnswerTheorem
-one-answer-theorem zero s = one openings 0 1 refl (lit≤ tt) first s
-one-answer-theorem (suc zero) s = one steps 1 9 refl (lit≤ tt) later s
-one-answer-theorem (suc (suc form)) s = one [] 0 0 refl (lit≤ tt) (λ k h. absurd (omega arith)) s
+one-answer-theorem form s =
+    let r = ranged form in
+    one (rowsOf form) (fromOf form) (toOf form - fromOf form) (r .count) (omega (arith, r .order, r .high)) (row-in form) s

@@ -1,14 +1,10 @@
 -- What reading a line against one form shows: that it has not the form, or has it with a wrong number, or with wrong data,
 -- or spells the numbers and data that were read. Assumes nothing.
 use Prim.Native.Nat.{ℕ, _+_, _≤_, _<_}
-use mathlib.Core.Path.{_≡_, refl, sym, _∙_, ap, ap₂, subst}
-use mathlib.Core.List.{List, [], _∷_, _++_}
-use native.Mathlib.Omega.{arith}
-use native.Mathlib.Numerals.{add-one}
-use lib.ListN.{length, getD, drop, length-drop, drop-of-length-le}
-use lib.Seq.{drop-cons, drop-drop, sets}
-use Rattle.spelling.specs.Decimal.{decimal, greatest, IsNumber}
-use Rattle.spelling.specs.Hex.{hex}
+use mathlib.Core.{Path._≡_, Path.refl, Path.sym, Path._∙_, Path.ap, Path.ap₂, Path.subst, List.List, List.[], List._∷_, List._++_}
+use native.Mathlib.{Omega.arith, Numerals.add-one}
+use lib.{ListN.length, ListN.getD, ListN.drop, ListN.length-drop, ListN.drop-of-length-le, Seq.drop-cons, Seq.drop-drop, Seq.sets}
+use Rattle.spelling.specs.{Decimal.decimal, Decimal.greatest, Decimal.IsNumber, Hex.hex}
 use Rattle.grammar.specs.Form.{Part, fixed, value, Value, number, pairs, lay, Each, Has, RightNumber, RightData, Given, spellings, spell}
 use Rattle.grammar.specs.Scan.{Fails, valueAt, NumberRead, DataRead, Reads, right, wrong, ended, longer, same, other, ValueRead, aValue, withNumber, nothingRead}
 use Rattle.grammar.specs.declared.Values.{Values}
@@ -100,7 +96,7 @@ last : {s : List ℕ} {at : ℕ} {v r : Values} → Reads s [] at v r → Last s
 last (ended e) = whole e refl
 last (longer l e) = more l e
 
--- the value that stands at a place, and the rest
+-- the value at a place, and the rest
 value-rest : (s : List ℕ) (at : ℕ) → drop at s ≡ valueAt s at ++ drop (at + length (valueAt s at)) s
 value-rest s at = upTo-split 32 (drop at s) .0 ∙ ap (λ (l : List ℕ). valueAt s at ++ l) (sym (after-value s at))
 

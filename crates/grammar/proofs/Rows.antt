@@ -1,62 +1,40 @@
--- Laws of the table of forms: each row of the code's table is the row of the definitions, and has the shape that reading asks.
+-- Laws of the table of forms: each row has the shape that reading asks, and a tag of its own.
 -- One test, computed at each row. Assumes nothing.
 use Prim.Native.Nat.{ℕ, zero, suc, _+_, _≤_, _<_, _-_}
-use mathlib.Core.Path.{_≡_, refl, subst}
-use mathlib.Core.Bool.{Bool, true, false}
-use mathlib.Core.List.{List, [], _∷_, _++_}
-use native.Mathlib.Omega.{arith}
-use native.Mathlib.Nat.{le-of-suc-le-suc, not-suc-le-zero, suc-add, add-suc, add-zero, zero-add}
-use lib.Dec.{ltb, leb, eqb}
-use lib.ListN.{length, getD, take, drop}
-use borrow.Author.Tests.{ltb-true, leb-true, eqb-true}
-use Rattle.grammar.specs.Form.{Part, fixed, value, number, pairs, parts, Has}
-use Rattle.grammar.specs.Table.{Row, rowAt}
-use Rattle.grammar.specs.Scan.{table, formOf, keyOf, byteOf, valuesIn}
+use mathlib.Core.{Path._≡_, Path.refl, Path.sym, Path._∙_, Path.ap, Path.ap₂, Path.subst, Bool.Bool, Bool.true, Bool.false, Bool.cond}
+use mathlib.Core.List.{List, [], _∷_}
+use native.Mathlib.{Omega.arith, Nat.le-of-suc-le-suc, Nat.not-suc-le-zero, Nat.suc-add, Nat.add-suc, Nat.add-zero, Nat.zero-add}
+use lib.{Dec.leb, Dec.eqb, ListN.length, ListN.getD}
+use borrow.Author.Tests.{leb-true, eqb-true}
+use Rattle.grammar.specs.Form.{Part, fixed, value, number, pairs, Has}
+use Rattle.protocol.specs.declared.Opening.{Opening as Sizes}
+use Rattle.grammar.specs.Table.{Numbered, opens, Row, rowAt}
+use Rattle.grammar.specs.Scan.{stepCount, openingCount, rowCount, numberCount, table, formOf, byteOf, tagOf, rowTag, valuesIn}
 use Rattle.grammar.proofs.Fit.{Edged, Shaped, byte-only}
 
--- ---- the code's tables, as the rows of the definitions make them
+-- ---- the code's table of tags, as the rows of the definitions make it
 
--- a form's text: N is 78, H is 72
-abbrev textOf : List Part → List ℕ
-textOf [] = []
-textOf (fixed b ∷ p) = b ∷ textOf p
-textOf (value number ∷ p) = 78 ∷ textOf p
-textOf (value pairs ∷ p) = 72 ∷ textOf p
+-- the first row with a tag, counted from k; 29 where there is none
+abbrev rowOf : ℕ → ℕ → List Row → ℕ
+rowOf tag k [] = 29
+rowOf tag k (r ∷ rs) = cond (eqb (rowTag r) tag) k (rowOf tag (suc k) rs)
 
--- the forms' texts, each with a newline after it
-abbrev textsOf : List Row → List ℕ
-textsOf [] = []
-textsOf (r ∷ rs) = textOf (r .form) ++ (10 ∷ textsOf rs)
+-- the rows of n tags, from a tag on, as letters from a on
+abbrev pub lettersFrom : ℕ → ℕ → List ℕ
+lettersFrom tag zero = []
+lettersFrom tag (suc n) = (97 + rowOf tag 0 table) ∷ lettersFrom (suc tag) n
 
--- where each form starts, from n on, and the end
-abbrev startsOf : ℕ → List Row → List ℕ
-startsOf n [] = n ∷ []
-startsOf n (r ∷ rs) = n ∷ startsOf (n + length (r .form) + 1) rs
+abbrev pub letters : List ℕ
+letters = lettersFrom 0 32
 
--- the fourth byte of each form
-abbrev keysOf : List Row → List ℕ
-keysOf [] = []
-keysOf (r ∷ rs) = byteOf (getD (r .form) 3 (fixed 0)) ∷ keysOf rs
-
-abbrev pub forms : List ℕ
-forms = textsOf table
-
-abbrev pub starts : List ℕ
-starts = startsOf 0 table
-
-abbrev pub keys : List ℕ
-keys = keysOf table
-
-abbrev pub startOf : ℕ → ℕ
-startOf k = getD starts k 0
-
--- the bytes of the code's form k
-abbrev pub bytesOf : ℕ → List ℕ
-bytesOf k = take (startOf (k + 1) - 1 - startOf k) (drop (startOf k) forms)
+pub letter-high : (tag n k : ℕ) → k < n → 97 ≤ getD (lettersFrom tag n) k 0
+letter-high tag zero k h = absurd (not-suc-le-zero h)
+letter-high tag (suc n) zero h = omega arith
+letter-high tag (suc n) (suc k) h = letter-high (suc tag) n k (le-of-suc-le-suc h)
 
 -- ---- tests on a form
 
-unfoldable both : Bool → Bool → Bool
+unfoldable pub both : Bool → Bool → Bool
 both true b = b
 both false b = false
 
@@ -122,63 +100,90 @@ byte-at (suc i) s (fixed b ∷ p) vs e h =
 
 fits : ℕ → Row → Bool
 fits k r =
-    both (ltb (startOf k) (startOf (k + 1)))
-    (both (leb (startOf (k + 1)) 220)
-    (both (eqb (getD keys k 0) (byteOf (getD (r .form) 3 (fixed 0))))
-    (both (leb (valuesIn (r .form)) 4) (both (fixedUpTo 5 (r .form)) (shaped (r .form))))))
+    both (leb (valuesIn (r .form)) numberCount)
+    (both (fixedUpTo 8 (r .form)) (both (shaped (r .form)) (eqb (getD letters (rowTag r) 0) (97 + k))))
 
 pub record Entry (k : ℕ) (r : Row) : Type 0 where
-  pub same : parts (bytesOf k) ≡ r .form
-  pub order : startOf k < startOf (k + 1)
-  pub high : startOf (k + 1) ≤ 220
-  pub key : getD keys k 0 ≡ byteOf (getD (r .form) 3 (fixed 0))
-  pub room : valuesIn (r .form) ≤ 4
-  pub head : fixedUpTo 5 (r .form) ≡ true
+  pub room : valuesIn (r .form) ≤ numberCount
+  pub head : fixedUpTo 8 (r .form) ≡ true
   pub shape : Shaped (r .form)
+  pub found : getD letters (rowTag r) 0 ≡ 97 + k
 
-entry : (k : ℕ) (r : Row) → parts (bytesOf k) ≡ r .form → fits k r ≡ true → Entry k r
+entry : (k : ℕ) (r : Row) → fits k r ≡ true → Entry k r
 unfolding fits
-entry k r e t0 =
+entry k r t0 =
     let t1 = both-right _ _ t0 in
     let t2 = both-right _ _ t1 in
-    let t3 = both-right _ _ t2 in
-    let t4 = both-right _ _ t3 in
     record {
-      same = e;
-      order = ltb-true _ _ (both-left _ _ t0);
-      high = leb-true _ _ (both-left _ _ t1);
-      key = eqb-true _ _ (both-left _ _ t2);
-      room = leb-true _ _ (both-left _ _ t3);
-      head = both-left _ _ t4;
-      shape = shaped-is (r .form) (both-right _ _ t4);
+      room = leb-true _ _ (both-left _ _ t0);
+      head = both-left _ _ t1;
+      shape = shaped-is (r .form) (both-left _ _ t2);
+      found = eqb-true _ _ (both-right _ _ t2);
     }
 
--- P holds of each row and its place, counted from i
-abbrev pub EachRow : (ℕ → Row → Type 0) → ℕ → List Row → Type 0
-EachRow P i [] = Unit
-EachRow P i (r ∷ rs) = P i r × EachRow P (suc i) rs
+-- the test f passes at each row and its place, counted from i
+abbrev pub every : (ℕ → Row → Bool) → ℕ → List Row → Bool
+every f i [] = true
+every f i (r ∷ rs) = both (f i r) (every f (suc i) rs)
 
-pub row-from : (P : ℕ → Row → Type 0) (rows : List Row) (i : ℕ) → EachRow P i rows → (k : ℕ) → k < length rows → P (k + i) (rowAt rows k)
-row-from P [] i a k h = absurd (not-suc-le-zero h)
-row-from P (r ∷ rows) i a zero h = rw (zero-add i) (a .0)
-row-from P (r ∷ rows) i a (suc k) h = rw (suc-add k i, ← add-suc k i) (row-from P rows (suc i) (a .1) k (le-of-suc-le-suc h))
+pub every-at : (f : ℕ → Row → Bool) (rows : List Row) (i : ℕ) → every f i rows ≡ true → (k : ℕ) → k < length rows → f (k + i) (rowAt rows k) ≡ true
+every-at f [] i a k h = absurd (not-suc-le-zero h)
+every-at f (r ∷ rows) i a zero h = rw (zero-add i) (both-left _ _ a)
+every-at f (r ∷ rows) i a (suc k) h = rw (suc-add k i, ← add-suc k i) (every-at f rows (suc i) (both-right _ _ a) k (le-of-suc-le-suc h))
 
-Tested : ℕ → Row → Type 0
-Tested k r = (parts (bytesOf k) ≡ r .form) × (fits k r ≡ true)
+-- the table has as many rows as the code says, and each passes
+counted : length table ≡ rowCount
+counted = refl
 
-tested : EachRow Tested 0 table
-unfolding Tested fits valuesIn both shaped
-tested =
-    ((refl, refl), ((refl, refl), ((refl, refl), ((refl, refl), ((refl, refl), ((refl, refl), ((refl, refl), ((refl, refl), ((refl, refl), ((refl, refl), tt))))))))))
+tested : every fits 0 table ≡ true
+unfolding fits valuesIn both shaped
+tested = refl
 
-pub entry-at : (k : ℕ) → k < 10 → Entry k (rowAt table k)
-unfolding Tested
-entry-at k h = let t = subst (λ (m : ℕ). Tested m (rowAt table k)) (add-zero k) (row-from Tested table 0 tested k h) in entry k (rowAt table k) (t .0) (t .1)
+pub entry-at : (k : ℕ) → k < rowCount → Entry k (rowAt table k)
+entry-at k h = entry k (rowAt table k) (subst (λ (m : ℕ). fits m (rowAt table k) ≡ true) (add-zero k) (every-at fits table 0 tested k (rw counted h)))
 
--- the fourth and the fifth byte of a line that has a row's form
-pub fourth : (k : ℕ) (s : List ℕ) (vs : List (List ℕ)) → k < 10 → Has s (formOf k) vs → (3 < length s) × (getD s 3 0 ≡ keyOf k)
-fourth k s vs h f = byte-at 3 s (formOf k) vs (fixed-fewer 4 (formOf k) (entry-at k h .head)) f
+-- ---- the row of a line, by its tag
 
--- a number that is none of four in a row is past them
-pub past : (n a : ℕ) → a ≤ n → (n ≡ a → ⊥) → (n ≡ a + 1 → ⊥) → (n ≡ a + 2 → ⊥) → (n ≡ a + 3 → ⊥) → a + 4 ≤ n
-past n a h x y z w = omega arith
+abbrev pub lineTag : List ℕ → ℕ
+lineTag s = tagOf (getD s 6 0) (getD s 7 0)
+
+-- a line that has a row's form has its tag
+pub same-tag : (k : ℕ) (s : List ℕ) (vs : List (List ℕ)) → k < rowCount → Has s (formOf k) vs → (7 < length s) × (rowTag (rowAt table k) ≡ lineTag s)
+same-tag k s vs h f =
+    let e = entry-at k h .head in
+    let a = byte-at 6 s (formOf k) vs (fixed-fewer 7 (formOf k) e) f in
+    let b = byte-at 7 s (formOf k) vs e f in
+    (b .0, sym (ap₂ tagOf (a .1) (b .1)))
+
+-- TWO ROWS NEVER HAVE THE SAME LINE: the row is told by the tag
+pub row-told : (k : ℕ) (s : List ℕ) (vs : List (List ℕ)) → k < rowCount → Has s (formOf k) vs → getD letters (lineTag s) 0 ≡ 97 + k
+row-told k s vs h f = ap (λ (m : ℕ). getD letters m 0) (sym (same-tag k s vs h f .1)) ∙ entry-at k h .found
+
+-- ---- the first lines
+
+-- what a first line's numbers say
+abbrev pub sizesOf : Numbered → Sizes
+sizesOf n = record { cores = n 0; lines = n 1; width = n 2; lease = n 3 }
+
+opening-at : (j : ℕ) (n : Numbered) → j < openingCount → rowAt table (stepCount + j) .says n ≡ opens (j + 1) (sizesOf n)
+opening-at zero n h = refl
+opening-at (suc j) n h = absurd (omega arith)
+
+-- the first lines open the forms in turn
+pub opening-row : (row : ℕ) (n : Numbered) → stepCount ≤ row → row < rowCount → rowAt table row .says n ≡ opens (row - stepCount + 1) (sizesOf n)
+opening-row row n a b =
+    let e : stepCount + (row - stepCount) ≡ row = omega arith in
+    subst (λ (m : ℕ). rowAt table m .says n ≡ opens (row - stepCount + 1) (sizesOf n)) e (opening-at (row - stepCount) n (omega arith))
+
+-- ---- a match on a number
+
+-- a number that is none of k in a row, from a on
+unfoldable pub Others : ℕ → ℕ → ℕ → Type 0
+Others a n zero = Unit
+Others a n (suc k) = Others a n k × (n ≡ a + k → ⊥)
+
+-- it is past them
+pub past : (a n k : ℕ) → a ≤ n → Others a n k → a + k ≤ n
+unfolding Others
+past a n zero h o = omega arith
+past a n (suc k) h o = let p = past a n k h (o .0) in let x = o .1 in omega arith

@@ -1,54 +1,66 @@
--- The loop that reads a line against a form: what holds at each turn, and that each turn keeps it. Assumes nothing.
-use Prim.Native.Nat.{ℕ, _+_, _≤_, _<_, _-_}
-use mathlib.Core.Path.{_≡_, refl, _∙_, ap, subst}
-use mathlib.Core.Bool.{Bool, true, false, cond}
-use mathlib.Core.List.{List, _∷_}
-use native.Mathlib.Omega.{arith}
-use native.Mathlib.Numerals.{add-one}
-use lib.ListN.{length, getD, take, drop, drop-of-length-le}
-use lib.Seq.{drop-cons}
-use lib.Dec.{eqb}
-use Rattle.grammar.specs.Form.{Part, fixed, value, Value, number, pairs, partOf, parts}
-use Rattle.grammar.specs.Scan.{valueAt, valuesIn, isValue, kindOf, ValueRead, Reads, right, wrong, ended, longer, same, other, aValue, nothingRead}
+-- A line read against a form, a text and a value at a time: what holds before each key, and that each key keeps it. Assumes nothing.
+use Prim.Native.Nat.{ℕ, zero, suc, _+_, _/_, _%_, _≤_, _<_, _-_, suc-le-suc}
+use mathlib.Core.{Path._≡_, Path.refl, Path.subst, List.List, List.[], List._∷_, Logic._⊎_, Logic.inl, Logic.inr}
+use native.Mathlib.{Omega.arith, Nat.add-zero, Nat.le-of-suc-le-suc}
+use lib.ListN.{length, getD, take, drop}
+use Rattle.spelling.specs.Bytes.{Below}
+use Rattle.spelling.proofs.{Lists.le-or-lt, Decide.Told, Decide.same-number, Split.upTo-within, Split.upTo-part}
+use Rattle.grammar.specs.Form.{Part, fixed, value, Value, number, pairs}
+use Rattle.grammar.specs.Scan.{numberCount, valueAt, texted, keyText, keyValue, fieldParts, TextAt, After, there, elsewhere, Filled, ValueRead, Reads, right, wrong, ended, longer, same, other, aValue, nothingRead}
 use Rattle.grammar.specs.declared.Values.{Values}
-use Rattle.spelling.proofs.Split.{upTo-within, upTo-part}
 
--- before the part j of a form, at a place of the line s, with the values v read: what the rest gives, the whole gives
-pub record State (s form : List ℕ) (v : Values) (at j : ℕ) : Type 0 where
+-- ---- a text
+
+module _ (s : List ℕ) (b : ℕ) (t : List ℕ) (at : ℕ) where
+  first-byte : TextAt s at (b ∷ t) → getD s at 0 ≡ b
+  first-byte h = subst (λ (m : ℕ). getD s m 0 ≡ b) (add-zero at) (h .1 0 (omega arith))
+
+  rest-text : TextAt s at (b ∷ t) → TextAt s (at + 1) t
+  rest-text h =
+      (omega (arith, h .0), λ k l. let e : at + suc k ≡ at + 1 + k = omega arith in subst (λ (m : ℕ). getD s m 0 ≡ getD t k 0) e (h .1 (suc k) (suc-le-suc l)))
+
+  whole-text : at < length s → getD s at 0 ≡ b → TextAt s (at + 1) t → TextAt s at (b ∷ t)
+  whole-text l e h = (omega (arith, h .0), go)
+    where
+      go : Below (suc (length t)) (λ k. getD s (at + k) 0 ≡ getD (b ∷ t) k 0)
+      go zero m = rw (add-zero at) e
+      go (suc k) m = let x : at + 1 + k ≡ at + suc k = omega arith in subst (λ (n : ℕ). getD s n 0 ≡ getD t k 0) x (h .1 k (le-of-suc-le-suc m))
+
+-- a text that is there, and what is read after it
+pub text-read : (s t : List ℕ) (p : List Part) (at : ℕ) (v r : Values) → TextAt s at t → Reads s p (at + length t) v r → Reads s (texted t p) at v r
+text-read s [] p at v r h d = subst (λ (m : ℕ). Reads s p m v r) (add-zero at) d
+text-read s (b ∷ t) p at v r h d =
+    let e : at + suc (length t) ≡ at + 1 + length t = omega arith in
+    same {at = at} (omega (arith, h .0)) (first-byte s b t at h) (text-read s t p (at + 1) v r (rest-text s b t at h) (subst (λ (m : ℕ). Reads s p m v r) e d))
+
+-- a text that is not there
+pub text-missing : (s t : List ℕ) (p : List Part) (at : ℕ) (v r : Values) → at ≤ length s → (TextAt s at t → ⊥) → r .fault ≡ 11 → Reads s (texted t p) at v r
+text-missing s [] p at v r h n f = absurd (n (omega arith, λ k l. absurd (omega arith)))
+text-missing s (b ∷ t) p at v r h n f =
+    go (le-or-lt (length s) at) (same-number (getD s at 0) b) (λ l e. text-missing s t p (at + 1) v r (omega arith) (λ x. n (whole-text s b t at l e x)) f)
+  where
+    go : (length s ≤ at) ⊎ (at < length s) → Told (getD s at 0 ≡ b) → (at < length s → getD s at 0 ≡ b → Reads s (texted t p) (at + 1) v r) → Reads s (fixed b ∷ texted t p) at v r
+    go (inl l) x d = other (λ (k : at < length s) (e : getD s at 0 ≡ b). omega arith) f
+    go (inr l) (inl e) d = same l e (d l e)
+    go (inr l) (inr x) d = other (λ k e. x e) f
+
+-- a kind, and the keys after it
+pub kind-read : (s t : List ℕ) (p : List Part) (head : ℕ) (r : Values) → 0 < length t → After s 0 t head → Filled s head p r → Reads s (texted t p) 0 (nothingRead s) r
+kind-read s t p head r l (elsewhere x z) f = text-missing s t p 0 (nothingRead s) r (omega arith) x (f .otherKind z)
+kind-read s t p head r l (there x z) f = text-read s t p 0 (nothingRead s) r x (subst (λ (m : ℕ). Reads s p m (nothingRead s) r) z (f .itsKind (λ e. omega arith)))
+
+pub after-within : (s t : List ℕ) (at r : ℕ) → After s at t r → r ≤ length s
+after-within s t at r (elsewhere x z) = omega arith
+after-within s t at r (there x z) = omega (arith, x .0)
+
+-- ---- a key and its value
+
+-- before the last n keys, whose numbers are the digits of k, with the values v read: what they give, the whole gives
+pub record State (s : List ℕ) (head : ℕ) (whole : List Part) (v : Values) (at n k : ℕ) : Type 0 where
+  pub begun : 0 < at
   pub within : at ≤ length s
-  pub inside : j ≤ length form
-  pub room : v .count + valuesIn (parts (drop j form)) ≤ 4
-  pub goes : (r : Values) → Reads s (parts (drop j form)) at v r → Reads s (parts form) 0 (nothingRead s) r
-
-pub start : (s form : List ℕ) → valuesIn (parts form) ≤ 4 → State s form (nothingRead s) 0 0
-start s form h = record { within = omega arith; inside = omega arith; room = omega arith; goes = λ r d. d }
-
--- ---- the next part
-
-next : (form : List ℕ) (j : ℕ) → j < length form → drop j form ≡ getD form j 0 ∷ drop (j + 1) form
-next form j h = rw (add-one j) (drop-cons form j 0 h)
-
--- a byte of a form stands for a value of its kind, or for itself
-value-part : (b : ℕ) → isValue b ≡ true → partOf b ≡ value (kindOf b)
-value-part b e = go (eqb b 78) (eqb b 72) e
-  where
-    go : (x y : Bool) → cond x true y ≡ true → cond x (value number) (cond y (value pairs) (fixed b)) ≡ value (cond x number pairs)
-    go true y e = refl
-    go false true e = refl
-    go false false e = absurd (let z : _≡_ {A = ℕ} 0 1 = cc in omega arith)
-
-fixed-part : (b : ℕ) → isValue b ≡ false → partOf b ≡ fixed b
-fixed-part b e = go (eqb b 78) (eqb b 72) e
-  where
-    go : (x y : Bool) → cond x true y ≡ false → cond x (value number) (cond y (value pairs) (fixed b)) ≡ fixed b
-    go true y e = absurd (let z : _≡_ {A = ℕ} 0 1 = cc in omega arith)
-    go false true e = absurd (let z : _≡_ {A = ℕ} 0 1 = cc in omega arith)
-    go false false e = refl
-
-next-is : (form : List ℕ) (j : ℕ) (x : Part) → j < length form → partOf (getD form j 0) ≡ x → parts (drop j form) ≡ x ∷ parts (drop (j + 1) form)
-next-is form j x h e = ap parts (next form j h) ∙ ap (λ (y : Part). y ∷ parts (drop (j + 1) form)) e
-
--- ---- one turn
+  pub room : v .count + n ≤ numberCount
+  pub goes : (r : Values) → Reads s (fieldParts n k) at v r → Reads s whole head (nothingRead s) r
 
 -- a value adds one number at most
 counted : (s : List ℕ) (at : ℕ) (v w : Values) (q : Value) → ValueRead q v s at w → w .count ≤ v .count + 1
@@ -57,45 +69,40 @@ counted s at v w number (wrong q u) = rw u (omega arith)
 counted s at v w pairs (right q u) = rw u (omega arith)
 counted s at v w pairs (wrong q u) = rw u (omega arith)
 
-module _ (s form : List ℕ) (v : Values) (at j : ℕ) (i : State s form v at j) where
-  module _ (h : j < length form) (b : isValue (getD form j 0) ≡ true) where
-    is-next : parts (drop j form) ≡ value (kindOf (getD form j 0)) ∷ parts (drop (j + 1) form)
-    is-next = next-is form j _ h (value-part (getD form j 0) b)
+next-field : (n k : ℕ) → 0 < n → fieldParts n k ≡ texted (keyText (k % 16)) (value (keyValue (k % 16)) ∷ fieldParts (n - 1) (k / 16))
+unfolding fieldParts
+next-field zero k h = absurd (omega arith)
+next-field (suc n) k h = let e : suc n - 1 ≡ n = omega arith in rw e
 
-    pub value-room : v .count < 4
-    unfolding valuesIn
-    value-room = omega (arith, i .room, ap valuesIn is-next)
+no-field : (n k : ℕ) → n ≤ 0 → fieldParts n k ≡ []
+unfolding fieldParts
+no-field zero k h = refl
+no-field (suc n) k h = absurd (omega arith)
 
-    pub step-value : (w : Values) (e : ℕ) → e ≡ at + length (valueAt s at) → ValueRead (kindOf (getD form j 0)) v (take (e - at) (drop at s)) at w → State s form w e (j + 1)
-    unfolding valuesIn
-    step-value w e n d =
-        let c = counted (take (e - at) (drop at s)) at v w (kindOf (getD form j 0)) d in
-        record {
-          within = omega (arith, upTo-within 32 s at (i .within));
-          inside = omega arith;
-          room = omega (arith, i .room, ap valuesIn is-next);
-          goes = λ r t. i .goes r (rw is-next (aValue (subst (λ (x : List ℕ). ValueRead (kindOf (getD form j 0)) v x at w) (upTo-part 32 s at e n) d) (rw n at t)));
-        }
+module _ (s : List ℕ) (head : ℕ) (whole : List Part) (v : Values) (at n k : ℕ) (i : State s head whole v at n k) where
+  pub step-field :
+      (a e : ℕ) (w : Values) → 0 < n → After s at (keyText (k % 16)) a → (a ≡ 0 → ⊥) → e ≡ a + length (valueAt s a) → ValueRead (keyValue (k % 16)) v (take (e - a) (drop a s)) a w
+      → State s head whole w e (n - 1) (k / 16)
+  step-field a e w h (elsewhere x z) y q d = absurd (y z)
+  step-field a e w h (there x z) y q d =
+      let c = counted (take (e - a) (drop a s)) a v w (keyValue (k % 16)) d in
+      record {
+        begun = omega arith;
+        within = omega (arith, upTo-within 32 s a (omega (arith, x .0)));
+        room = omega (arith, i .room);
+        goes = λ r t. i .goes r
+            (rw (next-field n k h)
+            (text-read s (keyText (k % 16)) _ at v r x
+            (subst (λ (m : ℕ). Reads s (value (keyValue (k % 16)) ∷ fieldParts (n - 1) (k / 16)) m v r) z
+            (aValue (subst (λ (l : List ℕ). ValueRead (keyValue (k % 16)) v l a w) (upTo-part 32 s a e q) d) (rw q at t)))));
+      }
 
-  module _ (h : j < length form) (b : isValue (getD form j 0) ≡ false) where
-    byte-next : parts (drop j form) ≡ fixed (getD form j 0) ∷ parts (drop (j + 1) form)
-    byte-next = next-is form j _ h (fixed-part (getD form j 0) b)
+  pub stop-field : (a : ℕ) (r : Values) → 0 < n → After s at (keyText (k % 16)) a → a ≡ 0 → r .fault ≡ 11 → Reads s whole head (nothingRead s) r
+  stop-field a r h (elsewhere x z) y f = i .goes r (rw (next-field n k h) (text-missing s (keyText (k % 16)) _ at v r (i .within) x f))
+  stop-field a r h (there x z) y f = absurd (omega (arith, i .begun))
 
-    pub step-byte : at < length s → getD s at 0 ≡ getD form j 0 → State s form v (at + 1) (j + 1)
-    unfolding valuesIn
-    step-byte l e =
-        record {
-          within = omega arith;
-          inside = omega arith;
-          room = omega (arith, i .room, ap valuesIn byte-next);
-          goes = λ r t. i .goes r (rw byte-next (same l e t));
-        }
+  pub stop-long : (r : Values) → n ≤ 0 → at < length s → r .fault ≡ 11 → Reads s whole head (nothingRead s) r
+  stop-long r h l f = i .goes r (rw (no-field n k h) (longer l f))
 
-    pub stop-byte : (r : Values) → (at < length s → getD s at 0 ≡ getD form j 0 → ⊥) → r .fault ≡ 11 → Reads s (parts form) 0 (nothingRead s) r
-    stop-byte r n e = i .goes r (rw byte-next (other n e))
-
-  pub stop-long : (r : Values) → length form ≤ j → at < length s → r .fault ≡ 11 → Reads s (parts form) 0 (nothingRead s) r
-  stop-long r h l e = i .goes r (rw (drop-of-length-le form h) (longer l e))
-
-  pub stop-end : length form ≤ j → length s ≤ at → Reads s (parts form) 0 (nothingRead s) v
-  stop-end h l = i .goes v (rw (drop-of-length-le form h) (ended {at = at} (omega (arith, i .within))))
+  pub stop-end : n ≤ 0 → length s ≤ at → Reads s whole head (nothingRead s) v
+  stop-end h l = i .goes v (rw (no-field n k h) (ended {at = at} (omega (arith, i .within))))

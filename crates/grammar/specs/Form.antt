@@ -1,14 +1,9 @@
 -- A form of the grammar: a line as 01 writes it, where N stands for a number, H for data, and every other byte for itself.
 -- Assumes nothing.
 use Prim.Native.Nat.{ℕ, _+_, _≤_, _<_}
-use mathlib.Core.Path.{_≡_}
-use mathlib.Core.Bool.{cond}
-use mathlib.Core.List.{List, [], _∷_, _++_}
-use lib.Dec.{eqb}
-use lib.ListN.{length}
-use Rattle.spelling.specs.Bytes.{All, Byte, Without}
-use Rattle.spelling.specs.Decimal.{decimal, greatest, IsNumber}
-use Rattle.spelling.specs.Hex.{hex, IsData}
+use mathlib.Core.{Path._≡_, Bool.cond, List.List, List.[], List._∷_, List._++_}
+use lib.{Dec.eqb, ListN.length}
+use Rattle.spelling.specs.{Bytes.All, Bytes.Byte, Bytes.Without, Decimal.decimal, Decimal.greatest, Decimal.IsNumber, Hex.hex, Hex.IsData}
 
 -- the kinds of value: N, a number, and H, data as hex pairs
 pub data Value : Type 0 where
@@ -52,12 +47,12 @@ pub record Has (s : List ℕ) (p : List Part) (vs : List (List ℕ)) : Type 0 wh
   pub fit : Each (λ q v. NoBlank v) p vs
   pub laid : s ≡ lay p vs
 
--- a value where a number stands is a number, else 12
+-- a value where an N is is a number, else 12
 abbrev pub RightNumber : Value → List ℕ → Type 0
 RightNumber number v = IsNumber v
 RightNumber pairs v = Unit
 
--- a value where data stand is data, else 13
+-- a value where an H is is data, else 13
 abbrev pub RightData : Value → List ℕ → Type 0
 RightData number v = Unit
 RightData pairs v = IsData v

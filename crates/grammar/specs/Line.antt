@@ -1,7 +1,6 @@
 -- What a journal line is: 01's step or opening that it spells, or its refusal 10, 11, 12 or 13. Assumes nothing.
 use Prim.Native.Nat.{ℕ, _≤_, _<_, _-_}
-use mathlib.Core.Path.{_≡_}
-use mathlib.Core.List.{List}
+use mathlib.Core.{Path._≡_, List.List}
 use lib.ListN.{length, getD}
 use Rattle.spelling.specs.Hex.{hex}
 use Rattle.grammar.specs.Form.{Has, Each, RightNumber, RightData, Given, spell}
@@ -9,7 +8,7 @@ use Rattle.grammar.specs.Table.{Says, opens, calls, Row, rowAt}
 use Rattle.grammar.specs.declared.Line.{Line}
 use Rattle.grammar.specs.declared.Line.the-variants.{Opening, Step, Refused}
 
--- what a line says, as its answer; data stand from start to end
+-- what a line says, as its answer; data are from start to end
 abbrev pub said : Says → ℕ → ℕ → Line
 said (opens form sizes) start end = Opening form sizes
 said (calls call) start end = Step call start end
@@ -19,7 +18,7 @@ pub record Fits (rows : List Row) (s : List ℕ) (k : ℕ) (vs : List (List ℕ)
   pub listed : k < length rows
   pub has : Has s (rowAt rows k .form) vs
 
--- the line s spells what a row says of these numbers and bytes; data stand at the line's end
+-- the line s spells what a row says of these numbers and bytes; data are at the line's end
 pub record Spelt (rows : List Row) (s : List ℕ) (a : Line) : Type 0 where
   pub k : ℕ
   pub listed : k < length rows
@@ -35,9 +34,9 @@ pub data LineOf (rows : List Row) (s : List ℕ) : Line → Type 0 where
   tooLong : 200 < length s → LineOf rows s (Refused 10)
   -- 11 not a form of the grammar
   noForm : length s ≤ 200 → ((k : ℕ) (vs : List (List ℕ)) → Fits rows s k vs → ⊥) → LineOf rows s (Refused 11)
-  -- 12 a form, with a value that is no number where an N stands
+  -- 12 a form, with a value that is no number where an N is
   wrongNumber : (k : ℕ) (vs : List (List ℕ)) → length s ≤ 200 → Fits rows s k vs → (Each RightNumber (rowAt rows k .form) vs → ⊥) → LineOf rows s (Refused 12)
-  -- 13 a form whose numbers are right, with a value that is no data where an H stands
+  -- 13 a form whose numbers are right, with a value that is no data where an H is
   wrongData : (k : ℕ) (vs : List (List ℕ)) → length s ≤ 200 → Fits rows s k vs → Each RightNumber (rowAt rows k .form) vs → (Each RightData (rowAt rows k .form) vs → ⊥) → LineOf rows s (Refused 13)
   -- no refusal: the line spells the answer
   spelt : {a : Line} → length s ≤ 200 → Spelt rows s a → LineOf rows s a

@@ -1,24 +1,14 @@
--- How one line is read against one form, byte by byte: what the private functions promise. The public promises rest on `Line`
+-- How one line is read against one form, key by key: what the private functions promise. The public promises rest on `Line`
 -- alone. Assumes nothing.
-use Prim.Native.Nat.{ℕ, _+_, _≤_, _<_}
-use mathlib.Core.Path.{_≡_}
-use mathlib.Core.Bool.{Bool, true, cond}
-use mathlib.Core.List.{List, [], _∷_}
-use lib.Dec.{eqb}
-use lib.ListN.{length, drop, getD, set}
-use mathlib.Core.List.{_++_}
-use Rattle.spelling.specs.Bytes.{upTo}
-use Rattle.spelling.specs.Decimal.{decimal, greatest, IsNumber}
-use Rattle.spelling.specs.Hex.{IsData}
-use Rattle.grammar.specs.Form.{Part, fixed, value, Value, number, pairs}
-use Rattle.grammar.specs.Form.{Has}
+use Prim.Native.Nat.{ℕ, zero, suc, _+_, _*_, _/_, _%_, _≤_, _<_}
+use mathlib.Core.{Path._≡_, Bool.cond, List.List, List.[], List._∷_, List._++_}
+use lib.{Dec.eqb, ListN.length, ListN.drop, ListN.getD, ListN.set}
+use Rattle.spelling.specs.{Bytes.upTo, Bytes.Below, Text.text, Decimal.decimal, Decimal.greatest, Decimal.IsNumber, Hex.IsData}
+use Rattle.grammar.specs.{Form.Part, Form.fixed, Form.value, Form.Value, Form.number, Form.pairs, Form.Has, Line.said}
 use Rattle.grammar.specs.Table.{calls, Row, openings, steps, rowAt}
-use Rattle.grammar.specs.Line.{said}
-use Rattle.grammar.specs.declared.Line.{Line}
+use Rattle.grammar.specs.declared.{Line.Line, Values.Values, Found.Found}
 use Rattle.grammar.specs.declared.Line.the-variants.{Refused}
 use Rattle.protocol.specs.declared.Call.{Call}
-use Rattle.grammar.specs.declared.Values.{Values}
-use Rattle.grammar.specs.declared.Found.{Found}
 
 -- the value that starts at a place of a line: up to the next blank or the end
 abbrev pub valueAt : List ℕ → ℕ → List ℕ
@@ -29,13 +19,6 @@ unfoldable pub valuesIn : List Part → ℕ
 valuesIn [] = 0
 valuesIn (fixed b ∷ p) = valuesIn p
 valuesIn (value q ∷ p) = 1 + valuesIn p
-
--- whether a byte of a form's text stands for a value, and of what kind (`partOf`)
-abbrev pub isValue : ℕ → Bool
-isValue b = cond (eqb b 78) true (eqb b 72)
-
-abbrev pub kindOf : ℕ → Value
-kindOf b = cond (eqb b 78) number pairs
 
 -- one number more
 abbrev pub withNumber : Values → ℕ → Values
@@ -53,12 +36,12 @@ withData v at = record { fault = v .fault; count = v .count; number = v .number;
 abbrev pub withoutData : Values → Values
 withoutData v = record { fault = cond (eqb (v .fault) 0) 13 (v .fault); count = v .count; number = v .number; start = v .start }
 
--- the value s, where an N stands, takes v to r
+-- the value s, where an N is, takes v to r
 pub data NumberRead (v : Values) (s : List ℕ) (r : Values) : Type 0 where
   right : (n : ℕ) → n ≤ greatest → s ≡ decimal n → r ≡ withNumber v n → NumberRead v s r
   wrong : (IsNumber s → ⊥) → r ≡ withoutNumber v → NumberRead v s r
 
--- the value s, where an H stands, takes v to r; the value starts at a place of the line
+-- the value s, where an H is, takes v to r; the value starts at a place of the line
 pub data DataRead (v : Values) (s : List ℕ) (at : ℕ) (r : Values) : Type 0 where
   right : IsData s → r ≡ withData v at → DataRead v s at r
   wrong : (IsData s → ⊥) → r ≡ withoutData v → DataRead v s at r
@@ -76,25 +59,103 @@ pub data Reads (s : List ℕ) : List Part → ℕ → Values → Values → Type
   other : {p : List Part} {b at : ℕ} {v r : Values} → (at < length s → getD s at 0 ≡ b → ⊥) → r .fault ≡ 11 → Reads s (fixed b ∷ p) at v r
   aValue : {p : List Part} {q : Value} {at : ℕ} {v w r : Values} → ValueRead q v (valueAt s at) at w → Reads s p (at + length (valueAt s at)) w r → Reads s (value q ∷ p) at v r
 
+-- how many numbers a line has at most, how many of the rows are steps and first lines, and how many forms of journal there are (form
+-- 0, where the first line is due, counted)
+abbrev pub numberCount : ℕ
+numberCount = 4
+
+abbrev pub stepCount : ℕ
+stepCount = 9
+
+abbrev pub openingCount : ℕ
+openingCount = 1
+
+abbrev pub rowCount : ℕ
+rowCount = stepCount + openingCount
+
+abbrev pub formCount : ℕ
+formCount = 2
+
+-- no numbers yet
+abbrev pub zeros : ℕ → List ℕ
+zeros zero = []
+zeros (suc n) = 0 ∷ zeros n
+
 -- nothing read yet: the data, if there are none, are the empty part at the line's end
 abbrev pub nothingRead : List ℕ → Values
-nothingRead s = record { fault = 0; count = 0; number = 0 ∷ 0 ∷ 0 ∷ 0 ∷ []; start = length s }
+nothingRead s = record { fault = 0; count = 0; number = zeros numberCount; start = length s }
 
--- all rows, in the order of the code's table
+-- ---- a form by its kind and its keys
+
+-- a text, and then the parts p
+abbrev pub texted : List ℕ → List Part → List Part
+texted [] p = p
+texted (b ∷ bs) p = fixed b ∷ texted bs p
+
+-- the keys of the grammar, by number, and the last one, which has every number past them
+abbrev pub keys : List (List ℕ)
+keys = text " core=" ∷ text " line=" ∷ text " by=" ∷ text " data=" ∷ text " cores=" ∷ text " lines=" ∷ text " width=" ∷ []
+
+abbrev pub lastKey : List ℕ
+lastKey = text " lease="
+
+abbrev pub keyText : ℕ → List ℕ
+keyText k = getD keys k lastKey
+
+-- what a key's value is
+abbrev pub keyValue : ℕ → Value
+keyValue k = cond (eqb k 3) pairs number
+
+-- n keys, each with its value; their numbers are the digits of k to base 16, the last one first
+unfoldable pub fieldParts : ℕ → ℕ → List Part
+fieldParts zero k = []
+fieldParts (suc n) k = texted (keyText (k % 16)) (value (keyValue (k % 16)) ∷ fieldParts n (k / 16))
+
+-- the text t is in the line s at a place
+abbrev pub TextAt : List ℕ → ℕ → List ℕ → Type 0
+TextAt s at t = (at + length t ≤ length s) × Below (length t) (λ k. getD s (at + k) 0 ≡ getD t k 0)
+
+-- the place after it, or 0
+pub data After (s : List ℕ) (at : ℕ) (t : List ℕ) (r : ℕ) : Type 0 where
+  there : TextAt s at t → r ≡ at + length t → After s at t r
+  elsewhere : (TextAt s at t → ⊥) → r ≡ 0 → After s at t r
+
+-- what is read of the parts p from a place on, which is 0 where the line has another kind
+pub record Filled (s : List ℕ) (head : ℕ) (p : List Part) (r : Values) : Type 0 where
+  pub otherKind : head ≡ 0 → r .fault ≡ 11
+  pub itsKind : (head ≡ 0 → ⊥) → Reads s p head (nothingRead s) r
+
+-- ---- the rows
+
+-- all rows, in the order of the code's table: the first lines last, so that a new one moves no other row
 abbrev pub table : List Row
-table = openings ++ steps
+table = steps ++ openings
 
 abbrev pub formOf : ℕ → List Part
 formOf k = rowAt table k .form
+
+-- the rows of a form of journal are those from one up to another
+abbrev pub fromOf : ℕ → ℕ
+fromOf form = getD (9 ∷ 0 ∷ []) form 0
+
+abbrev pub toOf : ℕ → ℕ
+toOf form = getD (10 ∷ 9 ∷ []) form 0
 
 -- the byte of a part of fixed text
 abbrev pub byteOf : Part → ℕ
 byteOf (fixed b) = b
 byteOf (value q) = 0
 
--- the fourth byte of a row's form
-abbrev pub keyOf : ℕ → ℕ
-keyOf k = byteOf (getD (formOf k) 3 (fixed 0))
+-- the tag of a line and of a form: by its seventh and its eighth byte
+abbrev pub tagOf : ℕ → ℕ → ℕ
+tagOf a b = (a * 15 + b) % 32
+
+abbrev pub rowTag : Row → ℕ
+rowTag r = tagOf (byteOf (getD (r .form) 6 (fixed 0))) (byteOf (getD (r .form) 7 (fixed 0)))
+
+-- r is the only row with this tag
+abbrev pub RowAt : ℕ → ℕ → Type 0
+RowAt tag r = (k : ℕ) → k < rowCount → rowTag (rowAt table k) ≡ tag → k ≡ r
 
 -- the line s does not have the form p, whatever the values
 abbrev pub Fails : List ℕ → List Part → Type 0
@@ -107,7 +168,7 @@ pub data FoundIn (s : List ℕ) (from to : ℕ) (r : Found) : Type 0 where
 
 -- where nothing is wrong, the row is one of the table's
 abbrev pub Placed : Found → Type 0
-Placed f = f .values .fault ≡ 0 → f .row < 10
+Placed f = f .values .fault ≡ 0 → f .row < rowCount
 
 -- what a row says of what was read, or the refusal
 abbrev pub answerOf : Found → ℕ → Line

@@ -1,11 +1,9 @@
 -- The grammar of 01, "Journal and driver": the first line, and the nine step lines. Assumes nothing.
-use Prim.Native.Nat.{ℕ, zero, suc}
-use Prim.Native.String.{String}
+use Prim.Native.{Nat.ℕ, Nat.zero, Nat.suc, String.String}
 use mathlib.Core.List.{List, [], _∷_}
 use lib.ListN.{getD}
 use Rattle.spelling.specs.Text.{text}
-use Rattle.protocol.specs.declared.Opening.{Opening as Sizes}
-use Rattle.protocol.specs.declared.Call.{Call}
+use Rattle.protocol.specs.declared.{Opening.Opening as Sizes, Call.Call}
 use Rattle.protocol.specs.declared.Call.the-variants.{Load, Store, Fence, Evict, Advance, Serve, Receive, Yield, Take}
 use Rattle.grammar.specs.Form.{Part, parts}
 
@@ -32,7 +30,7 @@ openings =
     row "fabric=1 cores=N lines=N width=N lease=N" (λ n. opens 1 (record { cores = n 0; lines = n 1; width = n 2; lease = n 3 }))
     ∷ []
 
--- THE STEPS of a journal of form 1. Evict stands first: a form without it can then have the others as one part of the table
+-- THE STEPS of a journal of form 1. Evict is first: a form without it can then have the others as one part of the table
 abbrev pub steps : List Row
 steps =
     row "op=evict core=N line=N" (λ n. calls (Evict (n 0) (n 1)))
@@ -52,7 +50,7 @@ rowsOf zero = openings
 rowsOf (suc zero) = steps
 rowsOf (suc (suc f)) = []
 
--- what stands past the rows; no definition looks there
+-- what is past the rows; no definition looks there
 abbrev pub noRow : Row
 noRow = record { form = []; says = λ n. opens 0 (record { cores = 0; lines = 0; width = 0; lease = 0 }) }
 

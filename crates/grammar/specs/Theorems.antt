@@ -2,8 +2,7 @@
 use Prim.Native.Nat.{ℕ}
 use mathlib.Core.List.{List}
 use Rattle.spelling.specs.One.{One}
-use Rattle.grammar.specs.Table.{rowsOf}
-use Rattle.grammar.specs.Line.{LineOf}
+use Rattle.grammar.specs.{Table.rowsOf, Line.LineOf}
 
 -- each line has exactly one answer, whatever form the journal has
 abbrev pub OneAnswerTheorem : Type 0

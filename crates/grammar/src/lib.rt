@@ -1,14 +1,16 @@
 // The journal's lines: what one line says, by the forms of the grammar.
 //
-// One function, `fill`, reads a line against any form, part by part; the forms are rows of a table. A new first line or step is
-// a new row: here in `FORMS`, `KEYS` and `STARTS` with the call that it makes, and in specs/Table.antt. The rows that a journal of
-// some form has are one part of the table, from one row up to another.
-ghost use mathlib.Core.Path.{_≡_};
+// A form is a kind (`op=load`) and then keys, each with its value. Two bytes of a line, its tag, tell the only row of the table that it
+// may have; one function, `fill`, reads the keys of any row. A new first line or step is a new row: here in `ROWS_BY_TAG`, `fill_row`
+// and, for a step, `call_of`; in specs/Table.antt; and in the counts of specs/Scan.antt. The rows that a journal of some form has are
+// one part of the table, from one row up to another. Texts are named where they are compared, and not in a table of texts, since a
+// constant array is made anew at each use.
+ghost use mathlib.Core.{Path._≡_, Bool.cond};
 ghost use Prim.Native.Nat.{_≤_, _<_};
-ghost use Rattle.grammar.specs.Form.{parts};
-ghost use Rattle.grammar.specs.Scan.{valuesIn, isValue, kindOf, keyOf, formOf, NumberRead, DataRead, ValueRead, Reads, nothingRead, FoundIn, answerOf, Placed, Called};
-ghost use Rattle.grammar.specs.Table.{rowsOf};
-ghost use Rattle.grammar.specs.Line.{LineOf, numberOf};
+ghost use lib.{Dec.eqb, ListN.length};
+ghost use Rattle.grammar.specs.Scan.{numberCount, stepCount, rowCount, formCount, fromOf, toOf, tagOf, RowAt, formOf, keyText, fieldParts};
+ghost use Rattle.grammar.specs.Scan.{After, Filled, Reads, nothingRead, FoundIn, answerOf, Placed, Called};
+ghost use Rattle.grammar.specs.{Table.rowsOf, Line.LineOf, Line.numberOf};
 use protocol::Call;
 use protocol::Opening;
 use spelling::Number;
@@ -20,7 +22,7 @@ pub enum Line {
         form: u32,
         opening: Opening,
     },
-    // A step line; data digits stand at `start..end` of the line, an empty part but for a store.
+    // A step line; data digits are at `start..end` of the line, an empty part but for a store.
     Step {
         call: Call,
         start: usize,
@@ -30,92 +32,30 @@ pub enum Line {
     Refused(u32),
 }
 
-// The grammar: one form to a line, the first line and then the steps. N stands for a number and H for data.
-const FORMS: [u8; 220] = *b"\
-fabric=1 cores=N lines=N width=N lease=N\n\
-op=evict core=N line=N\n\
-op=load core=N line=N\n\
-op=store core=N line=N data=H\n\
-op=fence core=N\n\
-op=serve core=N\n\
-op=receive core=N\n\
-op=advance core=N by=N\n\
-op=yield line=N\n\
-op=take line=N\n";
+// How many of the rows are steps (the others are first lines), how many numbers a line has at most, and how many forms of journal there
+// are, where the first line is due counted as one (`stepCount`, `numberCount` and `formCount` of specs/Scan.antt).
+const STEPS: usize = 9;
 
-// The fourth byte of each form: a row whose byte is not the line's need not be read.
-const KEYS: [u8; 10] = *b"relsfsrayt";
+const NUMBERS: usize = 4;
 
-// Where each form starts in `FORMS`, and the end.
-const STARTS: [usize; 11] = [0, 41, 64, 86, 116, 132, 148, 166, 189, 205, 220];
+const FORMS: u32 = 2;
+
+// The rows of each form of journal: from one up to another.
+const FROM: [u8; 2] = [9, 0];
+
+const TO: [u8; 2] = [10, 9];
+
+// The row of each tag, as a letter from a on; ~, which is no row's, where there is none. The tag of a line or a form is 15 times its
+// seventh byte and its eighth, modulo 32: no two rows have the same.
+const ROWS_BY_TAG: [u8; 32] = *b"~a~~j~~~~~~i~~~e~~dcf~~~h~~~bg~~";
 
 // What was read of a line by a form: 0 or the refusal, the numbers so far and how many, and where the data start (the line's
 // end, if there are none).
 struct Values {
     fault: u32,
     count: usize,
-    number: [u32; 4],
+    number: [u32; NUMBERS],
     start: usize,
-}
-
-// The values with one number more, where the form has an N; 12 where there is none.
-fn with_number(v: Values, s: &[u8]) -> Values
-    requires { ⌜ v .count < 4 ⌝ }
-    ensures { λ r. ⌜ NumberRead v (now (s .entry)) r ⌝ }
-{
-    let mut w = v;
-    match spelling::read_number(s) {
-        Number::Value(n) => {
-            let k = w.count;
-            w.number[k] = n;
-            w.count = k + 1;
-            w
-        }
-        Number::Wrong => {
-            w.fault = 12;
-            w
-        }
-    }
-}
-
-// The values with the data, which start at `at`, where the form has an H; 13 where there are none and no number was wrong.
-fn with_data(v: Values, s: &[u8], at: usize) -> Values
-    ensures { λ r. ⌜ DataRead v (now (s .entry)) at r ⌝ }
-{
-    let mut w = v;
-    if spelling::is_data(s) {
-        w.start = at;
-        return w;
-    }
-    if w.fault == 0 {
-        w.fault = 13;
-        return w;
-    }
-    w
-}
-
-// Whether a byte of a form stands for a value.
-fn is_value(p: u8) -> bool
-    ensures { λ r. ⌜ r ≡ isValue p ⌝ }
-{
-    if p == b'N' {
-        return true;
-    }
-    if p == b'H' {
-        return true;
-    }
-    false
-}
-
-// The values with one more, `s`, of the kind that a byte of a form stands for. It starts at `at`.
-fn with_value(v: Values, p: u8, s: &[u8], at: usize) -> Values
-    requires { ⌜ v .count < 4 ⌝ }
-    ensures { λ r. ⌜ ValueRead (kindOf p) v (now (s .entry)) at r ⌝ }
-{
-    if p == b'N' {
-        return with_number(v, s);
-    }
-    with_data(v, s, at)
 }
 
 // No form: refusal 11.
@@ -125,64 +65,157 @@ fn no_form() -> Values
     Values {
         fault: 11,
         count: 0,
-        number: [0u32; 4],
+        number: [0u32; NUMBERS],
         start: 0,
     }
 }
 
-// The line read against one form, in which N stands for a number and H for data.
-fn fill(line: &[u8], form: &[u8]) -> Values
-    requires { ⌜ valuesIn (parts (now form)) ≤ 4 ⌝ }
-    ensures { λ r. ⌜ Reads (now (line .entry)) (parts (now (form .entry))) 0 (nothingRead (now (line .entry))) r ⌝ }
+// The place after a text that is in a line at a place, or 0 where it is not there.
+fn after(line: &[u8], at: usize, text: &[u8]) -> usize
+    requires { ⌜ at ≤ length (now line) ⌝ }
+    ensures { λ r. ⌜ After (now (line .entry)) at (now (text .entry)) r ⌝ }
 {
-    let mut v = Values {
-        fault: 0,
-        count: 0,
-        number: [0u32; 4],
-        start: line.len(),
-    };
-    let mut at: usize = 0;
-    let mut j: usize = 0;
-    while j < form.len() {
-        let p = form[j];
-        if is_value(p) {
-            let e = spelling::run_end(line, at, b' ');
-            v = with_value(v, p, &line[at..e], at);
-            at = e;
-            j += 1;
+    if line.len() - at < text.len() {
+        return 0;
+    }
+    let mut same = true;
+    let mut k: usize = 0;
+    while k < text.len() {
+        same = same & (line[at + k] == text[k]);
+        k += 1;
+    }
+    if !same {
+        return 0;
+    }
+    at + k
+}
+
+// The place after a key, by its number, or 0 where it is not there.
+fn after_key(line: &[u8], at: usize, key: u32) -> usize
+    requires { ⌜ at ≤ length (now line) ⌝ }
+    ensures { λ r. ⌜ After (now (line .entry)) at (keyText key) r ⌝ }
+{
+    match key {
+        0 => after(line, at, b" core="),
+        1 => after(line, at, b" line="),
+        2 => after(line, at, b" by="),
+        3 => after(line, at, b" data="),
+        4 => after(line, at, b" cores="),
+        5 => after(line, at, b" lines="),
+        6 => after(line, at, b" width="),
+        _ => after(line, at, b" lease="),
+    }
+}
+
+// The refusal after data that are wrong: 13, unless a number was wrong.
+fn wrong_data(fault: u32) -> u32
+    ensures { λ r. ⌜ r ≡ cond (eqb fault 0) 13 fault ⌝ }
+{
+    if fault == 0 { 13 } else { fault }
+}
+
+// The line read from `head` on, where its kind ends (0: it is of another kind), against `fields` keys, each with its value. The keys'
+// numbers are the digits of `keys` to base 16, the last one first.
+fn fill(line: &[u8], head: usize, fields: usize, keys: u32) -> Values
+    requires { ⌜ (head ≤ length (now line)) × (fields ≤ numberCount) ⌝ }
+    ensures { λ r. ⌜ Filled (now (line .entry)) head (fieldParts fields keys) r ⌝ }
+{
+    if head == 0 {
+        return no_form();
+    }
+    let mut fault: u32 = 0;
+    let mut count: usize = 0;
+    let mut number = [0u32; NUMBERS];
+    let mut start = line.len();
+    let mut at = head;
+    let mut left = fields;
+    let mut rest = keys;
+    while 0 < left {
+        let key = rest % 16;
+        let a = after_key(line, at, key);
+        if a == 0 {
+            return no_form();
+        }
+        at = spelling::run_end(line, a, b' ');
+        left -= 1;
+        rest = rest / 16;
+        if key == 3 {
+            if spelling::is_data(&line[a..at]) {
+                start = a;
+                continue;
+            }
+            fault = wrong_data(fault);
             continue;
         }
-        if line.len() <= at {
-            return no_form();
+        match spelling::read_number(&line[a..at]) {
+            Number::Value(n) => {
+                number[count] = n;
+                count += 1;
+                continue;
+            }
+            Number::Wrong => {
+                fault = 12;
+                continue;
+            }
         }
-        if line[at] != p {
-            return no_form();
-        }
-        at += 1;
-        j += 1;
     }
     if at < line.len() {
         return no_form();
     }
-    v
+    Values {
+        fault,
+        count,
+        number,
+        start,
+    }
 }
 
-// The fourth byte of a row's form.
-fn key_of(row: usize) -> u8
-    requires { ⌜ row < 10 ⌝ }
-    ensures { λ r. ⌜ r ≡ keyOf row ⌝ }
-{
-    KEYS[row]
-}
-
-// The line read against the form of a row.
+// The line read against the form of a row: its kind, how many values it has, and the numbers of their keys.
 fn fill_row(line: &[u8], row: usize) -> Values
-    requires { ⌜ row < 10 ⌝ }
+    requires { ⌜ row < rowCount ⌝ }
     ensures { λ r. ⌜ Reads (now (line .entry)) (formOf row) 0 (nothingRead (now (line .entry))) r ⌝ }
 {
-    let a = STARTS[row];
-    let e = STARTS[row + 1] - 1;
-    fill(line, &FORMS[a..e])
+    match row {
+        0 => fill(line, after(line, 0, b"op=evict"), 2, 0x10),
+        1 => fill(line, after(line, 0, b"op=load"), 2, 0x10),
+        2 => fill(line, after(line, 0, b"op=store"), 3, 0x310),
+        3 => fill(line, after(line, 0, b"op=fence"), 1, 0x0),
+        4 => fill(line, after(line, 0, b"op=serve"), 1, 0x0),
+        5 => fill(line, after(line, 0, b"op=receive"), 1, 0x0),
+        6 => fill(line, after(line, 0, b"op=advance"), 2, 0x20),
+        7 => fill(line, after(line, 0, b"op=yield"), 1, 0x1),
+        8 => fill(line, after(line, 0, b"op=take"), 1, 0x1),
+        _ => fill(line, after(line, 0, b"fabric=1"), 4, 0x7654),
+    }
+}
+
+// A byte as an index.
+fn wide(b: u8) -> usize
+    ensures { λ r. ⌜ r ≡ b ⌝ }
+{
+    b as usize
+}
+
+// The only row that a line may have whose seventh and eighth byte are these.
+fn row_at(a: u8, b: u8) -> usize
+    ensures { λ r. ⌜ RowAt (tagOf a b) r ⌝ }
+{
+    wide(ROWS_BY_TAG[(wide(a) * 15 + wide(b)) % 32]) - 97
+}
+
+// The first row of a form, and the row past its last.
+fn from_row(form: u32) -> usize
+    requires { ⌜ form < formCount ⌝ }
+    ensures { λ r. ⌜ r ≡ fromOf form ⌝ }
+{
+    wide(FROM[form as usize])
+}
+
+fn to_row(form: u32) -> usize
+    requires { ⌜ form < formCount ⌝ }
+    ensures { λ r. ⌜ r ≡ toOf form ⌝ }
+{
+    wide(TO[form as usize])
 }
 
 // The row whose form a line has, and what was read by it.
@@ -191,33 +224,33 @@ struct Found {
     values: Values,
 }
 
-// The rows from `from` up to `to`, one after the other, until one has the line.
+// Which of the rows from `from` up to `to` has the line.
 fn find(line: &[u8], from: usize, to: usize) -> Found
-    requires { ⌜ (from ≤ to) × (to ≤ 10) ⌝ }
+    requires { ⌜ (from ≤ to) × (to ≤ rowCount) ⌝ }
     ensures { λ r. ⌜ FoundIn (now (line .entry)) from to r ⌝ }
 {
-    if line.len() < 4 {
+    if line.len() < 8 {
         return Found {
             row: to,
             values: no_form(),
         };
     }
-    let key = line[3];
-    let mut row = from;
-    while row < to {
-        if key_of(row) != key {
-            row += 1;
-            continue;
-        }
-        let values = fill_row(line, row);
-        if values.fault != 11 {
-            return Found { row, values };
-        }
-        row += 1;
+    let row = row_at(line[6], line[7]);
+    if row < from {
+        return Found {
+            row: to,
+            values: no_form(),
+        };
+    }
+    if to <= row {
+        return Found {
+            row: to,
+            values: no_form(),
+        };
     }
     Found {
-        row: to,
-        values: no_form(),
+        row,
+        values: fill_row(line, row),
     }
 }
 
@@ -229,22 +262,22 @@ fn index(n: u32) -> usize
 }
 
 // The call of a step row, given the line's numbers.
-fn call_of(row: usize, number: [u32; 4]) -> Call
-    requires { ⌜ (0 < row) × (row < 10) ⌝ }
+fn call_of(row: usize, number: [u32; NUMBERS]) -> Call
+    requires { ⌜ row < stepCount ⌝ }
     ensures { λ r. ⌜ Called row number r ⌝ }
 {
     let a = index(number[0]);
     let b = index(number[1]);
     let by = number[1];
     match row {
-        1 => Call::Evict { core: a, line: b },
-        2 => Call::Load { core: a, line: b },
-        3 => Call::Store { core: a, line: b },
-        4 => Call::Fence { core: a },
-        5 => Call::Serve { core: a },
-        6 => Call::Receive { core: a },
-        7 => Call::Advance { core: a, by },
-        8 => Call::Yield { line: a },
+        0 => Call::Evict { core: a, line: b },
+        1 => Call::Load { core: a, line: b },
+        2 => Call::Store { core: a, line: b },
+        3 => Call::Fence { core: a },
+        4 => Call::Serve { core: a },
+        5 => Call::Receive { core: a },
+        6 => Call::Advance { core: a, by },
+        7 => Call::Yield { line: a },
         _ => Call::Take { line: a },
     }
 }
@@ -261,21 +294,21 @@ fn answer(f: Found, end: usize) -> Line
     }
     let row = f.row;
     let number = v.number;
-    if row == 0 {
-        return Line::Opening {
-            form: 1,
-            opening: Opening {
-                cores: index(number[0]),
-                lines: index(number[1]),
-                width: index(number[2]),
-                lease: number[3],
-            },
+    if row < STEPS {
+        return Line::Step {
+            call: call_of(row, number),
+            start: v.start,
+            end,
         };
     }
-    Line::Step {
-        call: call_of(row, number),
-        start: v.start,
-        end,
+    Line::Opening {
+        form: (row - STEPS) as u32 + 1,
+        opening: Opening {
+            cores: index(number[0]),
+            lines: index(number[1]),
+            width: index(number[2]),
+            lease: number[3],
+        },
     }
 }
 
@@ -287,13 +320,10 @@ pub fn read_line(line: &[u8], form: u32) -> Line
     if 200 < line.len() {
         return Line::Refused(10);
     }
-    if form == 0 {
-        return answer(find(line, 0, 1), line.len());
+    if FORMS <= form {
+        return Line::Refused(11);
     }
-    if form == 1 {
-        return answer(find(line, 1, 10), line.len());
-    }
-    Line::Refused(11)
+    answer(find(line, from_row(form), to_row(form)), line.len())
 }
 
 // The scope's number of an answer: a refusal's own, and 0 for a line that is read.
@@ -301,15 +331,8 @@ pub fn number_of(line: Line) -> u32
     ensures { λ r. ⌜ r ≡ numberOf line ⌝ }
 {
     match line {
-        Line::Opening {
-            form: _,
-            opening: _,
-        } => 0,
-        Line::Step {
-            call: _,
-            start: _,
-            end: _,
-        } => 0,
+        Line::Opening { .. } => 0,
+        Line::Step { .. } => 0,
         Line::Refused(n) => n,
     }
 }

@@ -1,10 +1,8 @@
 -- The number that the host simulator gets for one step line: 0, 10, 11, 12 or 13. Assumes nothing.
 use Prim.Native.Nat.{ℕ}
-use mathlib.Core.Path.{_≡_}
-use mathlib.Core.List.{List}
+use mathlib.Core.{Path._≡_, List.List}
 use Rattle.spelling.specs.One.{One}
-use Rattle.grammar.specs.Table.{rowsOf}
-use Rattle.grammar.specs.Line.{LineOf, numberOf}
+use Rattle.grammar.specs.{Table.rowsOf, Line.LineOf, Line.numberOf}
 use Rattle.grammar.specs.declared.Line.{Line}
 
 -- r is the number of the answer that the bytes s have as a step line of a `fabric=1` journal

@@ -1,16 +1,11 @@
 -- Laws of the lines of a journal. Assumes nothing.
 use Prim.Native.Nat.{ℕ, _+_, _≤_, _<_, _-_}
-use mathlib.Core.Path.{_≡_, sym, _∙_, ap, subst}
-use mathlib.Core.List.{List, _∷_, _++_, append-nil}
-use mathlib.Core.Logic.{inl, inr}
-use native.Mathlib.Omega.{arith}
-use native.Mathlib.Numerals.{add-one}
-use lib.ListN.{length, getD, take, drop, length-drop, drop-of-length-le}
-use lib.Seq.{drop-cons, drop-drop}
+use mathlib.Core.{Path._≡_, Path.sym, Path._∙_, Path.ap, Path.subst, List.List, List._∷_, List._++_, List.append-nil, Logic.inl, Logic.inr}
+use native.Mathlib.{Omega.arith, Numerals.add-one}
+use lib.{ListN.length, ListN.getD, ListN.take, ListN.drop, ListN.length-drop, ListN.drop-of-length-le, Seq.drop-cons, Seq.drop-drop}
 use Rattle.spelling.specs.Bytes.{Without, upTo}
 use Rattle.spelling.proofs.Split.{Edge, upTo-clean, upTo-split, upTo-part}
-use Rattle.grammar.specs.Table.{rowsOf}
-use Rattle.grammar.specs.Line.{LineOf}
+use Rattle.grammar.specs.{Table.rowsOf, Line.LineOf}
 use Rattle.grammar.specs.declared.Line.{Line}
 use Rattle.journal.specs.Journal.{placed, LineAt, NextOf, aLine}
 

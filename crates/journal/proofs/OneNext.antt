@@ -1,16 +1,12 @@
 -- At each place of a journal there is exactly one answer. Assumes nothing.
 use Prim.Native.Nat.{ℕ, _+_, _≤_, _<_}
-use mathlib.Core.Path.{_≡_, refl, sym, _∙_, ap, ap₂, subst}
-use mathlib.Core.List.{List, [], _∷_, _++_}
+use mathlib.Core.{Path._≡_, Path.refl, Path.sym, Path._∙_, Path.ap, Path.ap₂, Path.subst, List.List, List.[], List._∷_, List._++_}
 use mathlib.Core.Logic.{_⊎_, inl, inr}
 use native.Mathlib.Omega.{arith}
 use lib.ListN.{length, drop, length-append, length-drop}
 use Rattle.spelling.specs.Bytes.{Without, upTo}
-use Rattle.spelling.proofs.Lists.{le-or-lt}
-use Rattle.spelling.proofs.Decide.{Told, same-number}
-use Rattle.spelling.proofs.Split.{upTo-unique}
-use Rattle.grammar.specs.Table.{rowsOf}
-use Rattle.grammar.specs.Line.{LineOf}
+use Rattle.spelling.proofs.{Lists.le-or-lt, Decide.Told, Decide.same-number, Split.upTo-unique}
+use Rattle.grammar.specs.{Table.rowsOf, Line.LineOf}
 use Rattle.grammar.specs.declared.Line.{Line}
 use Rattle.grammar.proofs.OneAnswer.{one-answer-theorem}
 use Rattle.journal.specs.Journal.{placed, LineAt, NextOf, tooMuch, empty, ended, unended, aLine}
@@ -32,7 +28,7 @@ line-before-end : (j : List ℕ) (at : ℕ) (l : List ℕ) (next : ℕ) → Line
 line-before-end j at l next h = omega (arith, simp (length-append, length-drop) at (ap length (h .whole)))
 
 module _ (j : List ℕ) (at form : ℕ) where
-  -- an answer, seen by what stands at the place
+  -- an answer, seen by what is at the place
   data View (b : Next) : Type 0 where
     long : 65536 < length j → b ≡ Refused 14 → View b
     first : length j ≤ 65536 → length j ≤ at → form ≡ 0 → b ≡ Refused 11 → View b

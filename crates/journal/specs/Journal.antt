@@ -1,26 +1,21 @@
--- What stands at a place of a journal: 01's next line, the end, or a refusal 10 to 14. Assumes nothing.
+-- What is at a place of a journal: 01's next line, the end, or a refusal 10 to 14. Assumes nothing.
 use Prim.Native.Nat.{ℕ, _+_, _≤_, _<_}
-use mathlib.Core.Path.{_≡_}
-use mathlib.Core.Bool.{Bool, true, false}
-use mathlib.Core.List.{List, _∷_, _++_}
+use mathlib.Core.{Path._≡_, Bool.Bool, Bool.true, Bool.false, List.List, List._∷_, List._++_}
 use lib.ListN.{length, drop}
 use Rattle.spelling.specs.Bytes.{Without}
-use Rattle.grammar.specs.Table.{rowsOf}
-use Rattle.grammar.specs.Line.{LineOf}
+use Rattle.grammar.specs.{Table.rowsOf, Line.LineOf}
 use Rattle.grammar.specs.declared.Line.{Line}
 use Rattle.grammar.specs.declared.Line.the-variants.{Opening as OpeningLine, Step as StepLine, Refused as RefusedLine}
-use Rattle.journal.specs.declared.Next.{Next}
-use Rattle.journal.specs.declared.Read.{Read}
-use Rattle.journal.specs.declared.Reader.{Reader}
+use Rattle.journal.specs.declared.{Next.Next, Read.Read, Reader.Reader}
 use Rattle.journal.specs.declared.Next.the-variants.{Opening, Step, End, Refused}
 
--- a line's answer, where the line stands at a place of the journal and the next one at `next`
+-- a line's answer, where the line is at a place of the journal and the next one at `next`
 abbrev pub placed : Line → ℕ → ℕ → Next
 placed (OpeningLine form sizes) at next = Opening form sizes next
 placed (StepLine call start end) at next = Step call (at + start) (at + end) next
 placed (RefusedLine n) at next = Refused n
 
--- the line l stands at a place of the journal, ended by a newline; the next line stands at `next`
+-- the line l is at a place of the journal, ended by a newline; the next line is at `next`
 pub record LineAt (journal : List ℕ) (at : ℕ) (l : List ℕ) (next : ℕ) : Type 0 where
   pub clean : Without 10 l
   pub whole : drop at journal ≡ l ++ (10 ∷ drop next journal)

@@ -1,11 +1,8 @@
 -- What is proved of reading a journal: each place has exactly one answer, and no byte is passed over. Assumes nothing.
 use Prim.Native.Nat.{ℕ, _+_, _≤_}
-use mathlib.Core.Path.{_≡_}
-use mathlib.Core.Bool.{true}
-use mathlib.Core.List.{List, [], _∷_, _++_}
+use mathlib.Core.{Path._≡_, Bool.true, List.List, List.[], List._∷_, List._++_}
 use lib.ListN.{length, take}
-use Rattle.spelling.specs.Bytes.{Without}
-use Rattle.spelling.specs.One.{One}
+use Rattle.spelling.specs.{Bytes.Without, One.One}
 use Rattle.journal.specs.Journal.{NextOf, goesOn, placeAfter, formAfter}
 use Rattle.journal.specs.declared.Next.{Next}
 

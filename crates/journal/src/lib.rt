@@ -1,7 +1,7 @@
 // A journal read line by line.
 //
-// A place and a form say where reading stands: it starts at place 0 in form 0, where the first line is due. `step_at` says what
-// stands there. A `Reader` holds the journal with the place and the form; `next` hands out what stands there and the reader after
+// A place and a form say where reading is: it starts at place 0 in form 0, where the first line is due. `step_at` says what
+// is there. A `Reader` holds the journal with the place and the form; `next` returns what is there and the reader after
 // it together, and nobody else can set its place, so no byte is passed over. A refusal, or the end, leaves the reader where it is:
 // asking again gives the same answer.
 ghost use mathlib.Core.Path.{_≡_};
@@ -10,7 +10,7 @@ use grammar::Line;
 use protocol::Call;
 use protocol::Opening;
 
-// What stands at a place of a journal. `next` is the place of the line after it.
+// What is at a place of a journal. `next` is the place of the line after it.
 pub enum Next {
     // The first line: the journal's form, and the opening sizes and lease.
     Opening {
@@ -18,7 +18,7 @@ pub enum Next {
         opening: Opening,
         next: usize,
     },
-    // A step; its data digits stand at `start..end` of the journal, an empty part but for a store.
+    // A step; its data digits are at `start..end` of the journal, an empty part but for a store.
     Step {
         call: Call,
         start: usize,
@@ -31,7 +31,7 @@ pub enum Next {
     Refused(u32),
 }
 
-// What stands at a place of a journal of the form given. Form 0 expects the first line.
+// What is at a place of a journal of the form given. Form 0 expects the first line.
 pub fn step_at(journal: &[u8], at: usize, form: u32) -> Next
     ensures { λ r. ⌜ NextOf (now (journal .entry)) at form r ⌝ }
 {
@@ -69,17 +69,8 @@ fn place_after(at: usize, n: Next) -> usize
     ensures { λ r. ⌜ r ≡ placeAfter at n ⌝ }
 {
     match n {
-        Next::Opening {
-            form: _,
-            opening: _,
-            next,
-        } => next,
-        Next::Step {
-            call: _,
-            start: _,
-            end: _,
-            next,
-        } => next,
+        Next::Opening { next, .. } => next,
+        Next::Step { next, .. } => next,
         Next::End => at,
         Next::Refused(_) => at,
     }
@@ -90,23 +81,14 @@ fn form_after(form: u32, n: Next) -> u32
     ensures { λ r. ⌜ r ≡ formAfter form n ⌝ }
 {
     match n {
-        Next::Opening {
-            form: named,
-            opening: _,
-            next: _,
-        } => named,
-        Next::Step {
-            call: _,
-            start: _,
-            end: _,
-            next: _,
-        } => form,
+        Next::Opening { form: named, .. } => named,
+        Next::Step { .. } => form,
         Next::End => form,
         Next::Refused(_) => form,
     }
 }
 
-// One reading: what stands at a place, and the place and the form after it.
+// One reading: what is at a place, and the place and the form after it.
 struct Read {
     at: usize,
     form: u32,
@@ -132,7 +114,7 @@ pub struct Reader<'a> {
     form: u32,
 }
 
-// What a reader hands out: what stood where it was, and the reader after it.
+// What a reader returns: what was where it was, and the reader after it.
 pub struct Step<'a> {
     pub reader: Reader<'a>,
     pub next: Next,
@@ -150,7 +132,7 @@ impl<'a> Reader<'a> {
         }
     }
 
-    // What stands where the reader is, and the reader after it, over the same bytes.
+    // What is where the reader is, and the reader after it, over the same bytes.
     pub fn next(self) -> Step<'a>
         ensures { λ s. ⌜ (NextOf (now (self .entry .journal)) (self .entry .at) (self .entry .form) (s .next)) × (s .reader ≡ readerAfter (self .entry) (s .next)) ⌝ }
     {

@@ -1,8 +1,6 @@
 -- Reading on comes nearer to the journal's end, and no more lines are read than bytes passed. Assumes nothing.
-use Prim.Native.Nat.{ℕ, _+_, _≤_, _<_}
-use mathlib.Core.Path.{_≡_, refl, ap}
-use mathlib.Core.Bool.{true, false}
-use mathlib.Core.List.{List}
+use Prim.Native.Nat.{ℕ, _≤_, _<_}
+use mathlib.Core.{Path._≡_, Path.ap, Bool.true, Bool.false, List.List}
 use native.Mathlib.Omega.{arith}
 use lib.ListN.{length, length-append, length-drop}
 use Rattle.grammar.specs.declared.Line.{Line}

@@ -1,13 +1,10 @@
 -- A whole journal read: how many lines it has up to its end, or up to the first that is refused. Assumes nothing.
 use Prim.Native.Nat.{ℕ}
-use mathlib.Core.Path.{_≡_}
-use mathlib.Core.Bool.{false}
-use mathlib.Core.List.{List}
-use Rattle.journal.specs.Journal.{NextOf, goesOn}
-use Rattle.journal.specs.Theorems.{Reached}
+use mathlib.Core.{Path._≡_, Bool.false, List.List}
+use Rattle.journal.specs.{Journal.NextOf, Journal.goesOn, Theorems.Reached}
 use Rattle.lines.specs.declared.LineCount.{LineCount}
 
--- so many lines were read on from the start, to a place where reading does not go on, and what stands there
+-- so many lines were read on from the start, to a place where reading does not go on, and what is there
 pub record CountsLines (j : List ℕ) (t : LineCount) : Type 0 where
   pub at : ℕ
   pub form : ℕ

@@ -9,7 +9,7 @@ use journal::Reader;
 use libc::STDIN_FILENO;
 use libc::STDOUT_FILENO;
 
-// How many lines were read, and what stands after them: the end, or a refusal.
+// How many lines were read, and what is after them: the end, or a refusal.
 struct LineCount {
     lines: usize,
     last: Next,
@@ -20,23 +20,14 @@ fn goes_on(n: Next) -> bool
     ensures { λ r. ⌜ r ≡ goesOn n ⌝ }
 {
     match n {
-        Next::Opening {
-            form: _,
-            opening: _,
-            next: _,
-        } => true,
-        Next::Step {
-            call: _,
-            start: _,
-            end: _,
-            next: _,
-        } => true,
+        Next::Opening { .. } => true,
+        Next::Step { .. } => true,
         Next::End => false,
         Next::Refused(_) => false,
     }
 }
 
-// A whole journal, by a reader from its start: each step is that of the reader that the one before handed out.
+// A whole journal, by a reader from its start: each step is that of the reader that the one before returned.
 fn count_lines(journal: &[u8]) -> LineCount
     ensures { λ r. ⌜ CountsLines (now (journal .entry)) r ⌝ }
 {
@@ -66,17 +57,8 @@ fn main() {
             io::print_decimal(STDOUT_FILENO, number as u64);
         }
         Next::End => {}
-        Next::Opening {
-            form: _,
-            opening: _,
-            next: _,
-        } => {}
-        Next::Step {
-            call: _,
-            start: _,
-            end: _,
-            next: _,
-        } => {}
+        Next::Opening { .. } => {}
+        Next::Step { .. } => {}
     }
     io::write_all(STDOUT_FILENO, b"\n");
 }

@@ -55,7 +55,7 @@ listed : (j : Bytes) (b : Next) → NextOf j 0 0 b → (t : Bytes) × Listing j 
 listed j (Opening f o next) x = go (same-number (openRefusal o) 0)
   where
     go : Told (openRefusal o ≡ 0) → (t : Bytes) × Listing j t
-    go (inl e) = let r = one-reading-theorem j f next (λ z. omega (arith, known x .1)) in (_, opens x e (r .holds))
+    go (inl e) = let r = one-reading-theorem j f next (known x .1) in (_, opens x e (r .holds))
     go (inr n) = (_, fails (outside x n))
 listed j (Step call start end next) x = absurd (known x .0 refl)
 listed j End x = absurd (known x refl)

@@ -237,7 +237,7 @@ told-begun :
     {j : Bytes} {there : Standing} {text : Bytes} {room : ℕ} {g : Progress} → Begins j there text room g → (g ≡ Short → ⊥) → Begun j there g
 told-begun {j} (opens {form = f} {o = o} {next = n} x h t u) k =
     let i = next-inside x (omega arith) in
-    running (rw t (may-stand (length j) (opened n f o) (λ z. omega (arith, known x .1, z)) i (omega arith) (omega arith) (omega arith)))
+    running (rw t (may-stand (length j) (opened n f o) (known x .1) i (omega arith) (omega arith) (omega arith)))
 told-begun (turned n t u) k = listed
 told-begun (noRoom x h t u r) k = absurd (k refl)
 told-begun (noRoomToEnd x t u r) k = absurd (k refl)

@@ -20,8 +20,8 @@ use Rattle.protocol.specs.declared.{Slot.Slot, Core.Core, Manager.Manage
 use Rattle.protocol.specs.declared.{About.About, Effect.Effect}
 use Rattle.protocol.specs.declared.Slot.the-variants.{Empty, Asked, Answered}
 use Rattle.protocol.specs.declared.Manager.the-variants.{Shared, Owned}
-use Rattle.protocol.specs.declared.Who.the-variants.{Core as NamedCore, Owner, Nobody}
-use Rattle.protocol.specs.declared.Which.the-variants.{Line as NamedLine, InSlot, Nothing}
+use Rattle.protocol.specs.declared.Who.the-variants.{Named as NamedCore, Owner, Nobody}
+use Rattle.protocol.specs.declared.Which.the-variants.{Named as NamedLine, InSlot, Nothing}
 use Rattle.protocol.specs.declared.Act.the-variants.{Store as Stores}
 use Rattle.protocol.proofs.Tests.{never, both-true}
 use Rattle.protocol.proofs.Scan.{every-at}

@@ -1,13 +1,17 @@
 -- A test of each of the first n elements of a list: met element by element, at each index, and after one is replaced.
 use Prim.Native.Nat.{ℕ, zero, suc, _+_, _≤_, _<_}
-use mathlib.Core.Path.{_≡_, refl, sym}
-use mathlib.Core.Bool.{Bool, true}
+use mathlib.Core.Path.{_≡_, refl, sym, _∙_}
+use mathlib.Core.Bool.{Bool, true, false, not}
 use mathlib.Core.List.{List, [], _∷_}
 use native.Mathlib.Numerals.{add-one}
 use lib.ListN.{length, take, drop, getD, set, drop-of-length-le}
 use lib.Seq.{drop-cons, getD-take, length-take-le}
 use Rattle.protocol.specs.Pick.{both, every}
-use Rattle.protocol.proofs.Tests.{both-true}
+use Rattle.protocol.proofs.Tests.{both-true, was-false, was-true}
+
+-- what a loop knows that asks a test of each element in turn and has passed i of them
+abbrev pub Scanned : {A : Type 0} → (A → Bool) → List A → ℕ → ℕ → Type 0
+Scanned f xs n i = every f (take n xs) ≡ every f (drop i (take n xs))
 
 module _ {A : Type 0} (f : A → Bool) (xs : List A) (n : ℕ) (d : A) (fits : n ≤ length xs) where
   -- one element more is met
@@ -23,6 +27,17 @@ module _ {A : Type 0} (f : A → Bool) (xs : List A) (n : ℕ) (d : A) (fits : n
   every-done i h =
       let k : length (take n xs) ≤ i = rw length-take-le h in
       rw drop-of-length-le
+
+  -- the loop's answer `asked` at the i-th element: it goes on where the element passes, and ends where it fails, or past the last
+  module _ (i : ℕ) (h : i < n) (k : Scanned f xs n i) (asked : Bool) (e : asked ≡ f (getD xs i d)) where
+    pub scan-on : not asked ≡ false → Scanned f xs n (i + 1)
+    scan-on g = k ∙ every-step i h ∙ rw (was-true e g)
+
+    pub scan-fails : not asked ≡ true → false ≡ every f (take n xs)
+    scan-fails g = sym (k ∙ every-step i h ∙ rw (was-false e g))
+
+  pub scan-ends : (i : ℕ) → n ≤ i → Scanned f xs n i → true ≡ every f (take n xs)
+  scan-ends i h k = sym (k ∙ every-done i h)
 
 -- a test that holds of each element, and of the value past the end, holds at each index
 module _ {A : Type 0} (f : A → Bool) (d : A) (past-end : f d ≡ true) where

@@ -16,8 +16,8 @@ use Rattle.protocol.specs.declared.Line.{Line}
 use Rattle.protocol.specs.declared.Opening.{Opening}
 use Rattle.protocol.specs.declared.State.{State}
 use Rattle.protocol.specs.declared.{Call.Call, Who.Who, Which.Which}
-use Rattle.protocol.specs.declared.Who.the-variants.{Core as Named, Owner, Nobody}
-use Rattle.protocol.specs.declared.Which.the-variants.{Line as NamedLine, InSlot, Nothing}
+use Rattle.protocol.specs.declared.Who.the-variants.{Named as NamedCore, Owner, Nobody}
+use Rattle.protocol.specs.declared.Which.the-variants.{Named as NamedLine, InSlot, Nothing}
 use Rattle.protocol.specs.declared.Effect.{Effect}
 
 -- a state and the two buffers
@@ -72,7 +72,7 @@ ownerOf (Owned c) = c
 
 -- the core that a call is about: the one that it names, or the line's owner
 abbrev pub theCore : Who → Manager → ℕ
-theCore (Named c) m = c
+theCore (NamedCore c) m = c
 theCore Owner m = ownerOf m
 theCore Nobody m = 0
 

@@ -27,8 +27,8 @@ use Rattle.protocol.specs.declared.Line.{Line}
 use Rattle.protocol.specs.declared.Opening.{Opening}
 use Rattle.protocol.specs.declared.State.{State}
 use Rattle.protocol.specs.declared.{Call.Call, Who.Who, Which.Which, Act.Act, About.About}
-use Rattle.protocol.specs.declared.Who.the-variants.{Core as Named, Owner, Nobody}
-use Rattle.protocol.specs.declared.Which.the-variants.{Line as NamedLine, InSlot, Nothing}
+use Rattle.protocol.specs.declared.Who.the-variants.{Named as NamedCore, Owner, Nobody}
+use Rattle.protocol.specs.declared.Which.the-variants.{Named as NamedLine, InSlot, Nothing}
 use Rattle.protocol.specs.declared.Act.the-variants.{Load as Loads, Store as Stores, Fence as Fences, Advance as Advances, Transfer}
 use Rattle.protocol.specs.declared.Call.the-variants.{Load, Store, Fence, Evict, Advance, Serve, Receive, Yield, Take}
 
@@ -74,7 +74,7 @@ machineRefusal m =
 
 -- 3: core ≥ cores
 abbrev pub noCore : Who → Opening → Bool
-noCore (Named c) o = leb (o .cores) c
+noCore (NamedCore c) o = leb (o .cores) c
 noCore Owner o = false
 noCore Nobody o = false
 

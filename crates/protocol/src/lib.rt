@@ -380,14 +380,14 @@ pub enum Call {
 
 // The core that a call is about: the one that it names, the owner of its line, or none.
 pub enum Who {
-    Core(usize),
+    Named(usize),
     Owner,
     Nobody,
 }
 
 // The line that a call is about: the one that it names, the one in its core's slot, or none.
 pub enum Which {
-    Line(usize),
+    Named(usize),
     InSlot,
     Nothing,
 }
@@ -415,21 +415,23 @@ impl Call {
         ensures { λ r. ⌜ r ≡ about self ⌝ }
     {
         match self {
-            Call::Load { core, line } => { concerns(Who::Core(core), Which::Line(line), Act::Load) }
-            Call::Store { core, line } => {
-                concerns(Who::Core(core), Which::Line(line), Act::Store)
+            Call::Load { core, line } => {
+                concerns(Who::Named(core), Which::Named(line), Act::Load)
             }
-            Call::Fence { core } => concerns(Who::Core(core), Which::Nothing, Act::Fence),
+            Call::Store { core, line } => {
+                concerns(Who::Named(core), Which::Named(line), Act::Store)
+            }
+            Call::Fence { core } => concerns(Who::Named(core), Which::Nothing, Act::Fence),
             Call::Evict { core, line } => {
-                concerns(Who::Core(core), Which::Line(line), Act::Transfer)
+                concerns(Who::Named(core), Which::Named(line), Act::Transfer)
             }
             Call::Advance { core, by } => {
-                concerns(Who::Core(core), Which::Nothing, Act::Advance(by))
+                concerns(Who::Named(core), Which::Nothing, Act::Advance(by))
             }
-            Call::Serve { core } => concerns(Who::Core(core), Which::InSlot, Act::Transfer),
-            Call::Receive { core } => concerns(Who::Core(core), Which::InSlot, Act::Transfer),
-            Call::Yield { line } => concerns(Who::Owner, Which::Line(line), Act::Transfer),
-            Call::Take { line } => concerns(Who::Nobody, Which::Line(line), Act::Transfer),
+            Call::Serve { core } => concerns(Who::Named(core), Which::InSlot, Act::Transfer),
+            Call::Receive { core } => concerns(Who::Named(core), Which::InSlot, Act::Transfer),
+            Call::Yield { line } => concerns(Who::Owner, Which::Named(line), Act::Transfer),
+            Call::Take { line } => concerns(Who::Nobody, Which::Named(line), Act::Transfer),
         }
     }
 }

@@ -138,7 +138,7 @@ fn no_core(core: Who, opening: Opening) -> bool
     ensures { λ r. ⌜ r ≡ noCore core opening ⌝ }
 {
     match core {
-        Who::Core(c) => opening.cores <= c,
+        Who::Named(c) => opening.cores <= c,
         Who::Owner => false,
         Who::Nobody => false,
     }
@@ -149,7 +149,7 @@ fn no_line(line: Which, opening: Opening) -> bool
     ensures { λ r. ⌜ r ≡ noLine line opening ⌝ }
 {
     match line {
-        Which::Line(l) => opening.lines <= l,
+        Which::Named(l) => opening.lines <= l,
         Which::InSlot => false,
         Which::Nothing => false,
     }

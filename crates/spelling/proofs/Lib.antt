@@ -1,4 +1,5 @@
 pub mod Lists
+pub mod Tests
 pub mod DecimalLaws
 pub mod HexLaws
 pub mod Decide

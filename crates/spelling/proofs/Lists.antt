@@ -1,12 +1,9 @@
 -- Laws on lists of bytes. Assumes nothing.
 use Prim.Native.Nat.{ℕ, zero, suc, _≤_, _<_, zero-le, suc-le-suc}
-use mathlib.Core.Path.{_≡_, refl}
-use mathlib.Core.Bool.{Bool, true, false}
-use mathlib.Core.List.{List, [], _∷_, _++_}
+use mathlib.Core.{Path._≡_, Path.refl, Bool.Bool, Bool.true, Bool.false, List.List, List.[], List._∷_, List._++_}
 use mathlib.Core.Logic.{_⊎_, inl, inr}
 use native.Mathlib.Nat.{le-of-suc-le-suc, not-suc-le-zero}
-use lib.ListN.{length, getD}
-use lib.Dec.{leb}
+use lib.{ListN.length, ListN.getD, Dec.leb}
 use borrow.Author.Tests.{leb-true, leb-false}
 use Rattle.spelling.specs.Bytes.{All}
 

@@ -1,19 +1,15 @@
 -- Laws of text written over a part of a buffer. Assumes nothing.
 use Prim.Native.Nat.{ℕ, zero, suc, _+_, _*_, _/_, _%_, _≤_, _<_, _-_}
-use mathlib.Core.Path.{_≡_, refl, sym, _∙_, ap, ap₂}
+use mathlib.Core.{Path._≡_, Path.refl, Path.sym, Path._∙_, Path.ap, Path.ap₂, Bool.Bool, Bool.true, Bool.false, Bool.cond, Bool.not}
 use mathlib.Core.List.{List, [], _∷_, _++_, append-assoc, append-nil}
-use native.Mathlib.Omega.{arith}
-use native.Mathlib.Nat.{add-zero}
-use native.Mathlib.Numerals.{add-one}
+use native.Mathlib.{Omega.arith, Nat.add-zero, Numerals.add-one}
 use lib.ListN.{length, getD, take, drop, set, length-append, length-take, length-drop, take-append-drop}
 use lib.Seq.{drop-cons, set-at, take-suc, length-take-le, take-append-seam, drop-append-seam, drop-append-add, drop-drop}
-use mathlib.Core.Bool.{Bool, true, false, cond, not}
 use lib.Dec.{ltb, leb}
-use Rattle.spelling.specs.Over.{fits, over, twentyBefore, PutAt, PutBefore}
+use Rattle.spelling.specs.{Over.fits, Over.over, Over.twentyBefore, Over.PutAt, Over.PutBefore, Decimal.decimal, Decimal.decimalUpTo}
 use Rattle.spelling.specs.declared.Put.{Put}
 use Rattle.spelling.specs.declared.Put.the-variants.{End, Short}
 use borrow.Author.Tests.{le-leb, lt-leb, leb-true, leb-false, not-true, not-false}
-use Rattle.spelling.specs.Decimal.{decimal, decimalUpTo}
 use Rattle.spelling.specs.Hex.{hex, digit}
 use Rattle.spelling.proofs.DecimalLaws.{widest, decimal-more, decimal-digit, decimal-nonempty}
 use Rattle.spelling.proofs.HexLaws.{hex-length}
@@ -148,11 +144,11 @@ over-before old at t b p h =
     ∙ set-at (take (at - 1) old) (getD old (at - 1) 0) rest b (at - 1) (length-take-le (at - 1) old (omega arith))
     ∙ ap (λ (k : ℕ). take (at - 1) old ++ (b ∷ (t ++ drop k old))) m
 
--- what stands from the text on
+-- what is there from the text on
 pub over-from : (old : List ℕ) (at : ℕ) (t : List ℕ) → at ≤ length old → drop at (over old at t) ≡ t ++ drop (at + length t) old
 over-from old at t h = ap (λ (k : ℕ). drop k (over old at t)) (sym (length-take-le at old h)) ∙ drop-append-seam (take at old) (t ++ drop (at + length t) old)
 
--- the digits so far: they stand from k on, end before a place, and come after the digits of m
+-- the digits so far: they are there from k on, end before a place, and come after the digits of m
 pub record Digits (old : List ℕ) (end n : ℕ) (l : List ℕ) (k m : ℕ) : Type 0 where
   pub digits : List ℕ
   pub twenty : 20 ≤ end
@@ -207,7 +203,7 @@ module _ (old : List ℕ) (end n : ℕ) (new : List ℕ) (r : ℕ) (p : PutBefor
       let room = twenty-yes (length old) end t w in
       (rw room at (p .bytes)) ∙ ap (λ (k : ℕ). over old k (decimal n)) (sym (rw room at (p .answer)))
 
-  -- what stands from the number on
+  -- what is there from the number on
   pub before-from : drop r new ≡ decimal n ++ drop end old
   before-from =
       ap (drop r) before-laid ∙ over-from old r (decimal n) (omega (arith, before-place)) ∙ ap (λ (k : ℕ). decimal n ++ drop k old) before-place

@@ -1,14 +1,12 @@
 -- Laws of the bytes up to the next byte of some kind: a blank ends a value, a newline ends a line. Assumes nothing.
-use Prim.Native.Nat.{ℕ, suc, _+_, _≤_, _<_, _-_}
-use mathlib.Core.Path.{_≡_, refl, sym, _∙_, ap}
-use mathlib.Core.List.{List, [], _∷_, _++_}
+use Prim.Native.Nat.{ℕ, zero, suc, _+_, _≤_, _<_, _-_}
+use mathlib.Core.{Path._≡_, Path.refl, Path._∙_, Path.ap, List.List, List.[], List._∷_, List._++_}
 use mathlib.Core.Logic.{_⊎_, inl, inr, ⊎-elim}
-use native.Mathlib.Omega.{arith}
-use native.Mathlib.Numerals.{add-one}
+use native.Mathlib.{Omega.arith, Nat.add-zero, Numerals.add-one}
 use lib.ListN.{length, getD, take, drop, length-append, length-drop, drop-of-length-le}
 use lib.Seq.{drop-cons, take-append-seam}
 use borrow.Author.Tests.{eq-eqb, ne-eqb}
-use Rattle.spelling.specs.Bytes.{Without, upTo}
+use Rattle.spelling.specs.Bytes.{Without, upTo, Below}
 use Rattle.spelling.proofs.Decide.{same-number}
 
 module _ (stop : ℕ) where
@@ -47,6 +45,14 @@ module _ (stop : ℕ) where
   -- one byte more
   pub upTo-at : (s : List ℕ) (i : ℕ) → i < length s → (getD s i 0 ≡ stop → ⊥) → length (upTo stop (drop i s)) ≡ 1 + length (upTo stop (drop (i + 1) s))
   upTo-at s i h n = rw (add-one i, drop-cons s i 0 h, other (getD s i 0) (drop (suc i) s) n) (omega arith)
+
+  -- n bytes more
+  pub upTo-run : (s : List ℕ) (i n : ℕ) → i + n ≤ length s → Below n (λ k. getD s (i + k) 0 ≡ stop → ⊥) → i + length (upTo stop (drop i s)) ≡ (i + n) + length (upTo stop (drop (i + n) s))
+  upTo-run s i zero h c = rw (add-zero i)
+  upTo-run s i (suc n) h c =
+      let e : i + n + 1 ≡ i + suc n = omega arith in
+      let l = ap (λ (k : ℕ). length (upTo stop (drop k s))) e in
+      omega (arith, upTo-run s i n (omega arith) (λ k m. c k (omega arith)), upTo-at s (i + n) (omega arith) (c n (omega arith)), l)
 
   pub upTo-stop : (s : List ℕ) (i : ℕ) → i < length s → getD s i 0 ≡ stop → length (upTo stop (drop i s)) ≡ 0
   upTo-stop s i h e = rw (drop-cons s i 0 h, stopped (getD s i 0) (drop (suc i) s) e)

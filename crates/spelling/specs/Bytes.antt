@@ -1,8 +1,6 @@
--- Lists of bytes: what holds of each, and where the next byte of some kind stands. Assumes nothing.
+-- Lists of bytes: what holds of each, and where the next byte of some kind is. Assumes nothing.
 use Prim.Native.Nat.{ℕ, _<_}
-use mathlib.Core.Path.{_≡_}
-use mathlib.Core.Bool.{cond}
-use mathlib.Core.List.{List, [], _∷_}
+use mathlib.Core.{Path._≡_, Bool.Bool, Bool.true, Bool.false, Bool.cond, List.List, List.[], List._∷_}
 use lib.Dec.{eqb}
 
 -- P holds of each number of the list
@@ -22,3 +20,12 @@ Byte b = b < 256
 unfoldable pub upTo : ℕ → List ℕ → List ℕ
 upTo stop [] = []
 upTo stop (b ∷ bs) = cond (eqb b stop) [] (b ∷ upTo stop bs)
+
+-- what a test of A answers: A where it is true, and not A where it is false
+abbrev pub Test : Type 0 → Bool → Type 0
+Test A true = A
+Test A false = A → ⊥
+
+-- P holds at each index below n
+abbrev pub Below : ℕ → (ℕ → Type 0) → Type 0
+Below n P = (k : ℕ) → k < n → P k

@@ -1,12 +1,8 @@
 -- H of 01: bytes as lower-case hex pairs. Assumes nothing.
 use Prim.Native.Nat.{ℕ, _+_, _/_, _%_, _≤_, _<_}
-use mathlib.Core.Path.{_≡_}
-use mathlib.Core.Bool.{Bool, true, false, cond}
-use mathlib.Core.List.{List, [], _∷_}
-use mathlib.Core.Logic.{_⊎_}
-use lib.Dec.{ltb}
-use lib.ListN.{length}
-use Rattle.spelling.specs.Bytes.{All, Byte}
+use mathlib.Core.{Path._≡_, Bool.Bool, Bool.cond, List.List, List.[], List._∷_, Logic._⊎_}
+use lib.{Dec.ltb, ListN.length}
+use Rattle.spelling.specs.Bytes.{All, Byte, Test}
 
 -- the digit of a number below 16: 0 to 9, a to f
 abbrev pub digit : ℕ → ℕ
@@ -29,8 +25,7 @@ IsData v = (bs : List ℕ) × Spells v bs
 
 -- whether the bytes v are data
 abbrev pub DataTest : List ℕ → Bool → Type 0
-DataTest v true = IsData v
-DataTest v false = IsData v → ⊥
+DataTest v r = Test (IsData v) r
 
 -- b is one of 0 to 9 and a to f
 abbrev pub HexDigit : ℕ → Type 0
@@ -38,5 +33,4 @@ HexDigit b = ((48 ≤ b) × (b ≤ 57)) ⊎ ((97 ≤ b) × (b ≤ 102))
 
 -- whether b is a hex digit
 abbrev pub HexTest : ℕ → Bool → Type 0
-HexTest b true = HexDigit b
-HexTest b false = HexDigit b → ⊥
+HexTest b r = Test (HexDigit b) r

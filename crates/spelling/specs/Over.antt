@@ -1,14 +1,10 @@
 -- Text laid over a part of a buffer that a caller lent. Assumes nothing.
 use Prim.Native.Nat.{ℕ, _+_, _-_, _≤_, _<_}
-use mathlib.Core.Path.{_≡_}
-use mathlib.Core.Bool.{Bool, false, cond}
-use mathlib.Core.List.{List, _++_}
-use lib.Dec.{leb}
-use lib.ListN.{length, take, drop}
+use mathlib.Core.{Path._≡_, Bool.Bool, Bool.false, Bool.cond, List.List, List._++_}
+use lib.{Dec.leb, ListN.length, ListN.take, ListN.drop}
 use Rattle.spelling.specs.Hex.{digit, Spells, IsData}
-use Rattle.spelling.specs.declared.Put.{Put}
+use Rattle.spelling.specs.declared.{Put.Put, Decoded.Decoded}
 use Rattle.spelling.specs.declared.Put.the-variants.{End, Short}
-use Rattle.spelling.specs.declared.Decoded.{Decoded}
 use Rattle.spelling.specs.declared.Decoded.the-variants.{Bytes, Wrong, NoRoom}
 
 -- whether n bytes fit at a place of a buffer of this size
@@ -35,7 +31,7 @@ pub record PutBefore (old : List ℕ) (end : ℕ) (t new : List ℕ) (r : ℕ) :
   pub answer : r ≡ cond (twentyBefore (length old) end) (end - length t) end
   pub bytes : new ≡ cond (twentyBefore (length old) end) (over old (end - length t) t) old
 
--- what decoding the digits s into a buffer does: their bytes stand at its start, or it is as it was
+-- what decoding the digits s into a buffer does: their bytes are at its start, or it is as it was
 pub data DecodedOf (s old new : List ℕ) : Decoded → Type 0 where
   decoded : (bs : List ℕ) → Spells s bs → length bs ≤ length old → new ≡ over old 0 bs → DecodedOf s old new (Bytes (length bs))
   noRoom : (bs : List ℕ) → Spells s bs → length old < length bs → new ≡ old → DecodedOf s old new NoRoom

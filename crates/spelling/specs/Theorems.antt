@@ -1,17 +1,12 @@
 -- What is proved of the spelling: reading leaves no freedom, what is printed is read back as it was, and what is read prints as it
--- stood. Assumes nothing.
+-- was. Assumes nothing.
 use Prim.Native.Nat.{ℕ, _≤_, _<_}
-use mathlib.Core.Path.{_≡_}
-use mathlib.Core.List.{List}
+use mathlib.Core.{Path._≡_, List.List}
 use lib.ListN.{length, take}
-use Rattle.spelling.specs.Bytes.{All, Byte}
-use Rattle.spelling.specs.One.{One}
-use Rattle.spelling.specs.Decimal.{decimal, greatest, NumberOf}
-use Rattle.spelling.specs.Hex.{hex}
+use Rattle.spelling.specs.{Bytes.All, Bytes.Byte, One.One, Decimal.decimal, Decimal.greatest, Decimal.NumberOf, Hex.hex}
 use Rattle.spelling.specs.Over.{DecodedOf}
-use Rattle.spelling.specs.declared.Number.{Number}
+use Rattle.spelling.specs.declared.{Number.Number, Decoded.Decoded}
 use Rattle.spelling.specs.declared.Number.the-variants.{Value}
-use Rattle.spelling.specs.declared.Decoded.{Decoded}
 use Rattle.spelling.specs.declared.Decoded.the-variants.{Bytes}
 
 -- bytes are exactly one number, or none
@@ -22,7 +17,7 @@ NumberOneTheorem = (v : List ℕ) → One (NumberOf v)
 abbrev pub DecodedOneTheorem : Type 0
 DecodedOneTheorem = (s old : List ℕ) → One {A = List ℕ × Decoded} (λ x. DecodedOf s old (x .0) (x .1))
 
--- a number that is printed is read back; one that is read prints as it stood
+-- a number that is printed is read back; one that is read prints as it was
 abbrev pub DecimalRoundTripTheorem : Type 0
 DecimalRoundTripTheorem =
     ((n : ℕ) (r : Number) → n ≤ greatest → NumberOf (decimal n) r → r ≡ Value n)
@@ -33,7 +28,7 @@ abbrev pub HexPrinted : Type 0
 HexPrinted = (bs old new : List ℕ) (r : Decoded) → 0 < length bs → All Byte bs
     → length bs ≤ length old → DecodedOf (hex bs) old new r → (r ≡ Bytes (length bs)) × (take (length bs) new ≡ bs)
 
--- data that are decoded print as they stood
+-- data that are decoded print as they were
 abbrev pub HexDecoded : Type 0
 HexDecoded = (s old new : List ℕ) (n : ℕ) → DecodedOf s old new (Bytes n) → hex (take n new) ≡ s
 

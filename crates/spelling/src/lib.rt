@@ -1,20 +1,51 @@
 // Numbers in decimal and bytes in hex, as the journal and the listing spell them (N and H of the scope).
 //
 // Reading and printing are promised by the same two definitions, `decimal` and `hex` of specs/, so what is printed is read
-// back as it was, and what is read prints as it stood.
+// back as it was, and what is read prints as it was.
 ghost use mathlib.Core.Path.{_≡_};
-ghost use Prim.Native.Nat.{_+_, _<_};
-ghost use lib.ListN.{length, drop};
-ghost use Rattle.spelling.specs.Bytes.{upTo};
+ghost use Prim.Native.Nat.{_+_, _≤_, _<_};
+ghost use lib.ListN.{length, getD, drop};
+ghost use Rattle.spelling.specs.Bytes.{upTo, Test, Below};
 ghost use Rattle.spelling.specs.Decimal.{decimal, NumberOf};
 ghost use Rattle.spelling.specs.Hex.{digit, hex, DataTest, HexDigit, HexTest};
 ghost use Rattle.spelling.specs.Over.{fits, PutAt, PutBefore, DecodedOf, IsNibble};
 
-// Where the next byte `stop` stands, from `at` on, or else the end: a blank ends a value, a newline a line.
+// Whether none of the eight bytes from `at` on is `stop`. Every byte is looked at, so that they can be compared at once.
+fn is_clear(s: &[u8], at: usize, stop: u8) -> bool
+    requires { ⌜ at + 8 ≤ length (now s) ⌝ }
+    ensures { λ r. ⌜ Test (Below 8 (λ k. getD (now (s .entry)) (at + k) 0 ≡ stop → ⊥)) r ⌝ }
+{
+    let mut clear = true;
+    let mut k: usize = 0;
+    while k < 8 {
+        clear = clear & (s[at + k] != stop);
+        k += 1;
+    }
+    clear
+}
+
+// A place at or after `at`, before which no byte from `at` on is `stop`: eight bytes at a time.
+fn past_clear(s: &[u8], at: usize, stop: u8) -> usize
+    ensures { λ r. ⌜ at + length (upTo stop (drop at (now (s .entry)))) ≡ r + length (upTo stop (drop r (now (s .entry)))) ⌝ }
+{
+    let mut p = at;
+    if s.len() < 8 {
+        return p;
+    }
+    while p <= s.len() - 8 {
+        if !is_clear(s, p, stop) {
+            return p;
+        }
+        p += 8;
+    }
+    p
+}
+
+// Where the next byte `stop` is, from `at` on, or else the end: a blank ends a value, a newline a line.
 pub fn run_end(s: &[u8], at: usize, stop: u8) -> usize
     ensures { λ r. ⌜ r ≡ at + length (upTo stop (drop at (now (s .entry)))) ⌝ }
 {
-    let mut i = at;
+    let mut i = past_clear(s, at, stop);
     while i < s.len() {
         if s[i] == stop {
             return i;
@@ -77,19 +108,7 @@ pub fn read_number(s: &[u8]) -> Number
 pub fn is_hex(b: u8) -> bool
     ensures { λ r. ⌜ HexTest b r ⌝ }
 {
-    if b < b'0' {
-        return false;
-    }
-    if b <= b'9' {
-        return true;
-    }
-    if b < b'a' {
-        return false;
-    }
-    if b <= b'f' {
-        return true;
-    }
-    false
+    ((b'0' <= b) & (b <= b'9')) | ((b'a' <= b) & (b <= b'f'))
 }
 
 // Whether the whole of `s` is data: one pair of hex digits or more.
@@ -102,14 +121,13 @@ pub fn is_data(s: &[u8]) -> bool
     if s.len() % 2 == 1 {
         return false;
     }
+    let mut ok = true;
     let mut i: usize = 0;
     while i < s.len() {
-        if !is_hex(s[i]) {
-            return false;
-        }
+        ok = ok & is_hex(s[i]);
         i += 1;
     }
-    true
+    ok
 }
 
 // What putting a text into a buffer answers: the place after the text, or that it does not fit.
@@ -131,7 +149,7 @@ fn has_room(size: usize, at: usize, n: usize) -> bool
     true
 }
 
-// A text as it stands, into a lent buffer at a place. Where it does not fit, the buffer is left as it was.
+// A text as it is, into a lent buffer at a place. Where it does not fit, the buffer is left as it was.
 pub fn put_text(out: &mut [u8], at: usize, text: &[u8]) -> Put
     ensures { λ r. ⌜ PutAt (now (out .entry)) at (now (text .entry)) (now (out .exit)) r ⌝ }
 {
@@ -146,7 +164,7 @@ pub fn put_text(out: &mut [u8], at: usize, text: &[u8]) -> Put
     Put::End(at + i)
 }
 
-// A number in decimal, the last digit just before a place of a lent buffer; the answer is where the first digit stands. A
+// A number in decimal, the last digit just before a place of a lent buffer; the answer is where the first digit is. A
 // number has at most twenty digits: where fewer bytes lie before the place, or it lies past the buffer's end, the buffer is
 // left as it was and the answer is the place itself.
 pub fn put_number_before(out: &mut [u8], end: usize, n: u64) -> usize

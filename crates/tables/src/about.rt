@@ -31,7 +31,7 @@ fn named(line: Which) -> usize
     ensures { λ r. ⌜ r ≡ namedLine line ⌝ }
 {
     match line {
-        Which::Line(l) => l,
+        Which::Named(l) => l,
         Which::InSlot => 0,
         Which::Nothing => 0,
     }
@@ -42,7 +42,7 @@ fn core_by(core: Who, manager: Manager) -> usize
     ensures { λ r. ⌜ r ≡ theCore core manager ⌝ }
 {
     match core {
-        Who::Core(c) => c,
+        Who::Named(c) => c,
         Who::Owner => match manager {
             Manager::Shared { .. } => 0,
             Manager::Owned { core } => core,
@@ -56,7 +56,7 @@ fn line_by(line: Which, slot: Slot) -> usize
     ensures { λ r. ⌜ r ≡ theLine line slot ⌝ }
 {
     match line {
-        Which::Line(l) => l,
+        Which::Named(l) => l,
         Which::InSlot => match slot {
             Slot::Empty => 0,
             Slot::Asked { line, .. } => line,

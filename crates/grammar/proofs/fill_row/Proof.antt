@@ -1,69 +1,43 @@
--- `grammar::fill_row` meets its contract, by the law of the table's entries. Assumes nothing.
-use Prim.Native.Nat.{_+_, _≤_, _<_}
-use mathlib.Core.Path.{sym, subst}
-use mathlib.Core.List.{List}
-use native.Mathlib.Omega.{arith}
-use Rattle.grammar.specs.Form.{Part}
-use Rattle.grammar.specs.Scan.{valuesIn, Reads, nothingRead}
-use Rattle.grammar.proofs.Rows.{startOf, entry-at}
+-- `grammar::fill_row` meets its contract: in each arm, the row's own kind and keys. Assumes nothing.
+use mathlib.Core.Path.{_≡_}
+use native.Mathlib.{Nat.le-antisymm, Nat.le-of-suc-le-suc, Omega.arith}
+use lib.Dec.{lit≤}
+use Rattle.grammar.specs.Scan.{fieldParts}
+use Rattle.grammar.proofs.{Rows.Others, Rows.past, Walk.after-within, Walk.kind-read}
 use borrow.Author.Needs.{needs}
 use Rattle.grammar.proofs.fill_row.Statement.{statement}
 use Rattle.grammar.proofs.fill_row.Tie as tie
 
-mul-a : tie.Need-mul-a
-mul-a c = search needs
-
-array-read-a : tie.Need-array-read-a
-array-read-a c = search needs
-
-add-e : tie.Need-add-e
-add-e c = search needs
-
-mul-e : tie.Need-mul-e
-mul-e c = search needs
-
-array-read-e : tie.Need-array-read-e
-array-read-e c = search needs
-
--- a form starts before its end, inside the table
-bounds : (c : tie.Start) → (startOf (c .args .row) < startOf (c .args .row + 1)) × (startOf (c .args .row + 1) ≤ 220)
-bounds c = let e = entry-at (c .args .row) (c .pre) in (e .order, e .high)
-
-sub-e : tie.Need-sub-e
-sub-e c = let e = bounds (c .before) in omega arith
-
-sub-fill : tie.Need-sub-fill
-sub-fill c = let e = bounds (c .before) in omega arith
-
-part-fill-start : tie.Need-part-fill-start
-part-fill-start c = let e = bounds (c .before .before) in omega arith
-
-part-fill-end : tie.Need-part-fill-end
-part-fill-end c = let e = bounds (c .before .before) in omega arith
-
-fill-requires : tie.Need-fill-requires
-fill-requires c κs =
-    let e = entry-at (c .before .before .before .args .row) (c .before .before .before .pre) in
-    subst (λ (p : List Part). valuesIn p ≤ 4) (sym (e .same)) (e .room)
-
-returns : tie.Need-returns
-returns c =
-    let a = c .before .before .before .before .args in
-    let e = entry-at (a .row) (c .before .before .before .before .pre) in
-    subst (λ (p : List Part). Reads (a .line .now) p 0 (nothingRead (a .line .now)) (c .fill .result)) (e .same) (c .fill .ensures)
+-- the last arm has the last row
+last : tie.Need-returns-10
+unfolding Others fieldParts
+last c =
+    let a = c .before .before .before .before .before in
+    let e : a .args .row ≡ 9 = le-antisymm (le-of-suc-le-suc (a .pre)) (past 0 (a .args .row) 9 (omega arith) (c .before .before .before .match .rest)) in
+    rw e (kind-read _ _ _ _ _ (lit≤ tt) (c .before .after10 .ensures) (c .fill10 .ensures))
 
 pub fill-row-spec : {M : Type 1} → statement M
+unfolding fieldParts
 fill-row-spec =
     tie.close
     (tie.spec
-    mul-a
-    array-read-a
-    add-e
-    mul-e
-    array-read-e
-    sub-e
-    sub-fill
-    part-fill-start
-    part-fill-end
-    fill-requires
-    returns)
+    (λ c. search needs) (λ c κs. omega arith) (λ c κs. (after-within _ _ 0 _ (c .after .ensures), lit≤ tt))
+    (λ c. search needs) (λ c κs. omega arith) (λ c κs. (after-within _ _ 0 _ (c .after2 .ensures), lit≤ tt))
+    (λ c. search needs) (λ c κs. omega arith) (λ c κs. (after-within _ _ 0 _ (c .after3 .ensures), lit≤ tt))
+    (λ c. search needs) (λ c κs. omega arith) (λ c κs. (after-within _ _ 0 _ (c .after4 .ensures), lit≤ tt))
+    (λ c. search needs) (λ c κs. omega arith) (λ c κs. (after-within _ _ 0 _ (c .after5 .ensures), lit≤ tt))
+    (λ c. search needs) (λ c κs. omega arith) (λ c κs. (after-within _ _ 0 _ (c .after6 .ensures), lit≤ tt))
+    (λ c. search needs) (λ c κs. omega arith) (λ c κs. (after-within _ _ 0 _ (c .after7 .ensures), lit≤ tt))
+    (λ c. search needs) (λ c κs. omega arith) (λ c κs. (after-within _ _ 0 _ (c .after8 .ensures), lit≤ tt))
+    (λ c. search needs) (λ c κs. omega arith) (λ c κs. (after-within _ _ 0 _ (c .after9 .ensures), lit≤ tt))
+    (λ c. search needs) (λ c κs. omega arith) (λ c κs. (after-within _ _ 0 _ (c .after10 .ensures), lit≤ tt))
+    (λ c. rw (c .before .before .before .match .keys1) (kind-read _ _ _ _ _ (lit≤ tt) (c .before .after .ensures) (c .fill .ensures)))
+    (λ c. rw (c .before .before .before .match .keys2) (kind-read _ _ _ _ _ (lit≤ tt) (c .before .after2 .ensures) (c .fill2 .ensures)))
+    (λ c. rw (c .before .before .before .match .keys3) (kind-read _ _ _ _ _ (lit≤ tt) (c .before .after3 .ensures) (c .fill3 .ensures)))
+    (λ c. rw (c .before .before .before .match .keys4) (kind-read _ _ _ _ _ (lit≤ tt) (c .before .after4 .ensures) (c .fill4 .ensures)))
+    (λ c. rw (c .before .before .before .match .keys5) (kind-read _ _ _ _ _ (lit≤ tt) (c .before .after5 .ensures) (c .fill5 .ensures)))
+    (λ c. rw (c .before .before .before .match .keys6) (kind-read _ _ _ _ _ (lit≤ tt) (c .before .after6 .ensures) (c .fill6 .ensures)))
+    (λ c. rw (c .before .before .before .match .keys7) (kind-read _ _ _ _ _ (lit≤ tt) (c .before .after7 .ensures) (c .fill7 .ensures)))
+    (λ c. rw (c .before .before .before .match .keys8) (kind-read _ _ _ _ _ (lit≤ tt) (c .before .after8 .ensures) (c .fill8 .ensures)))
+    (λ c. rw (c .before .before .before .match .keys9) (kind-read _ _ _ _ _ (lit≤ tt) (c .before .after9 .ensures) (c .fill9 .ensures)))
+    last)

@@ -2,8 +2,7 @@
 use Prim.Native.Nat.{_+_, _≤_}
 use mathlib.Core.Path.{subst}
 use native.Mathlib.Omega.{arith}
-use Rattle.grammar.specs.Table.{rowsOf}
-use Rattle.grammar.specs.Line.{LineOf}
+use Rattle.grammar.specs.{Table.rowsOf, Line.LineOf}
 use Rattle.grammar.proofs.Inside.{inside}
 use Rattle.journal.specs.Journal.{tooMuch, empty, ended, unended}
 use Rattle.journal.proofs.Lines.{line-here, none-here, line-answer}
@@ -11,43 +10,10 @@ use borrow.Author.Needs.{needs}
 use Rattle.journal.proofs.step_at.Statement.{statement}
 use Rattle.journal.proofs.step_at.Tie as tie
 
-returns : tie.Need-returns
-returns c = tooMuch (omega (arith, c .if1 .taken))
-
-returns-2 : tie.Need-returns-2
-returns-2 c = empty (omega arith) (omega arith) (c .if3 .taken)
-
-returns-3 : tie.Need-returns-3
-returns-3 c = ended (omega arith) (omega arith) (c .if3 .left)
-
-run-end-requires : tie.Need-run-end-requires
-run-end-requires c κs = search needs
-
 returns-4 : tie.Need-returns-4
 returns-4 c =
     let a = c .before .before .before .before .before .args in
     unended (omega arith) (omega arith) (none-here (a .journal .now) (a .at) _ (c .before .run-end .ensures) (c .if4 .taken))
-
-sub-read-line : tie.Need-sub-read-line
-sub-read-line c = search needs
-
-part-read-line-start : tie.Need-part-read-line-start
-part-read-line-start c = search needs
-
-part-read-line-end : tie.Need-part-read-line-end
-part-read-line-end c = search needs
-
-read-line-requires : tie.Need-read-line-requires
-read-line-requires c κs = search needs
-
-enum-known-form : tie.Need-enum-known-form
-enum-known-form c = search needs
-
-add-t19 : tie.Need-add-t19
-add-t19 c = search needs
-
-enum-known-call : tie.Need-enum-known-call
-enum-known-call c = search needs
 
 -- the data of a step lie before the line's end
 data-ends : (c : tie.After-known-told2) → (c .before .before .before .before .before .before .before .before .before .before .args .at + c .before .call .given .0 .1 .0 ≤ c .before .before .before .before .before .before .run-end .result) × (c .before .before .before .before .before .before .before .before .before .before .args .at + c .before .call .given .0 .1 .1 .0 ≤ c .before .before .before .before .before .before .run-end .result)
@@ -56,18 +22,6 @@ data-ends c =
     let l = line-here (a .journal .now) (a .at) _ (c .before .before .before .before .before .before .run-end .ensures) (omega arith) in
     let i = inside (subst (LineOf (rowsOf (a .form)) _) (c .before .call .given .1) (c .before .before .before .read-line .ensures)) in
     (omega (arith, i .0, i .1, l .after), omega (arith, i .1, l .after))
-
-add-t20 : tie.Need-add-t20
-add-t20 c = let d = data-ends c in omega arith
-
-add-t21 : tie.Need-add-t21
-add-t21 c = let d = data-ends c in omega arith
-
-add-t22 : tie.Need-add-t22
-add-t22 c = search needs
-
-enum-known-n : tie.Need-enum-known-n
-enum-known-n c = search needs
 
 returns-5 : tie.Need-returns-5
 returns-5 c =
@@ -88,22 +42,11 @@ pub step-at-spec : {M : Type 1} → statement M
 step-at-spec =
     tie.close
     (tie.spec
-    returns
-    returns-2
-    returns-3
-    run-end-requires
+    (λ c. tooMuch (omega (arith, c .if1 .taken))) (λ c. empty (omega arith) (omega arith) (c .if3 .taken))
+    (λ c. ended (omega arith) (omega arith) (c .if3 .left)) (λ c κs. search needs)
     returns-4
-    sub-read-line
-    part-read-line-start
-    part-read-line-end
-    read-line-requires
-    enum-known-form
-    add-t19
-    enum-known-call
-    add-t20
-    add-t21
-    add-t22
-    enum-known-n
+    (λ c. search needs) (λ c. search needs) (λ c. search needs) (λ c κs. search needs) (λ c. search needs) (λ c. search needs) (λ c. search needs)
+    (λ c. let d = data-ends c in omega arith) (λ c. let d = data-ends c in omega arith) (λ c. search needs) (λ c. search needs)
     returns-5
     returns-6
     returns-7)

@@ -1,18 +1,11 @@
 -- `spelling::decode` meets its contract. The invariant: the buffer starts with the first bytes that the data spell. Assumes nothing.
 use Prim.Native.Nat.{ℕ, _≤_, _+_, _*_, _/_, _-_, _<_}
-use mathlib.Core.Path.{_≡_, refl, _∙_, ap, subst}
-use mathlib.Core.List.{List}
+use mathlib.Core.{Path._≡_, Path.refl, Path._∙_, Path.ap, Path.subst, List.List}
 use native.Mathlib.Omega.{arith}
-use borrow.Author.Needs.{needs}
-use lib.ListN.{length, take, getD, length-set}
-use lib.Seq.{take-all}
-use Rattle.spelling.specs.Over.{over}
-use borrow.Author.Tests.{not-true, not-false}
-use Rattle.spelling.specs.Hex.{Spells, IsData, DataTest}
-use Rattle.spelling.specs.Over.{IsNibble, decoded, noRoom, noData}
-use Rattle.spelling.proofs.HexLaws.{spells-length, spells-at}
-use Rattle.spelling.proofs.OverLaws.{over-none}
-use Rattle.spelling.proofs.DecodeLaws.{data-more}
+use borrow.Author.{Needs.needs, Tests.not-true, Tests.not-false}
+use lib.{ListN.length, ListN.take, ListN.getD, ListN.length-set, Seq.take-all}
+use Rattle.spelling.specs.{Over.over, Hex.Spells, Hex.IsData, Hex.DataTest, Over.IsNibble, Over.decoded, Over.noRoom, Over.noData}
+use Rattle.spelling.proofs.{HexLaws.spells-length, HexLaws.spells-at, OverLaws.over-none, DecodeLaws.data-more}
 use Rattle.spelling.proofs.decode.Statement.{statement}
 use Rattle.spelling.proofs.decode.Tie as tie
 
@@ -22,9 +15,6 @@ Inv-loop out₀ s i₀ p₀ out i p =
 
 abbrev μ-loop : tie.MeasureT-loop
 μ-loop out₀ s i₀ p₀ out i p = length s - p
-
-is-data-requires : tie.Need-is-data-requires Inv-loop μ-loop
-is-data-requires c κs = search needs
 
 returns : tie.Need-returns Inv-loop μ-loop
 returns c = noData (subst (DataTest _) (not-true (c .before .is-data .result) (c .if1 .taken)) (c .before .is-data .ensures)) refl
@@ -41,9 +31,6 @@ loop-holds c =
     let d = subst (DataTest (a .s .now)) (not-false (c .before .before .is-data .result) (c .before .if1 .left)) (c .before .before .is-data .ensures) in
     (omega arith, refl, omega arith, refl, λ bs sp. over-none (a .out .now) 0, d)
 
-shared-slice-read-nibble : tie.Need-shared-slice-read-nibble Inv-loop μ-loop
-shared-slice-read-nibble c = omega arith
-
 nibble-requires : tie.Need-nibble-requires Inv-loop μ-loop
 nibble-requires c κs =
     let l = c .before .before .loop in
@@ -51,9 +38,6 @@ nibble-requires c κs =
     let d = l .inv .5 in
     let n = spells-length s (d .0) (d .1) in
     spells-at s (d .0) (l .p) (d .1) (omega arith)
-
-add-nibble : tie.Need-add-nibble Inv-loop μ-loop
-add-nibble c = omega arith
 
 shared-slice-read-nibble-2 : tie.Need-shared-slice-read-nibble-2 Inv-loop μ-loop
 shared-slice-read-nibble-2 c =
@@ -71,9 +55,6 @@ nibble-requires-2 c κs =
     let n = spells-length s (d .0) (d .1) in
     spells-at s (d .0) (l .p + 1) (d .1) (omega arith)
 
-mul-out : tie.Need-mul-out Inv-loop μ-loop
-mul-out c = omega (arith, c .before .before .nibble .ensures .small)
-
 add-out : tie.Need-add-out Inv-loop μ-loop
 add-out c = omega (arith, c .before .before .nibble .ensures .small, c .nibble2 .ensures .small)
 
@@ -85,18 +66,6 @@ one-more c =
     let n = spells-length (c .before .before .before .before .before .before .before .before .before .before .before .args .s .now) (d .0) (d .1) in
     (omega arith, omega arith)
 
-slice-write-out : tie.Need-slice-write-out Inv-loop μ-loop
-slice-write-out c = let m = one-more c in omega arith
-
-add-i : tie.Need-add-i Inv-loop μ-loop
-add-i c = let m = one-more c in omega arith
-
-add-p : tie.Need-add-p Inv-loop μ-loop
-add-p c = let m = one-more c in omega arith
-
-loop-less : tie.Need-loop-less Inv-loop μ-loop
-loop-less c = omega arith
-
 loop-again : tie.Need-loop-again Inv-loop μ-loop
 loop-again c =
     let l = c .before .before .before .before .before .loop in
@@ -107,9 +76,6 @@ loop-again c =
     let x = subst (λ (k : ℕ). IsNibble (getD s k 0) (c .before .before .nibble .result)) (l .inv .1) (c .before .before .nibble .ensures) in
     let y = subst (λ (k : ℕ). IsNibble (getD s (k + 1) 0) (c .nibble2 .result)) (l .inv .1) (c .nibble2 .ensures) in
     (l .inv .0, omega arith, omega arith, simp length-set (l .inv .3), λ bs sp. let m = spells-length s bs sp in data-more s (a .out .now) (l .out) bs (l .i) _ _ sp (omega arith) (omega arith) x y (l .inv .4 bs sp), d)
-
-same-length : tie.Need-same-length Inv-loop μ-loop
-same-length c = c .before .loop .inv .3
 
 returns-3 : tie.Need-returns-3 Inv-loop μ-loop
 returns-3 c =
@@ -126,21 +92,18 @@ decode-spec =
     (tie.spec
     Inv-loop
     μ-loop
-    is-data-requires
+    (λ c κs. search needs)
     returns
     returns-2
     loop-holds
-    shared-slice-read-nibble
+    (λ c. omega arith)
     nibble-requires
-    add-nibble
+    (λ c. omega arith)
     shared-slice-read-nibble-2
     nibble-requires-2
-    mul-out
+    (λ c. omega (arith, c .before .before .nibble .ensures .small))
     add-out
-    slice-write-out
-    add-i
-    add-p
-    loop-less
+    (λ c. let m = one-more c in omega arith) (λ c. let m = one-more c in omega arith) (λ c. let m = one-more c in omega arith) (λ c. omega arith)
     loop-again
-    same-length
+    (λ c. c .before .loop .inv .3)
     returns-3)

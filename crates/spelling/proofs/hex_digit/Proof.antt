@@ -1,7 +1,6 @@
 -- `spelling::hex_digit` meets its contract. Assumes nothing.
 use mathlib.Core.Path.{refl, sym}
-use borrow.Author.Needs.{needs}
-use borrow.Author.Tests.{lt-ltb, le-ltb}
+use borrow.Author.{Needs.needs, Tests.lt-ltb, Tests.le-ltb}
 use Rattle.spelling.proofs.hex_digit.Statement.{statement}
 use Rattle.spelling.proofs.hex_digit.Tie as tie
 

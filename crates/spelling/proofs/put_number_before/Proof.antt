@@ -1,4 +1,4 @@
--- `spelling::put_number_before` meets its contract. The loop's invariant: the digits so far stand before the place, and come after those of `m`.
+-- `spelling::put_number_before` meets its contract. The loop's invariant: the digits so far are before the place, and come after those of `m`.
 -- Assumes nothing.
 use native.Mathlib.Omega.{arith}
 use lib.ListN.{length-set}
@@ -24,38 +24,17 @@ loop-holds c = let a = c .before .before .args in digits-start (a .out .now) (a 
 sub-k : tie.Need-sub-k Inv-loop μ-loop
 sub-k c = let r = digits-room _ _ _ _ _ _ (c .before .loop .inv) in omega arith
 
-cast-out : tie.Need-cast-out Inv-loop μ-loop
-cast-out c = omega arith
-
-add-out : tie.Need-add-out Inv-loop μ-loop
-add-out c = omega arith
-
 slice-write-out : tie.Need-slice-write-out Inv-loop μ-loop
 slice-write-out c = let r = digits-room _ _ _ _ _ _ (c .before .loop .inv) in omega (arith, c .before .loop .inv .within)
 
-loop-less : tie.Need-loop-less Inv-loop μ-loop
-loop-less c = omega arith
-
-loop-again : tie.Need-loop-again Inv-loop μ-loop
-loop-again c = digits-next _ _ _ _ _ _ (c .before .loop .inv) (omega arith)
-
 sub-k-2 : tie.Need-sub-k-2 Inv-loop μ-loop
 sub-k-2 c = let r = digits-room _ _ _ _ _ _ (c .before .loop .inv) in omega arith
-
-cast-out-2 : tie.Need-cast-out-2 Inv-loop μ-loop
-cast-out-2 c = omega arith
-
-add-out-2 : tie.Need-add-out-2 Inv-loop μ-loop
-add-out-2 c = omega arith
 
 slice-write-out-2 : tie.Need-slice-write-out-2 Inv-loop μ-loop
 slice-write-out-2 c = let r = digits-room _ _ _ _ _ _ (c .before .loop .inv) in omega (arith, c .before .loop .inv .within)
 
 same-length : tie.Need-same-length Inv-loop μ-loop
 same-length c = simp length-set (digits-room _ _ _ _ _ _ (c .before .loop .inv) .2)
-
-returns-3 : tie.Need-returns-3 Inv-loop μ-loop
-returns-3 c = digits-last _ _ _ _ _ _ (c .before .loop .inv) (omega arith)
 
 pub put-number-before-spec : {M : Type 1} → statement M
 put-number-before-spec =
@@ -67,14 +46,11 @@ put-number-before-spec =
     returns-2
     loop-holds
     sub-k
-    cast-out
-    add-out
+    (λ c. omega arith) (λ c. omega arith)
     slice-write-out
-    loop-less
-    loop-again
+    (λ c. omega arith) (λ c. digits-next _ _ _ _ _ _ (c .before .loop .inv) (omega arith))
     sub-k-2
-    cast-out-2
-    add-out-2
+    (λ c. omega arith) (λ c. omega arith)
     slice-write-out-2
     same-length
-    returns-3)
+    (λ c. digits-last _ _ _ _ _ _ (c .before .loop .inv) (omega arith)))

@@ -3,8 +3,7 @@ use Prim.Native.Nat.{ℕ, _≤_, _+_, _-_}
 use mathlib.Core.Path.{_≡_, refl, _∙_, ap}
 use native.Mathlib.Omega.{arith}
 use borrow.Author.Needs.{needs}
-use lib.ListN.{length, take, length-set}
-use lib.Seq.{take-all}
+use lib.{ListN.length, ListN.take, ListN.length-set, Seq.take-all}
 use Rattle.spelling.specs.Over.{over}
 use Rattle.spelling.specs.declared.Put.the-variants.{End}
 use Rattle.spelling.proofs.OverLaws.{over-none, text-more, put-done, put-short, room-yes, room-no}
@@ -17,41 +16,17 @@ Inv-loop out₀ at text i₀ out i = (at + length text ≤ length out₀) × (i 
 abbrev μ-loop : tie.MeasureT-loop
 μ-loop out₀ at text i₀ out i = length text - i
 
-has-room-requires : tie.Need-has-room-requires Inv-loop μ-loop
-has-room-requires c κs = search needs
-
 returns : tie.Need-returns Inv-loop μ-loop
 returns c = let a = c .before .before .before .before .args in put-short (a .out .now) (a .at) (a .text .now) (room-no _ _ _ _ (c .before .has-room .ensures) (c .if1 .taken))
 
 loop-holds : tie.Need-loop-holds Inv-loop μ-loop
 loop-holds c = let a = c .before .before .before .before .args in (room-yes _ _ _ _ (c .before .has-room .ensures) (c .if1 .left), omega arith, over-none (a .out .now) (a .at), refl)
 
-shared-slice-read-out : tie.Need-shared-slice-read-out Inv-loop μ-loop
-shared-slice-read-out c = omega arith
-
-add-out : tie.Need-add-out Inv-loop μ-loop
-add-out c = omega arith
-
-slice-write-out : tie.Need-slice-write-out Inv-loop μ-loop
-slice-write-out c = omega arith
-
-add-i : tie.Need-add-i Inv-loop μ-loop
-add-i c = omega arith
-
-loop-less : tie.Need-loop-less Inv-loop μ-loop
-loop-less c = omega arith
-
 loop-again : tie.Need-loop-again Inv-loop μ-loop
 loop-again c =
     let l = c .before .before .loop in
     let a = c .before .before .before .before .before .before .before .args in
     (l .inv .0, omega arith, text-more (a .out .now) (a .at) (a .text .now) (l .i) (l .out) (l .inv .0) (omega arith) (l .inv .2), simp length-set (l .inv .3))
-
-add-t6 : tie.Need-add-t6 Inv-loop μ-loop
-add-t6 c = omega arith
-
-same-length : tie.Need-same-length Inv-loop μ-loop
-same-length c = c .before .loop .inv .3
 
 returns-2 : tie.Need-returns-2 Inv-loop μ-loop
 returns-2 c =
@@ -66,15 +41,10 @@ put-text-spec =
     (tie.spec
     Inv-loop
     μ-loop
-    has-room-requires
+    (λ c κs. search needs)
     returns
     loop-holds
-    shared-slice-read-out
-    add-out
-    slice-write-out
-    add-i
-    loop-less
+    (λ c. omega arith) (λ c. omega arith) (λ c. omega arith) (λ c. omega arith) (λ c. omega arith)
     loop-again
-    add-t6
-    same-length
+    (λ c. omega arith) (λ c. c .before .loop .inv .3)
     returns-2)

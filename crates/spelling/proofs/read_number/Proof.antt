@@ -19,25 +19,16 @@ abbrev μ-loop : tie.MeasureT-loop
 returns : tie.Need-returns Inv-loop μ-loop
 returns c (n, h, e) = not-empty _ n h e (omega arith)
 
-shared-slice-read-first : tie.Need-shared-slice-read-first Inv-loop μ-loop
-shared-slice-read-first c = omega arith
-
 returns-2 : tie.Need-returns-2 Inv-loop μ-loop
 returns-2 c (n, h, e) = omega (arith, not-digit _ 0 n h e (omega arith))
 
 returns-3 : tie.Need-returns-3 Inv-loop μ-loop
 returns-3 c (n, h, e) = omega (arith, not-digit _ 0 n h e (omega arith))
 
-wide-requires : tie.Need-wide-requires Inv-loop μ-loop
-wide-requires c κs = search needs
-
 loop-holds : tie.Need-loop-holds Inv-loop μ-loop
 loop-holds c =
     let d = first-digit (c .before .before .before .before .before .before .args .s .now) (omega arith) (omega arith, omega arith) in
     (omega arith, omega arith, omega arith, rw (c .wide .ensures) d)
-
-shared-slice-read-b : tie.Need-shared-slice-read-b Inv-loop μ-loop
-shared-slice-read-b c = omega arith
 
 returns-4 : tie.Need-returns-4 Inv-loop μ-loop
 returns-4 c (n, h, e) = omega (arith, not-digit _ (c .before .before .before .loop .i) n h e (omega arith))
@@ -48,23 +39,8 @@ returns-5 c (n, h, e) = omega (arith, not-digit _ (c .before .before .before .be
 returns-6 : tie.Need-returns-6 Inv-loop μ-loop
 returns-6 c (n, h, e) = let l = c .before .before .before .before .before .loop in not-lead _ (l .i) n h e (l .inv .0) (omega arith) (l .inv .3 ∙ ap decimal (c .if6 .taken))
 
-mul-v : tie.Need-mul-v Inv-loop μ-loop
-mul-v c = omega arith
-
-wide-requires-2 : tie.Need-wide-requires-2 Inv-loop μ-loop
-wide-requires-2 c κs = search needs
-
-add-v : tie.Need-add-v Inv-loop μ-loop
-add-v c = omega arith
-
 returns-7 : tie.Need-returns-7 Inv-loop μ-loop
 returns-7 c (n, h, e) = let l = c .before .before .before .before .before .before .before .loop in omega (arith, not-over _ (l .i) (l .v) n h e (omega arith) (l .inv .2) (l .inv .3), c .before .wide2 .ensures)
-
-add-i : tie.Need-add-i Inv-loop μ-loop
-add-i c = omega arith
-
-loop-less : tie.Need-loop-less Inv-loop μ-loop
-loop-less c = omega arith
 
 loop-again : tie.Need-loop-again Inv-loop μ-loop
 loop-again c =
@@ -72,9 +48,6 @@ loop-again c =
     let s = c .before .before .before .before .before .before .before .before .before .before .before .before .before .before .args .s .now in
     let d = c .before .wide2 .ensures in
     (omega arith, omega arith, omega arith, rw d (next-digit s (l .i) (l .v) (omega arith) (omega arith, omega arith) (omega arith) (omega arith) (l .inv .3)))
-
-cast-t16 : tie.Need-cast-t16 Inv-loop μ-loop
-cast-t16 c = omega arith
 
 returns-8 : tie.Need-returns-8 Inv-loop μ-loop
 returns-8 c = (omega arith, whole _ (c .before .loop .i) _ (omega arith) (c .before .loop .inv .3))
@@ -86,21 +59,18 @@ read-number-spec =
     Inv-loop
     μ-loop
     returns
-    shared-slice-read-first
+    (λ c. omega arith)
     returns-2
     returns-3
-    wide-requires
+    (λ c κs. search needs)
     loop-holds
-    shared-slice-read-b
+    (λ c. omega arith)
     returns-4
     returns-5
     returns-6
-    mul-v
-    wide-requires-2
-    add-v
+    (λ c. omega arith) (λ c κs. search needs) (λ c. omega arith)
     returns-7
-    add-i
-    loop-less
+    (λ c. omega arith) (λ c. omega arith)
     loop-again
-    cast-t16
+    (λ c. omega arith)
     returns-8)

@@ -1,6 +1,7 @@
--- `spelling::run_end` meets its contract. The invariant: from where the search stands, the byte is as far as it was from the start. Assumes nothing.
+-- `spelling::run_end` meets its contract. The invariant: from where the search is, the byte is as far as it was from the start. Assumes nothing.
 use Prim.Native.Nat.{_+_, _-_}
-use mathlib.Core.Path.{_≡_, refl}
+use mathlib.Core.Path.{_≡_}
+use borrow.Author.Needs.{needs}
 use native.Mathlib.Omega.{arith}
 use lib.ListN.{length, drop}
 use Rattle.spelling.specs.Bytes.{upTo}
@@ -14,26 +15,14 @@ Inv-loop s at stop i₀ i = at + length (upTo stop (drop at s)) ≡ i + length (
 abbrev μ-loop : tie.MeasureT-loop
 μ-loop s at stop i₀ i = length s - i
 
-loop-holds : tie.Need-loop-holds Inv-loop μ-loop
-loop-holds c = refl
-
-shared-slice-read-if1 : tie.Need-shared-slice-read-if1 Inv-loop μ-loop
-shared-slice-read-if1 c = omega arith
-
 returns : tie.Need-returns Inv-loop μ-loop
-returns c = omega (arith, upTo-stop (c .before .before .before .before .args .stop) (c .before .before .before .before .args .s .now) (c .before .before .before .loop .i) (omega arith) (c .if1 .taken))
-
-add-i : tie.Need-add-i Inv-loop μ-loop
-add-i c = omega arith
-
-loop-less : tie.Need-loop-less Inv-loop μ-loop
-loop-less c = omega arith
+returns c = omega (arith, upTo-stop (c .before .before .before .before .before .before .args .stop) (c .before .before .before .before .before .before .args .s .now) (c .before .before .before .loop .i) (omega arith) (c .if1 .taken))
 
 loop-again : tie.Need-loop-again Inv-loop μ-loop
-loop-again c = omega (arith, upTo-at (c .before .before .before .before .args .stop) (c .before .before .before .before .args .s .now) (c .before .before .before .loop .i) (omega arith) (c .if1 .left))
+loop-again c = omega (arith, upTo-at (c .before .before .before .before .before .before .args .stop) (c .before .before .before .before .before .before .args .s .now) (c .before .before .before .loop .i) (omega arith) (c .if1 .left))
 
 returns-2 : tie.Need-returns-2 Inv-loop μ-loop
-returns-2 c = omega (arith, upTo-end (c .before .before .args .stop) (c .before .before .args .s .now) (c .before .loop .i) (omega arith))
+returns-2 c = omega (arith, upTo-end (c .before .before .before .before .args .stop) (c .before .before .before .before .args .s .now) (c .before .loop .i) (omega arith))
 
 pub run-end-spec : {M : Type 1} → statement M
 run-end-spec =
@@ -41,10 +30,8 @@ run-end-spec =
     (tie.spec
     Inv-loop
     μ-loop
-    loop-holds
-    shared-slice-read-if1
+    (λ c κs. search needs) (λ c. c .past-clear .ensures) (λ c. omega arith)
     returns
-    add-i
-    loop-less
+    (λ c. omega arith) (λ c. omega arith)
     loop-again
     returns-2)

@@ -1,0 +1,48 @@
+-- Laws of tests: what a computed Boolean says, and of tests made of others. Assumes nothing.
+use Prim.Native.Nat.{ℕ, _+_, _≤_}
+use mathlib.Core.{Path._≡_, Path.refl, Bool.Bool, Bool.true, Bool.false, Bool.not, Bool._&&_, Bool._||_}
+use mathlib.Core.Logic.{_⊎_, inl, inr, ⊎-elim}
+use native.Mathlib.Omega.{arith}
+use lib.Dec.{leb, eqb}
+use borrow.Author.{Tests.leb-true, Tests.leb-false, Tests.eqb-true, Tests.eqb-false, Count.below-more}
+use Rattle.spelling.specs.Bytes.{Test, Below}
+
+test-at-most : (a b : ℕ) → Test (a ≤ b) (leb a b)
+test-at-most a b = go (leb a b) refl
+  where
+    go : (t : Bool) → leb a b ≡ t → Test (a ≤ b) t
+    go true e = leb-true a b e
+    go false e = let n = leb-false a b e in λ h. omega arith
+
+pub test-same : (a b : ℕ) → Test (a ≡ b) (eqb a b)
+test-same a b = go (eqb a b) refl
+  where
+    go : (t : Bool) → eqb a b ≡ t → Test (a ≡ b) t
+    go true e = eqb-true a b e
+    go false e = eqb-false a b e
+
+pub test-other : (a b : ℕ) → Test (a ≡ b → ⊥) (not (eqb a b))
+test-other a b = go (eqb a b) (test-same a b)
+  where
+    go : (t : Bool) → Test (a ≡ b) t → Test (a ≡ b → ⊥) (not t)
+    go true e = λ n. n e
+    go false n = n
+
+test-both : (A B : Type 0) (t u : Bool) → Test A t → Test B u → Test (A × B) (t && u)
+test-both A B true true a b = (a, b)
+test-both A B true false a b = λ h. b (h .1)
+test-both A B false u a b = λ h. a (h .0)
+
+pub test-within : (a b c : ℕ) → Test ((a ≤ b) × (b ≤ c)) (leb a b && leb b c)
+test-within a b c = test-both (a ≤ b) (b ≤ c) (leb a b) (leb b c) (test-at-most a b) (test-at-most b c)
+
+pub test-either : (A B : Type 0) (t u : Bool) → Test A t → Test B u → Test (A ⊎ B) (t || u)
+test-either A B true u a b = inl a
+test-either A B false true a b = inr b
+test-either A B false false a b = ⊎-elim a b
+
+-- a test of each index below n, and the next
+pub test-more : (P : ℕ → Type 0) (n : ℕ) (t u : Bool) → Test (Below n P) t → Test (P n) u → Test (Below (n + 1) P) (t && u)
+test-more P n true true a b = below-more _ n a b
+test-more P n true false a b = λ h. b (h n (omega arith))
+test-more P n false u a b = λ h. a (λ k l. h k (omega arith))
