@@ -41,8 +41,8 @@ use Rattle.protocol.proofs.Cases.{yields, takes, Case, refuses, makes, 
 use Rattle.protocol.proofs.Keep.{EffectFits, made-fits}
 use Rattle.protocol.proofs.Order.Log.{more, all-map, Touches, Reading, Extends}
 use Rattle.protocol.proofs.Order.Versions.{Spot, atManager, atWriteback, atCopy, atSlot, kind, HeldBy, Elsewhere, not-here, mine, newest}
-use Rattle.protocol.proofs.Order.Versions.{Newest, version, IsAt, here, carry, goes-to, quiet, write-version, write-marks, write-past}
-use Rattle.protocol.proofs.Order.Versions.{Written, marks-stay, MarksAgree, lease-of, lease-renewed, reads-snapshot, reads-newest, reads-mine}
+use Rattle.protocol.proofs.Order.Versions.{Newest, version, IsAt, here, carry, goes-to, quiet, write-version, write-marks, write-past, Written}
+use Rattle.protocol.proofs.Order.Versions.{marks-stay, MarksAgree, lease-of, lease-renewed, reads-snapshot, reads-newest, reads-mine}
 use Rattle.protocol.proofs.Order.Look.{LineCell, Value, cells, marks, look, viewCopy, viewManager, viewWriteback, granted, view-at, view-none}
 use Rattle.protocol.proofs.Order.Look.{SpeaksOf, SlotStep}
 use Rattle.protocol.proofs.Order.Rows.{read-within, lease-grows, read-after, read-clocked, read-version, shared-version, shared-within}
