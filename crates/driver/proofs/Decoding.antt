@@ -6,17 +6,12 @@ use mathlib.Core.List.{[]}
 use native.Mathlib.Omega.{arith}
 use lib.ListN.{length, take, drop, length-drop}
 use lib.Seq.{length-take-le}
-use Rattle.protocol.specs.Buffers.{Bytes, part}
-use Rattle.protocol.specs.Step.{commitBytes}
-use Rattle.protocol.specs.declared.Call.{Call}
-use Rattle.protocol.specs.declared.Call.the-variants.{Load, Store, Fence, Evict, Advance, Serve, Receive, Yield, Take}
-use Rattle.spelling.specs.Hex.{IsData}
-use Rattle.spelling.specs.Over.{over, DecodedOf, decoded, noRoom, noData}
-use Rattle.spelling.specs.declared.Decoded.{Decoded}
+use Rattle.protocol.specs.{Buffers.Bytes, Buffers.part, Step.actBytes, declared.Act.Act}
+use Rattle.protocol.specs.declared.Act.the-variants.{Load, Store, Fence, Advance, Transfer}
+use Rattle.spelling.specs.{Hex.IsData, Over.over, Over.DecodedOf, Over.decoded, Over.noRoom, Over.noData, declared.Decoded.Decoded}
 use Rattle.spelling.specs.declared.Decoded.the-variants.{Bytes as Spelt, Wrong, NoRoom}
 use Rattle.spelling.proofs.HexLaws.{spells-length}
-use Rattle.driver.specs.Listing.{Data, noData as without, someData}
-use Rattle.driver.specs.Pieces.{isStore, Digits, Decodes}
+use Rattle.driver.specs.{Listing.Data, Listing.noData as without, Listing.someData, Pieces.isStore, Pieces.Digits, Pieces.Decodes}
 use Rattle.driver.proofs.Putting.{over-written}
 
 -- no digits
@@ -60,24 +55,16 @@ decodes-right {j} {start = start} {end = end} d n (noData k e) x =
 
 -- ---- the bytes beside an answer: those given to a store, and the copy's of any other call
 
-pub store-bytes : (call : Call) (given copy : Bytes) → isStore call ≡ true → commitBytes call given copy ≡ given
-store-bytes (Store c l) g x e = refl
-store-bytes (Load c l) g x e = absurd (let z : _≡_ {A = ℕ} 0 1 = cc in omega arith)
-store-bytes (Fence c) g x e = absurd (let z : _≡_ {A = ℕ} 0 1 = cc in omega arith)
-store-bytes (Evict c l) g x e = absurd (let z : _≡_ {A = ℕ} 0 1 = cc in omega arith)
-store-bytes (Advance c n) g x e = absurd (let z : _≡_ {A = ℕ} 0 1 = cc in omega arith)
-store-bytes (Serve c) g x e = absurd (let z : _≡_ {A = ℕ} 0 1 = cc in omega arith)
-store-bytes (Receive c) g x e = absurd (let z : _≡_ {A = ℕ} 0 1 = cc in omega arith)
-store-bytes (Yield l) g x e = absurd (let z : _≡_ {A = ℕ} 0 1 = cc in omega arith)
-store-bytes (Take l) g x e = absurd (let z : _≡_ {A = ℕ} 0 1 = cc in omega arith)
+pub store-bytes : (t : Act) (given copy : Bytes) → isStore t ≡ true → actBytes t given copy ≡ given
+store-bytes Store g x e = refl
+store-bytes Load g x e = absurd (let z : _≡_ {A = ℕ} 0 1 = cc in omega arith)
+store-bytes Fence g x e = absurd (let z : _≡_ {A = ℕ} 0 1 = cc in omega arith)
+store-bytes (Advance n) g x e = absurd (let z : _≡_ {A = ℕ} 0 1 = cc in omega arith)
+store-bytes Transfer g x e = absurd (let z : _≡_ {A = ℕ} 0 1 = cc in omega arith)
 
-pub copy-bytes : (call : Call) (given copy : Bytes) → isStore call ≡ false → commitBytes call given copy ≡ copy
-copy-bytes (Store c l) g x e = absurd (let z : _≡_ {A = ℕ} 0 1 = cc in omega arith)
-copy-bytes (Load c l) g x e = refl
-copy-bytes (Fence c) g x e = refl
-copy-bytes (Evict c l) g x e = refl
-copy-bytes (Advance c n) g x e = refl
-copy-bytes (Serve c) g x e = refl
-copy-bytes (Receive c) g x e = refl
-copy-bytes (Yield l) g x e = refl
-copy-bytes (Take l) g x e = refl
+pub copy-bytes : (t : Act) (given copy : Bytes) → isStore t ≡ false → actBytes t given copy ≡ copy
+copy-bytes Store g x e = absurd (let z : _≡_ {A = ℕ} 0 1 = cc in omega arith)
+copy-bytes Load g x e = refl
+copy-bytes Fence g x e = refl
+copy-bytes (Advance n) g x e = refl
+copy-bytes Transfer g x e = refl

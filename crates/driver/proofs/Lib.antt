@@ -1,8 +1,9 @@
 -- Laws that more than one proof cites.
 pub mod Reading
+pub mod Counting
 pub mod Running
 pub mod Putting
-pub mod Turning
-pub mod Going
+pub mod Stepping
+pub mod Loop
 pub mod Decoding
 pub mod Starting

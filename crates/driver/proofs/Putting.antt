@@ -7,15 +7,12 @@ use native.Mathlib.Omega.{arith}
 use lib.ListN.{length, take, drop, length-append, length-take, length-drop}
 use lib.Seq.{drop-at, take-at}
 use borrow.Author.Tests.{leb-true, leb-false}
-use Rattle.protocol.specs.Buffers.{Bytes}
-use Rattle.spelling.specs.Over.{fits, over, PutAt}
-use Rattle.protocol.specs.Step.{refused, meaning}
-use Rattle.protocol.specs.declared.Answer.the-variants.{Refused}
-use Rattle.protocol.specs.declared.Place.{Place}
-use Rattle.spelling.specs.declared.Put.{Put}
-use Rattle.spelling.specs.declared.Put.the-variants.{End, Short}
+use Rattle.protocol.specs.{Buffers.Bytes, Step.refused, Step.meaning, declared.Answer.the-variants.Refused, Run.place}
+use Rattle.protocol.specs.declared.{Place.Place, Counts.Counts}
+use Rattle.spelling.specs.{Over.fits, Over.over, Over.PutAt, declared.Put.Put, declared.Put.the-variants.End, declared.Put.the-variants.Short}
 use Rattle.listing.specs.Record.{recordText, endText}
 use Rattle.listing.proofs.Lengths.{record-length, end-length}
+use Rattle.driver.specs.Listing.{stopLines}
 
 -- a text that was put: the place after it, the output up to there, and the output past it
 pub record Written (old : Bytes) (at : ℕ) (t new : Bytes) (e : ℕ) : Type 0 where
@@ -62,22 +59,28 @@ pub refused-length : (p : Place) (n : ℕ) → length (recordText p (refused n))
 unfolding meaning
 refused-length p n = omega (arith, record-length p (Refused n) [])
 
-module _ {old : Bytes} (p : Place) (n a b c : ℕ) (size : length old ≡ 256) where
-  -- the first of them has room in a buffer of 256 bytes
-  pub first-fits : {new : Bytes} {r : Put} → PutAt old 0 (recordText p (refused n)) new r → r ≡ Short → ⊥
-  first-fits w e = let h = put-short w e in omega (arith, h .0, refused-length p n)
+abbrev stopLine : Counts → ℕ → Bytes
+stopLine k n = recordText (place (k .steps)) (refused n)
 
-  module _ {mid : Bytes} {r : Put} {e : ℕ} (w : PutAt old 0 (recordText p (refused n)) mid r) (h : r ≡ End e) where
-    one : Written old 0 (recordText p (refused n)) mid e
+module _ {old : Bytes} (k : Counts) (n : ℕ) (size : length old ≡ 256) where
+  -- the first of them has room in a buffer of 256 bytes
+  pub first-fits : {new : Bytes} {r : Put} → PutAt old 0 (stopLine k n) new r → r ≡ Short → ⊥
+  first-fits w e = let h = put-short w e in omega (arith, h .0, refused-length (place (k .steps)) n)
+
+  module _ {mid : Bytes} {r : Put} {e : ℕ} (w : PutAt old 0 (stopLine k n) mid r) (h : r ≡ End e) where
+    one : Written old 0 (stopLine k n) mid e
     one = put-written w h
 
     -- and so has the other
-    pub second-fits : {new : Bytes} {q : Put} → PutAt mid e (endText a b c) new q → q ≡ Short → ⊥
-    second-fits v x = let k = put-short v x in omega (arith, k .0, refused-length p n, end-length a b c, one .end, one .size)
+    pub second-fits : {new : Bytes} {q : Put} → PutAt mid e (endText k) new q → q ≡ Short → ⊥
+    second-fits v x = let s = put-short v x in omega (arith, s .0, refused-length (place (k .steps)) n, end-length k, one .end, one .size)
 
-    pub last-place : {new : Bytes} {q : Put} {f : ℕ} → PutAt mid e (endText a b c) new q → q ≡ End f → f ≤ length new
-    last-place v x = let k = put-written v x in omega (arith, k .room, k .end, k .size)
+    pub last-place : {new : Bytes} {q : Put} {f : ℕ} → PutAt mid e (endText k) new q → q ≡ End f → f ≤ length new
+    last-place v x = let s = put-written v x in omega (arith, s .room, s .end, s .size)
 
     -- the text up to the place after both
-    pub last-text : {new : Bytes} {q : Put} {f : ℕ} → PutAt mid e (endText a b c) new q → q ≡ End f → take (f - 0) new ≡ recordText p (refused n) ++ endText a b c
-    last-text {new} {f = f} v x = let k = put-written v x in let z : f - 0 ≡ f = omega arith in ap (λ (i : ℕ). take i new) z ∙ k .before ∙ ap (λ (l : Bytes). l ++ endText a b c) (one .before)
+    pub last-text : {new : Bytes} {q : Put} {f : ℕ} → PutAt mid e (endText k) new q → q ≡ End f → take (f - 0) new ≡ stopLines k n
+    last-text {new} {f = f} v x =
+        let s = put-written v x in
+        let z : f - 0 ≡ f = omega arith in
+        ap (λ (i : ℕ). take i new) z ∙ s .before ∙ ap (λ (l : Bytes). l ++ endText k) (one .before)

@@ -3,19 +3,15 @@ use Prim.Native.Nat.{ℕ, suc, _+_, _-_}
 use mathlib.Core.Path.{_≡_, refl, sym, _∙_, ap}
 use mathlib.Core.List.{List, [], _∷_, _++_, append-assoc, append-nil}
 use native.Mathlib.Omega.{arith}
-use native.Mathlib.Nat.{add-assoc, add-zero}
-use lib.ListN.{length, length-append}
-use Rattle.protocol.specs.Buffers.{Bytes, part}
-use Rattle.protocol.specs.Machine.{Machine, machine}
-use Rattle.protocol.specs.Step.{Reply, step}
-use Rattle.protocol.specs.Run.{Given, Record, place, run}
-use Rattle.protocol.specs.declared.Call.{Call}
-use Rattle.journal.specs.Journal.{NextOf}
-use Rattle.journal.specs.declared.Next.the-variants.{Step}
+use lib.ListN.{length}
+use Rattle.protocol.specs.{Buffers.Bytes, Buffers.part, Machine.Machine, Machine.machine, Step.Reply, Step.step}
+use Rattle.protocol.specs.{Run.Given, Run.Record, Run.place, Run.run, Counts.countsOf, Counts.plus, Counts.total}
+use Rattle.protocol.specs.declared.{Call.Call, Counts.Counts}
+use Rattle.journal.specs.{Journal.NextOf, declared.Next.the-variants.Step}
 use Rattle.listing.specs.Record.{recordText}
-use Rattle.driver.specs.Listing.{Data, Between, noLine, aLine, lines, isCommit, isRefusal, count, Counts, counted}
-use Rattle.driver.specs.Play.{countsOf, runFrom, Leads}
-use Rattle.driver.specs.declared.Standing.{Standing}
+use Rattle.driver.specs.{Listing.Data, Listing.Between, Listing.noLine, Listing.aLine, Listing.lines, Play.runFrom, Play.Leads}
+use Rattle.driver.specs.declared.Checkpoint.{Checkpoint}
+use Rattle.driver.proofs.Counting.{plus-assoc, plus-none, total-append, total-steps}
 
 -- ---- one list of steps after another
 
@@ -28,11 +24,6 @@ pub lines-append : (rs ts : List Record) → lines (rs ++ ts) ≡ lines rs ++ li
 unfolding lines
 lines-append [] ts = refl
 lines-append (r ∷ rs) ts = ap (λ (l : Bytes). recordText (r .place) (r .reply) ++ l) (lines-append rs ts) ∙ sym (append-assoc (recordText (r .place) (r .reply)) (lines rs) (lines ts))
-
-count-append : (f : Reply → ℕ) (rs ts : List Record) → count f (rs ++ ts) ≡ count f rs + count f ts
-unfolding count
-count-append f [] ts = omega arith
-count-append f (r ∷ rs) ts = omega (arith, count-append f rs ts)
 
 pub run-records : (gs hs : List Given) (p : ℕ) (m : Machine) → run (gs ++ hs) p m .records ≡ run gs p m .records ++ run hs (p + length gs) (run gs p m .last) .records
 unfolding run
@@ -53,62 +44,56 @@ unfolding run
 run-length [] p m = refl
 run-length (g ∷ gs) p m = ap suc (run-length gs (suc p) (step m (g .call) (g .bytes) .machine))
 
-pub counted-append : (k : Counts) (rs ts : List Record) → counted (counted k rs) ts ≡ counted k (rs ++ ts)
-counted-append k rs ts =
-    rw (length-append rs ts, count-append isCommit rs ts, count-append isRefusal rs ts, add-assoc, add-assoc, add-assoc)
+-- ---- from one checkpoint to another
 
--- ---- from one standing to another
+pub leads-none : (j : Bytes) (s : Checkpoint) (p q : Bytes) → Leads j s p q [] s p q
+unfolding run total
+leads-none j s p q = record { steps = noLine; form = refl; machine = refl; counts = sym (plus-none (s .counts)) }
 
-pub leads-none : (j : Bytes) (s : Standing) (p q : Bytes) → Leads j s p q [] s p q
-unfolding run count
-leads-none j s p q =
-    record { steps = noLine; form = refl; machine = refl; counts = rw (add-zero, add-zero, add-zero) }
-
--- a call with its bytes, and the record of it at a standing
+-- a call with its bytes, and the record of it at a checkpoint
 abbrev pub given : Call → Bytes → Given
 given call bs = record { call = call; bytes = bs }
 
-abbrev recordAt : Standing → Bytes → Bytes → Call → Bytes → Record
-recordAt b p q call bs = record { place = place (b .steps + 1); given = given call bs; reply = step (machine (b .state) p q) call bs .reply }
+abbrev recordAt : Checkpoint → Bytes → Bytes → Call → Bytes → Record
+recordAt b p q call bs = record { place = place (b .counts .steps + 1); given = given call bs; reply = step (machine (b .state) p q) call bs .reply }
 
 -- a step more
-module _ {j : Bytes} {a b : Standing} {p q p' q' : Bytes} {gs : List Given} (l : Leads j a p q gs b p' q') (call : Call) (bs : Bytes) where
-  records-more : runFrom a p q (gs ++ (given call bs ∷ [])) .records ≡ runFrom a p q gs .records ++ (recordAt b p' q' call bs ∷ [])
+module _ {j : Bytes} {a b : Checkpoint} {p q p' q' : Bytes} {gs : List Given} (l : Leads j a p q gs b p' q') (call : Call) (bs : Bytes) where
+  abbrev reply : Reply
+  reply = step (machine (b .state) p' q') call bs .reply
+
+  abbrev before : List Record
+  before = runFrom a p q gs .records
+
+  records-more : runFrom a p q (gs ++ (given call bs ∷ [])) .records ≡ before ++ (recordAt b p' q' call bs ∷ [])
   unfolding run
   records-more =
-      let k : a .steps + 1 + length gs ≡ b .steps + 1 =
-      omega (arith, run-length gs (a .steps + 1) (machine (a .state) p q), ap (λ (c : Counts). c .steps) (l .counts)) in
-      run-records gs (given call bs ∷ []) (a .steps + 1) (machine (a .state) p q) ∙ rw (k, ← l .machine)
+      let k : a .counts .steps + 1 + length gs ≡ b .counts .steps + 1 =
+      omega (arith, run-length gs (a .counts .steps + 1) (machine (a .state) p q), total-steps before, ap (λ (c : Counts). c .steps) (l .counts)) in
+      run-records gs (given call bs ∷ []) (a .counts .steps + 1) (machine (a .state) p q) ∙ rw (k, ← l .machine)
 
-  pub lines-more : lines (runFrom a p q (gs ++ (given call bs ∷ [])) .records) ≡ lines (runFrom a p q gs .records) ++ recordText (place (b .steps + 1)) (step (machine (b .state) p' q') call bs .reply)
+  pub lines-more : lines (runFrom a p q (gs ++ (given call bs ∷ [])) .records) ≡ lines before ++ recordText (place (b .counts .steps + 1)) reply
   unfolding lines
   lines-more =
-      ap lines records-more ∙ lines-append (runFrom a p q gs .records) (recordAt b p' q' call bs ∷ [])
-      ∙ ap (λ (t : Bytes). lines (runFrom a p q gs .records) ++ t) (append-nil (recordText (place (b .steps + 1)) (step (machine (b .state) p' q') call bs .reply)))
+      ap lines records-more ∙ lines-append before (recordAt b p' q' call bs ∷ [])
+      ∙ ap (λ (t : Bytes). lines before ++ t) (append-nil (recordText (place (b .counts .steps + 1)) reply))
+
+  counts-more : plus (b .counts) (countsOf call reply) ≡ plus (a .counts) (total (runFrom a p q (gs ++ (given call bs ∷ [])) .records))
+  unfolding total
+  counts-more =
+      ap (λ (k : Counts). plus k (countsOf call reply)) (l .counts) ∙ plus-assoc (a .counts) (total before) (countsOf call reply)
+      ∙ ap (plus (a .counts))
+      (ap (plus (total before)) (sym (plus-none (countsOf call reply))) ∙ sym (ap total records-more ∙ total-append before (recordAt b p' q' call bs ∷ [])))
 
   pub leads-more :
-      (d : Standing) (x y : Bytes) {start end : ℕ} → NextOf j (b .at) (b .form) (Step call start end (d .at)) → Data (part j start (end - start)) bs
-      → d .form ≡ b .form → machine (d .state) x y ≡ step (machine (b .state) p' q') call bs .machine → d .steps ≡ b .steps + 1
-      → d .commits ≡ b .commits + isCommit (step (machine (b .state) p' q') call bs .reply)
-      → d .refusals ≡ b .refusals + isRefusal (step (machine (b .state) p' q') call bs .reply)
+      (d : Checkpoint) (x y : Bytes) {start end : ℕ} → NextOf j (b .at) (b .form) (Step call start end (d .at)) → Data (part j start (end - start)) bs
+      → d .form ≡ b .form → machine (d .state) x y ≡ step (machine (b .state) p' q') call bs .machine → d .counts ≡ plus (b .counts) (countsOf call reply)
       → Leads j a p q (gs ++ (given call bs ∷ [])) d x y
-  unfolding run count
-  leads-more d x y n g ef em es ec er =
+  unfolding run
+  leads-more d x y n g ef em ek =
       record {
         steps = steps-append (l .steps) (aLine (rw (l .form) at n) g noLine);
         form = ef ∙ l .form;
-        machine = em ∙ sym (run-last gs (given call bs ∷ []) (a .steps + 1) (machine (a .state) p q) ∙ rw (← l .machine));
-        counts =
-            rw (es, ec, er)
-            (one ∙ ap (λ (k : Counts). counted k (recordAt b p' q' call bs ∷ [])) (l .counts)
-            ∙ counted-append (countsOf a) (runFrom a p q gs .records) (recordAt b p' q' call bs ∷ []) ∙ ap (counted (countsOf a)) (sym records-more));
+        machine = em ∙ sym (run-last gs (given call bs ∷ []) (a .counts .steps + 1) (machine (a .state) p q) ∙ rw (← l .machine));
+        counts = ek ∙ counts-more;
       }
-    where
-      one :
-          record {
-            steps = b .steps + 1;
-            commits = b .commits + isCommit (step (machine (b .state) p' q') call bs .reply);
-            refusals = b .refusals + isRefusal (step (machine (b .state) p' q') call bs .reply);
-          }
-          ≡ counted (countsOf b) (recordAt b p' q' call bs ∷ [])
-      one = rw (add-zero (isCommit (step (machine (b .state) p' q') call bs .reply)), add-zero (isRefusal (step (machine (b .state) p' q') call bs .reply)))

@@ -3,26 +3,14 @@ use Prim.Native.Nat.{ℕ}
 use mathlib.Core.Path.{_≡_, refl, subst}
 use mathlib.Core.Bool.{Bool, true, false}
 use native.Mathlib.Omega.{arith}
-use Rattle.protocol.specs.Pick.{first}
-use Rattle.protocol.specs.Limits.{openingFits}
-use Rattle.protocol.specs.Buffers.{Bytes}
-use Rattle.protocol.specs.Refusals.{openRefusal}
-use Rattle.protocol.specs.Step.{«open», done, openReply}
-use Rattle.protocol.specs.Run.{place}
-use Rattle.protocol.specs.declared.Opening.{Opening as Sizes}
-use Rattle.spelling.specs.Over.{PutAt}
-use Rattle.spelling.specs.declared.Put.{Put}
-use Rattle.spelling.specs.declared.Put.the-variants.{End, Short}
-use Rattle.journal.specs.Journal.{NextOf}
-use Rattle.journal.specs.declared.Next.the-variants.{Opening}
+use Rattle.protocol.specs.{Pick.first, Limits.openingFits, Buffers.Bytes, Refusals.openRefusal, Step.done, Step.openReply, Run.place}
+use Rattle.protocol.specs.{declared.Opening.Opening as Sizes, declared.Name.the-variants.Open}
+use Rattle.spelling.specs.{Over.PutAt, declared.Put.Put, declared.Put.the-variants.End, declared.Put.the-variants.Short}
+use Rattle.journal.specs.{Journal.NextOf, declared.Next.the-variants.Opening}
 use Rattle.listing.specs.Record.{recordText}
-use Rattle.driver.specs.Listing.{NotOpened, outside, notOpened}
-use Rattle.driver.specs.Play.{Begins, opens, fails, noRoom, noRoomToEnd, Starts}
-use Rattle.driver.specs.Pieces.{Puts, turnedBy, openedBy}
-use Rattle.driver.specs.declared.Standing.{Standing}
-use Rattle.driver.specs.declared.Progress.{Progress}
-use Rattle.driver.specs.declared.Progress.the-variants.{More}
-use Rattle.driver.specs.declared.Played.{Played}
+use Rattle.driver.specs.{Listing.NotOpened, Listing.outside, Listing.notOpened, Pieces.Puts, Pieces.refusedBy, Pieces.openedBy}
+use Rattle.driver.specs.{Play.Begins, Play.opens, Play.fails, Play.noRoom, Play.noRoomToEnd, Play.Starts, declared.Checkpoint.Checkpoint}
+use Rattle.driver.specs.{declared.Progress.Progress, declared.Progress.the-variants.More, declared.Played.Played}
 use Rattle.driver.proofs.Putting.{put-written, put-short}
 
 -- what the test of the limits says of 7
@@ -35,13 +23,13 @@ unfolding openRefusal first
 open-outside o e = rw e
 
 -- sizes or lease outside the limits
-pub turned-outside : {j : Bytes} {form next : ℕ} {o : Sizes} → NextOf j 0 0 (Opening form o next) → openingFits o ≡ false → NotOpened j 7
-turned-outside {j} {o = o} x e =
+pub outside-limits : {j : Bytes} {form next : ℕ} {o : Sizes} → NextOf j 0 0 (Opening form o next) → openingFits o ≡ false → NotOpened j 7
+outside-limits {j} {o = o} x e =
     let n = open-outside o e in subst (NotOpened j) n (outside x (λ z. omega (arith, n, z)))
 
 -- no engine is opened
-module _ {j old new : Bytes} {n : ℕ} {r : Played} (x : NotOpened j n) (u : Puts (notOpened n) turnedBy old new r) where
-  away : (p : Put) → PutAt old 0 (notOpened n) new p → r ≡ turnedBy p → Starts j old new r
+module _ {j old new : Bytes} {n : ℕ} {r : Played} (x : NotOpened j n) (u : Puts (notOpened n) refusedBy old new r) where
+  away : (p : Put) → PutAt old 0 (notOpened n) new p → r ≡ refusedBy p → Starts j old new r
   away (End e) w f =
       let v = put-written w refl in
       rw f (record { size = v .size; within = omega (arith, v .room, v .end, v .size); beyond = v .beyond; begins = fails x refl (v .before) })
@@ -49,12 +37,12 @@ module _ {j old new : Bytes} {n : ℕ} {r : Played} (x : NotOpened j n) (u : Put
       let h = put-short w refl in
       rw (f, h .1) (record { size = refl; within = omega arith; beyond = refl; begins = noRoomToEnd x refl refl (omega (arith, h .0)) })
 
-  pub starts-away : Starts j old new r
-  starts-away = away (u .put) (u .text) (u .played)
+  pub starts-refused : Starts j old new r
+  starts-refused = away (u .put) (u .text) (u .played)
 
 -- an engine is opened
-module _ {j old new : Bytes} {form next : ℕ} {o : Sizes} {r : Played} (x : NextOf j 0 0 (Opening form o next)) (f : openingFits o ≡ true) (u : Puts (recordText (place 0) (done «open»)) (openedBy next form o) old new r) where
-  reply : openReply o ≡ done «open»
+module _ {j old new : Bytes} {form next : ℕ} {o : Sizes} {r : Played} (x : NextOf j 0 0 (Opening form o next)) (f : openingFits o ≡ true) (u : Puts (recordText (place 0) (done Open)) (openedBy next form o) old new r) where
+  reply : openReply o ≡ done Open
   reply = rw (open-fits o f)
 
   begun : (p : Put) → PutAt old 0 (recordText (place 0) (openReply o)) new p → r ≡ openedBy next form o p → Starts j old new r
@@ -70,7 +58,7 @@ module _ {j old new : Bytes} {form next : ℕ} {o : Sizes} {r : Played} (x : Nex
 
 -- ---- what a caller of `start` knows
 
-begun-fits : {j : Bytes} {there : Standing} {text : Bytes} {room : ℕ} {g : Progress} → Begins j there text room g → g ≡ More → openingFits (there .state .opening) ≡ true
+begun-fits : {j : Bytes} {there : Checkpoint} {text : Bytes} {room : ℕ} {g : Progress} → Begins j there text room g → g ≡ More → openingFits (there .state .opening) ≡ true
 begun-fits (opens {o = o} x h t u) e = rw t (go (openingFits o) refl)
   where
     go : (b : Bool) → openingFits o ≡ b → openingFits o ≡ true
@@ -81,5 +69,5 @@ begun-fits (noRoom x h t u r) e = absurd (let z : _≡_ {A = ℕ} 0 1 = cc in om
 begun-fits (noRoomToEnd n t u r) e = absurd (let z : _≡_ {A = ℕ} 0 1 = cc in omega arith)
 
 -- the sizes and the lease of the engine that is opened lie inside the limits
-pub start-fits : {j old new : Bytes} {r : Played} → Starts j old new r → r .progress ≡ More → openingFits (r .standing .state .opening) ≡ true
+pub start-fits : {j old new : Bytes} {r : Played} → Starts j old new r → r .progress ≡ More → openingFits (r .checkpoint .state .opening) ≡ true
 start-fits s e = begun-fits (s .begins) e

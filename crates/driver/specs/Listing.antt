@@ -1,15 +1,10 @@
 -- What the listing of a journal is made of: 01, "Journal and driver". The steps that a journal spells, the text of their records, and the
 -- last lines, whose counts are those of the records.
-use Prim.Native.Nat.{ℕ, _+_, _-_}
+use Prim.Native.Nat.{ℕ, _-_}
 use mathlib.Core.Path.{_≡_}
 use mathlib.Core.List.{List, [], _∷_, _++_}
-use lib.ListN.{length}
-use Rattle.protocol.specs.Buffers.{Bytes, part}
-use Rattle.protocol.specs.Refusals.{openRefusal}
-use Rattle.protocol.specs.Step.{Reply, refused, done, commit}
-use Rattle.protocol.specs.Run.{Given, Record, place}
-use Rattle.protocol.specs.declared.Opening.{Opening as Sizes}
-use Rattle.protocol.specs.declared.Call.{Call}
+use Rattle.protocol.specs.{Buffers.Bytes, Buffers.part, Refusals.openRefusal, Step.refused, Run.Given, Run.Record, Run.place}
+use Rattle.protocol.specs.{Counts.counts, Counts.plus, declared.Opening.Opening as Sizes, declared.Call.Call, declared.Counts.Counts}
 use Rattle.spelling.specs.Hex.{Spells}
 use Rattle.journal.specs.Journal.{NextOf}
 use Rattle.journal.specs.declared.Next.the-variants.{Opening, Step, End, Refused}
@@ -47,44 +42,14 @@ unfoldable pub lines : List Record → Bytes
 lines [] = []
 lines (r ∷ rs) = recordText (r .place) (r .reply) ++ lines rs
 
--- 1 for an answer that is a commit, and 0 for any other
-abbrev pub isCommit : Reply → ℕ
-isCommit (refused n) = 0
-isCommit (done d) = 0
-isCommit (commit c t o) = 1
+-- "Numbers 7 and 10 to 14 end the run, after `refused=` and the end line": k counts that line, and its place is the last
+abbrev pub stopLines : Counts → ℕ → Bytes
+stopLines k n = recordText (place (k .steps)) (refused n) ++ endText k
 
--- 1 for a refusal, and 0 for any other
-abbrev pub isRefusal : Reply → ℕ
-isRefusal (refused n) = 1
-isRefusal (done d) = 0
-isRefusal (commit c t o) = 0
-
--- how many records are of a kind
-unfoldable pub count : (Reply → ℕ) → List Record → ℕ
-count f [] = 0
-count f (r ∷ rs) = f (r .reply) + count f rs
-
--- what was met so far: step lines, commits, `refused=` lines
-pub record Counts : Type 0 where
-  pub steps : ℕ
-  pub commits : ℕ
-  pub refusals : ℕ
-
--- the same with the records of a run
-abbrev pub counted : Counts → List Record → Counts
-counted k rs =
-    record { steps = k .steps + length rs; commits = k .commits + count isCommit rs; refusals = k .refusals + count isRefusal rs }
-
--- "The end line counts step lines met, the one that ends the run too, commits, and `refused=` lines above it."
-abbrev pub endLine : Counts → Bytes
-endLine k = endText (k .steps) (k .commits) (k .refusals)
-
--- "Numbers 7 and 10 to 14 end the run, after `refused=` and the end line": after the steps counted in k
+-- "The end line counts step lines met, the one that ends the run too": after the steps counted in k
 abbrev pub lastLines : Counts → Ending → Bytes
-lastLines k ended = endLine k
-lastLines k (stopped n) =
-    recordText (place (k .steps + 1)) (refused n)
-    ++ endLine (record { steps = k .steps + 1; commits = k .commits; refusals = k .refusals + 1 })
+lastLines k ended = endText k
+lastLines k (stopped n) = stopLines (plus k (counts 1 0 1)) n
 
 -- no engine is opened: the first line's sizes or lease lie outside the limits (7); or the first line is refused (10 to 12), the input is
 -- empty (11) or over 65,536 bytes (14)
@@ -94,4 +59,4 @@ pub data NotOpened (journal : Bytes) : ℕ → Type 0 where
 
 -- the whole listing then: "n=0, end=0"
 abbrev pub notOpened : ℕ → Bytes
-notOpened n = recordText (place 0) (refused n) ++ endText 0 0 1
+notOpened n = stopLines (counts 0 0 1) n

@@ -1,33 +1,24 @@
--- The parts of one turn of the driver's loop: the bytes of a step, where a run stands, how far a call came.
-use Prim.Native.Nat.{ℕ, _-_, _≤_}
+-- The parts of the driver's loop: what is due at a place, the bytes of a step, the bytes beside an answer, how far a call came.
+use Prim.Native.Nat.{ℕ, _+_, _-_, _≤_, _<_}
 use mathlib.Core.Path.{_≡_}
 use mathlib.Core.Bool.{Bool, true, false}
 use lib.ListN.{length, take}
-use Rattle.protocol.specs.Buffers.{Bytes, part}
-use Rattle.protocol.specs.declared.Opening.{Opening as Sizes}
-use Rattle.protocol.specs.declared.State.{State}
-use Rattle.protocol.specs.declared.Call.{Call}
-use Rattle.protocol.specs.declared.Call.the-variants.{Load, Store, Fence, Evict, Advance, Serve, Receive, Yield, Take}
-use Rattle.spelling.specs.declared.Put.{Put}
-use Rattle.spelling.specs.declared.Put.the-variants.{End, Short}
-use Rattle.spelling.specs.Over.{PutAt}
-use Rattle.driver.specs.Listing.{Data}
-use Rattle.driver.specs.Play.{opened, nowhere}
-use Rattle.driver.specs.declared.Standing.{Standing}
-use Rattle.driver.specs.declared.Progress.the-variants.{Done, More, Short as TooShort}
-use Rattle.driver.specs.declared.Played.{Played}
+use Rattle.protocol.specs.{Pick.pick, Buffers.Bytes, Buffers.part, Buffers.copyStart, Refusals.callRefusal, Refusals.orElse, Run.place}
+use Rattle.protocol.specs.Step.{meaning, actBytes}
+use Rattle.protocol.specs.declared.{Opening.Opening as Sizes, State.State, Call.Call, Act.Act, Answer.Answer, Counts.Counts}
+use Rattle.protocol.specs.declared.Act.the-variants.{Load, Store, Fence, Advance, Transfer}
+use Rattle.spelling.specs.{declared.Put.Put, declared.Put.the-variants.End as PutEnd, declared.Put.the-variants.Short, Over.PutAt}
+use Rattle.journal.specs.{Journal.NextOf, declared.Next.the-variants.Step as StepLine}
+use Rattle.buffers.specs.Moves.{placeFits}
+use Rattle.listing.specs.Record.{recordText}
+use Rattle.tables.specs.{Spans.spanOf, declared.Span.Span}
+use Rattle.driver.specs.{Listing.Ending, Listing.ended, Listing.stopped, Listing.Data, Listing.EndsAt, Play.firstCheckpoint, Play.unopened}
+use Rattle.driver.specs.declared.{Checkpoint.Checkpoint, Played.Played, Last.Last, Due.Due}
+use Rattle.driver.specs.declared.Progress.the-variants.{Finished, More, Short as TooShort}
+use Rattle.driver.specs.declared.Last.the-variants.{End, Refused}
+use Rattle.driver.specs.declared.Due.the-variants.{Step, Last as AtLast}
 
--- the call is a store
-abbrev pub isStore : Call → Bool
-isStore (Load c l) = false
-isStore (Store c l) = true
-isStore (Fence c) = false
-isStore (Evict c l) = false
-isStore (Advance c n) = false
-isStore (Serve c) = false
-isStore (Receive c) = false
-isStore (Yield l) = false
-isStore (Take l) = false
+-- ---- what is due
 
 -- the digits of a step of the journal lie in it, and spell bytes that have room in a line's
 pub record Digits (journal : Bytes) (start end : ℕ) : Type 0 where
@@ -42,14 +33,66 @@ pub record Decodes (digits buf : Bytes) (n : ℕ) : Type 0 where
   pub fits : n ≤ length buf
   pub spelt : Data digits (take n buf)
 
--- a standing, from its parts
-abbrev pub standingAt : ℕ → ℕ → ℕ → ℕ → ℕ → State → Standing
-standingAt at form steps commits refusals s = record { at = at; form = form; steps = steps; commits = commits; refusals = refusals; state = s }
+-- how a journal ends
+abbrev pub endingOf : Last → Ending
+endingOf End = ended
+endingOf (Refused n) = stopped n
 
--- how far a call came whose next piece was put, or had no room
-abbrev pub playedBy : Put → ℕ → Standing → Played
-playedBy (End e) used s = record { progress = Done; written = e; standing = s }
-playedBy Short used s = record { progress = More; written = used; standing = s }
+-- the number of a refused line is a byte
+abbrev pub Numbered : Last → Type 0
+Numbered End = Unit {0}
+Numbered (Refused n) = n < 256
+
+-- a step at a place of a journal: the step's bytes are the first `count` of the buffer, and n is the first of 1 to 6 that applies
+pub record StepDue (journal : Bytes) (at form base : ℕ) (o : Sizes) (buf : Bytes) (call : Call) (n count next : ℕ) : Type 0 where
+  pub start : ℕ
+  pub end : ℕ
+  pub line : NextOf journal at form (StepLine call start end next)
+  pub bytes : Decodes (part journal start (end - start)) buf count
+  pub number : n ≡ orElse base (callRefusal call o count)
+  pub forward : at < next
+  pub inside : next ≤ length journal
+
+-- what is due at a place of a journal: a step, or its end
+pub data DueAt (journal : Bytes) (at form base : ℕ) (o : Sizes) (buf : Bytes) : Due → Type 0 where
+  aStep : {call : Call} {n count next : ℕ} → StepDue journal at form base o buf call n count next → DueAt journal at form base o buf (Step call n count next)
+  theEnd : {w : Last} → EndsAt journal form at (endingOf w) → Numbered w → DueAt journal at form base o buf (AtLast w)
+
+-- ---- the line of an answer
+
+-- the call stores
+abbrev pub isStore : Act → Bool
+isStore Load = false
+isStore Store = true
+isStore Fence = false
+isStore (Advance n) = false
+isStore Transfer = false
+
+-- where the bytes beside an answer lie in the private buffer, those of a store's commit apart
+abbrev pub shownAt : Answer → Sizes → ℕ → ℕ → Span
+shownAt a o c l = spanOf a (pick (placeFits o c l) (copyStart o c l) 0) (o .width)
+
+abbrev pub shown : Answer → Sizes → Bytes → ℕ → ℕ → Bytes
+shown a o p c l = part p (shownAt a o c l .start) (shownAt a o c l .count)
+
+-- the line of an answer at place n: a store's bytes are those given
+abbrev pub answerLine : ℕ → Act → Answer → Bytes → Sizes → Bytes → ℕ → ℕ → Bytes
+answerLine n t a given o p c l = recordText (place n) (meaning a (actBytes t given (shown a o p c l)))
+
+-- those shown lie in a buffer of n bytes
+abbrev pub Shows : Answer → Sizes → ℕ → ℕ → ℕ → Type 0
+Shows a o c l n = shownAt a o c l .start + shownAt a o c l .count ≤ n
+
+-- ---- how far a call came
+
+-- a checkpoint, from its parts
+abbrev pub checkpointAt : ℕ → ℕ → Counts → State → Checkpoint
+checkpointAt at form k s = record { at = at; form = form; counts = k; state = s }
+
+-- the next piece was put, or had no room
+abbrev pub playedBy : Put → ℕ → Checkpoint → Played
+playedBy (PutEnd e) used s = record { progress = Finished; written = e; checkpoint = s }
+playedBy Short used s = record { progress = More; written = used; checkpoint = s }
 
 -- the text t was put at the start of the output, or had no room there, and r says how far the call came
 pub record Puts (t : Bytes) (by : Put → Played) (old new : Bytes) (r : Played) : Type 0 where
@@ -58,11 +101,11 @@ pub record Puts (t : Bytes) (by : Put → Played) (old new : Bytes) (r : Played)
   pub played : r ≡ by put
 
 -- the listing of a journal that opens no engine
-abbrev pub turnedBy : Put → Played
-turnedBy (End e) = record { progress = Done; written = e; standing = nowhere }
-turnedBy Short = record { progress = TooShort; written = 0; standing = nowhere }
+abbrev pub refusedBy : Put → Played
+refusedBy (PutEnd e) = record { progress = Finished; written = e; checkpoint = unopened }
+refusedBy Short = record { progress = TooShort; written = 0; checkpoint = unopened }
 
--- the line of an opening after which a run stands at a place of a journal of some form
+-- the line of an opening after which a run goes on at a place of a journal of some form
 abbrev pub openedBy : ℕ → ℕ → Sizes → Put → Played
-openedBy at form o (End e) = record { progress = More; written = e; standing = opened at form o }
-openedBy at form o Short = record { progress = TooShort; written = 0; standing = nowhere }
+openedBy at form o (PutEnd e) = record { progress = More; written = e; checkpoint = firstCheckpoint at form o }
+openedBy at form o Short = record { progress = TooShort; written = 0; checkpoint = unopened }

@@ -1,4 +1,4 @@
--- What `start` and `play` promise: where a run stands, the steps that lead from one standing to another, and what the driver writes in
+-- What `start` and `play` promise: the checkpoints of a run, the steps that lead from one to another, and what the driver writes in
 -- between.
 use Prim.Native.Nat.{ℕ, _+_, _-_, _≤_, _<_}
 use mathlib.Core.Path.{_≡_}
@@ -6,113 +6,108 @@ use mathlib.Core.Bool.{Bool, true, false}
 use mathlib.Core.List.{List, [], _++_}
 use lib.Dec.{leb, eqb}
 use lib.ListN.{length, take, drop}
-use Rattle.protocol.specs.Pick.{both, fails as untrue}
-use Rattle.protocol.specs.Fresh.{freshState, smallest}
-use Rattle.protocol.specs.Buffers.{Bytes, part}
-use Rattle.protocol.specs.Machine.{machine}
-use Rattle.protocol.specs.Refusals.{openRefusal}
-use Rattle.protocol.specs.Step.{openReply, step}
-use Rattle.protocol.specs.Run.{Given, Run, place, run}
-use Rattle.protocol.specs.declared.Opening.{Opening as Sizes}
-use Rattle.protocol.specs.declared.Call.{Call}
-use Rattle.journal.specs.Journal.{NextOf}
-use Rattle.journal.specs.declared.Next.the-variants.{Opening, Step}
+use denote.Ref.{RefT, now}
+use Rattle.protocol.specs.{Pick.both, Pick.fails as untrue, Fresh.freshState, Fresh.smallest, Buffers.Bytes, Buffers.part, Machine.machine}
+use Rattle.protocol.specs.{Refusals.openRefusal, Step.openReply, Step.step, Run.Given, Run.Run, Run.place, Run.run}
+use Rattle.protocol.specs.Counts.{nothingMet, plus, total}
+use Rattle.protocol.specs.declared.{Opening.Opening as Sizes, Call.Call, Counts.Counts}
+use Rattle.journal.specs.{Journal.NextOf, declared.Next.the-variants.Opening, declared.Next.the-variants.Step}
 use Rattle.listing.specs.Record.{recordText}
-use Rattle.driver.specs.Listing.{Ending, Data, Between, EndsAt, lines, Counts, counted, lastLines, NotOpened, notOpened}
-use Rattle.driver.specs.declared.Standing.{Standing}
-use Rattle.driver.specs.declared.Progress.{Progress}
-use Rattle.driver.specs.declared.Progress.the-variants.{Done, More, Short, Unfit}
-use Rattle.driver.specs.declared.Played.{Played}
+use Rattle.driver.specs.Listing.{Ending, Data, Between, EndsAt, lines, lastLines, NotOpened, notOpened}
+use Rattle.driver.specs.declared.{Checkpoint.Checkpoint, Progress.Progress, Played.Played}
+use Rattle.driver.specs.declared.Progress.the-variants.{Finished, More, Short, Unfit}
 
--- ---- where a run stands
+-- ---- the checkpoints of a run
 
--- what was met before a standing
-abbrev pub countsOf : Standing → Counts
-countsOf s = record { steps = s .steps; commits = s .commits; refusals = s .refusals }
+-- the steps gs made from a checkpoint with the buffers p and q
+abbrev pub runFrom : Checkpoint → Bytes → Bytes → List Given → Run
+runFrom s p q gs = run gs (s .counts .steps + 1) (machine (s .state) p q)
 
--- the steps gs made from a standing with the buffers p and q
-abbrev pub runFrom : Standing → Bytes → Bytes → List Given → Run
-runFrom s p q gs = run gs (s .steps + 1) (machine (s .state) p q)
+-- no count is above n
+abbrev pub few : Counts → ℕ → Bool
+few k n = both (leb (k .steps) n) (both (leb (k .commits) n) (leb (k .refusals) n))
 
--- a run of a journal of n bytes may stand there: its first line was read, the place is not past the end, and no more was met than there
--- are bytes before the place (a line has one byte or more)
-abbrev pub stands : ℕ → Standing → Bool
-stands n s =
-    both (untrue (eqb (s .form) 0))
-    (both (leb (s .at) n) (both (leb (s .steps) (s .at)) (both (leb (s .commits) (s .at)) (leb (s .refusals) (s .at)))))
+-- a run of a journal of n bytes may have such a checkpoint: its first line was read, the place is not past the end, and no more was met than
+-- there are bytes before the place (a line has one byte or more)
+abbrev pub resumable : ℕ → Checkpoint → Bool
+resumable n s = both (untrue (eqb (s .form) 0)) (both (leb (s .at) n) (few (s .counts) (s .at)))
 
--- the steps gs lead from the standing a, with the buffers p and q, to the standing b, with the buffers p' and q': the lines of the journal
+-- the steps gs lead from the checkpoint a, with the buffers p and q, to the checkpoint b, with the buffers p' and q': the lines of the journal
 -- between the two places spell them, the machine is the one after them, and they are counted
-pub record Leads (journal : Bytes) (a : Standing) (p q : Bytes) (gs : List Given) (b : Standing) (p' q' : Bytes) : Type 0 where
+pub record Leads (journal : Bytes) (a : Checkpoint) (p q : Bytes) (gs : List Given) (b : Checkpoint) (p' q' : Bytes) : Type 0 where
   pub steps : Between journal (a .form) (a .at) gs (b .at)
   pub form : b .form ≡ a .form
   pub machine : machine (b .state) p' q' ≡ runFrom a p q gs .last
-  pub counts : countsOf b ≡ counted (countsOf a) (runFrom a p q gs .records)
+  pub counts : b .counts ≡ plus (a .counts) (total (runFrom a p q gs .records))
 
--- what is written next from a standing, in one piece: a step's line, or the last lines
-pub data Piece (journal : Bytes) (s : Standing) (p q : Bytes) : Bytes → Type 0 where
+-- what is written next from a checkpoint, in one piece: a step's line, or the last lines
+pub data Piece (journal : Bytes) (s : Checkpoint) (p q : Bytes) : Bytes → Type 0 where
   aStep :
       {call : Call} {start end next : ℕ} {bs : Bytes} → NextOf journal (s .at) (s .form) (Step call start end next)
       → Data (part journal start (end - start)) bs
-      → Piece journal s p q (recordText (place (s .steps + 1)) (step (machine (s .state) p q) call bs .reply))
-  theEnd : {e : Ending} → EndsAt journal (s .form) (s .at) e → Piece journal s p q (lastLines (countsOf s) e)
+      → Piece journal s p q (recordText (place (s .counts .steps + 1)) (step (machine (s .state) p q) call bs .reply))
+  theEnd : {e : Ending} → EndsAt journal (s .form) (s .at) e → Piece journal s p q (lastLines (s .counts) e)
 
 -- ---- play
 
--- what `play` tells of a run from a standing with the buffers p and q, by its progress: it wrote `text`, the run stands `there`, with the
+-- what `play` tells of a run from a checkpoint with the buffers p and q, by its progress: it wrote `text`, the run is `there`, with the
 -- buffers p' and q', and `room` bytes are left to write to
-pub data Tells (journal : Bytes) (from : Standing) (p q : Bytes) (there : Standing) (p' q' text : Bytes) (room : ℕ) : Progress → Type 0 where
+pub data Tells (journal : Bytes) (from : Checkpoint) (p q : Bytes) (there : Checkpoint) (p' q' text : Bytes) (room : ℕ) : Progress → Type 0 where
   -- the lines of the steps up to the listing's end, and the last lines
-  done :
-      {gs : List Given} {e : Ending} → stands (length journal) from ≡ true → Leads journal from p q gs there p' q'
-      → EndsAt journal (there .form) (there .at) e → text ≡ lines (runFrom from p q gs .records) ++ lastLines (countsOf there) e
-      → Tells journal from p q there p' q' text room Done
+  finished :
+      {gs : List Given} {e : Ending} → resumable (length journal) from ≡ true → Leads journal from p q gs there p' q'
+      → EndsAt journal (there .form) (there .at) e → text ≡ lines (runFrom from p q gs .records) ++ lastLines (there .counts) e
+      → Tells journal from p q there p' q' text room Finished
   -- the lines of some steps; for what comes next there is no room
   more :
-      {gs : List Given} {t : Bytes} → stands (length journal) from ≡ true → Leads journal from p q gs there p' q'
+      {gs : List Given} {t : Bytes} → resumable (length journal) from ≡ true → Leads journal from p q gs there p' q'
       → text ≡ lines (runFrom from p q gs .records) → Piece journal there p' q' t → room < length t
       → Tells journal from p q there p' q' text room More
   -- nothing, and everything is as it was
   unfit :
-      stands (length journal) from ≡ false → there ≡ from → p' ≡ p → q' ≡ q → text ≡ []
+      resumable (length journal) from ≡ false → there ≡ from → p' ≡ p → q' ≡ q → text ≡ []
       → Tells journal from p q there p' q' text room Unfit
 
 -- a call of `play` that returns r, for the buffers p and q and the output `old`, and leaves p', q' and `new`: the text is the first
 -- `written` bytes of the output, which keeps its length, and all bytes past it are as they were
-pub record Plays (journal : Bytes) (from : Standing) (p q old p' q' new : Bytes) (r : Played) : Type 0 where
+pub record Plays (journal : Bytes) (from : Checkpoint) (p q old p' q' new : Bytes) (r : Played) : Type 0 where
   pub size : length new ≡ length old
   pub within : r .written ≤ length new
   pub beyond : drop (r .written) new ≡ drop (r .written) old
-  pub tells : Tells journal from p q (r .standing) p' q' (take (r .written) new) (length new - r .written) (r .progress)
+  pub tells : Tells journal from p q (r .checkpoint) p' q' (take (r .written) new) (length new - r .written) (r .progress)
+
+-- the same of a lent journal, lent buffers and a lent output, as they come and as they are left
+abbrev pub PlaysIn : RefT Bytes → Checkpoint → RefT Bytes → RefT Bytes → RefT Bytes → RefT Bytes → RefT Bytes → RefT Bytes → Played → Type 0
+PlaysIn j from p q old p' q' new r = Plays (now j) from (now p) (now q) (now old) (now p') (now q') (now new) r
 
 -- ---- start
 
--- the standing after the first line: nothing met, the fresh state
-abbrev pub opened : ℕ → ℕ → Sizes → Standing
-opened at form o = record { at = at; form = form; steps = 0; commits = 0; refusals = 0; state = freshState o }
+-- the checkpoint after the first line: nothing met, the fresh state
+abbrev pub firstCheckpoint : ℕ → ℕ → Sizes → Checkpoint
+firstCheckpoint at form o = record { at = at; form = form; counts = nothingMet; state = freshState o }
 
--- the standing of a journal that opens no engine, or whose first line is not out yet
-abbrev pub nowhere : Standing
-nowhere = opened 0 0 smallest
+-- what is returned for a journal that opens no engine, or whose first line is not out yet
+abbrev pub unopened : Checkpoint
+unopened = firstCheckpoint 0 0 smallest
 
 -- what `start` tells, by its progress
-pub data Begins (journal : Bytes) (there : Standing) (text : Bytes) (room : ℕ) : Progress → Type 0 where
+pub data Begins (journal : Bytes) (there : Checkpoint) (text : Bytes) (room : ℕ) : Progress → Type 0 where
   -- the first line opens an engine, and its line is written
   opens :
-      {form : ℕ} {o : Sizes} {next : ℕ} → NextOf journal 0 0 (Opening form o next) → openRefusal o ≡ 0 → there ≡ opened next form o
+      {form : ℕ} {o : Sizes} {next : ℕ} → NextOf journal 0 0 (Opening form o next) → openRefusal o ≡ 0 → there ≡ firstCheckpoint next form o
       → text ≡ recordText (place 0) (openReply o) → Begins journal there text room More
   -- it opens none, and the whole listing is written
-  fails : {n : ℕ} → NotOpened journal n → there ≡ nowhere → text ≡ notOpened n → Begins journal there text room Done
+  fails : {n : ℕ} → NotOpened journal n → there ≡ unopened → text ≡ notOpened n → Begins journal there text room Finished
   -- there is no room for that line, or for that listing, and nothing is written
   noRoom :
-      {form : ℕ} {o : Sizes} {next : ℕ} → NextOf journal 0 0 (Opening form o next) → openRefusal o ≡ 0 → there ≡ nowhere → text ≡ []
+      {form : ℕ} {o : Sizes} {next : ℕ} → NextOf journal 0 0 (Opening form o next) → openRefusal o ≡ 0 → there ≡ unopened → text ≡ []
       → room < length (recordText (place 0) (openReply o)) → Begins journal there text room Short
   noRoomToEnd :
-      {n : ℕ} → NotOpened journal n → there ≡ nowhere → text ≡ [] → room < length (notOpened n) → Begins journal there text room Short
+      {n : ℕ} → NotOpened journal n → there ≡ unopened → text ≡ [] → room < length (notOpened n) → Begins journal there text room Short
 
 -- a call of `start` that returns r, for the output `old`, and leaves `new`
 pub record Starts (journal old new : Bytes) (r : Played) : Type 0 where
   pub size : length new ≡ length old
   pub within : r .written ≤ length new
   pub beyond : drop (r .written) new ≡ drop (r .written) old
-  pub begins : Begins journal (r .standing) (take (r .written) new) (length new - r .written) (r .progress)
+  pub begins : Begins journal (r .checkpoint) (take (r .written) new) (length new - r .written) (r .progress)

@@ -1,75 +1,98 @@
 // The driver: plays a journal and lists what each line answers.
 //
-// `start` reads the first line and opens an engine; `play` goes on from where a run stands. It owns the
-// state for the whole piece of work and changes it in place, by the same tables and byte moves that the
-// engine's calls use, and looks the state and the buffers over once (refusals 1 and 2). It fills a lent
-// buffer with whole lines and hands back where it stands.
-mod turn;
+// `start` reads the first line and opens an engine; `play` goes on from a checkpoint. It owns the state for
+// the whole piece of work and changes it in place, by the same tables and byte moves that the engine's
+// calls use, and looks the state and the buffers over once (refusals 1 and 2). It fills a lent buffer with
+// whole lines and returns the checkpoint that it got to.
+mod one_line;
 
 ghost use mathlib.Core.Path.{_≡_};
 ghost use lib.ListN.{length};
-ghost use Rattle.driver.specs.Play.{stands, Starts, Plays};
+ghost use Rattle.driver.specs.Play.{few, resumable, Starts, PlaysIn};
 use journal::Next;
-use protocol::Answer;
+use protocol::Call;
 use protocol::Cell;
+use protocol::Counts;
 use protocol::Opening;
-use protocol::Place;
 use protocol::State;
 use spelling::Put;
 
-// Where a run stands: the place in the journal, its form, what was met so far, and the state.
-pub struct Standing {
+// A run between two lines: the place in the journal, its form, what was met so far, and the state.
+pub struct Checkpoint {
     pub at: usize,
     pub form: u32,
-    pub steps: u64,
-    pub commits: u64,
-    pub refusals: u64,
+    pub counts: Counts,
     pub state: State,
 }
 
 // Whether the listing is out whole, goes on, or can't be had.
 pub enum Progress {
     // The listing's last line is written.
-    Done,
-    // The run goes on from the standing: call `play`, with room for a line more.
+    Finished,
+    // The run goes on from the checkpoint: call `play`, with room for a line more.
     More,
     // `start` has no room for the first line: call it again, with room.
     Short,
-    // No run of the journal stands there: its first line is still due, the place lies past its end, or
-    // more was met than there are bytes before the place.
+    // No run of the journal has such a checkpoint: its first line is still due, the place lies past its
+    // end, or more was met than there are bytes before the place.
     Unfit,
 }
 
-// How far a call came: `written` bytes of the buffer, from its start, and where the run stands.
+// How far a call came: `written` bytes of the buffer, from its start, and the run's checkpoint.
 pub struct Played {
     pub progress: Progress,
     pub written: usize,
-    pub standing: Standing,
+    pub checkpoint: Checkpoint,
 }
 
-// Whether a run of the journal may stand there.
-fn may_stand(journal: &[u8], from: Standing) -> bool
-    ensures { λ r. ⌜ r ≡ stands (length (now (journal .entry))) from ⌝ }
+// How a journal ends: with its input, or at a line that is refused with a number of 10 to 14.
+enum Last {
+    End,
+    Refused(u32),
+}
+
+// What is due at a place of a journal: a step with the first of 1 to 6 that applies or 0, the count of
+// the bytes given to it and the place of the next line; or the journal's end.
+enum Due {
+    Step {
+        call: Call,
+        number: u8,
+        count: usize,
+        next: usize,
+    },
+    Last(Last),
+}
+
+// Whether no count is above `most`.
+fn few(counts: Counts, most: u64) -> bool
+    ensures { λ r. ⌜ r ≡ few counts most ⌝ }
+{
+    if most < counts.steps {
+        return false;
+    }
+    if most < counts.commits {
+        return false;
+    }
+    counts.refusals <= most
+}
+
+// Whether a run of the journal may have such a checkpoint.
+fn resumable(journal: &[u8], from: Checkpoint) -> bool
+    ensures { λ r. ⌜ r ≡ resumable (length (now (journal .entry))) from ⌝ }
 {
     let at = from.at;
+    let counts = from.counts;
     if from.form == 0 {
         return false;
     }
     if journal.len() < at {
         return false;
     }
-    let most = at as u64;
-    if most < from.steps {
-        return false;
-    }
-    if most < from.commits {
-        return false;
-    }
-    from.refusals <= most
+    few(counts, at as u64)
 }
 
 // Starts a run: reads the first line and opens an engine, and writes `n=0 done=open`; or, where no
-// engine is opened, the whole listing. `play` goes on from the standing, on zeroed buffers.
+// engine is opened, the whole listing. `play` goes on from the checkpoint, on zeroed buffers.
 pub fn start(journal: &[u8], out: &mut [u8]) -> Played
     ensures { λ r. ⌜ Starts (now (journal .entry)) (now (out .entry)) (now (out .exit)) r ⌝ }
 {
@@ -80,19 +103,14 @@ pub fn start(journal: &[u8], out: &mut [u8]) -> Played
             next,
         } => {
             if !opening.fits() {
-                return turn::turn_away(out, 7);
+                return one_line::refuse(out, 7);
             }
-            turn::open(out, next, form, opening)
+            one_line::open(out, next, form, opening)
         }
-        // Where the first line is due, neither stands.
-        Next::Step {
-            call: _,
-            start: _,
-            end: _,
-            next: _,
-        } => turn::turn_away(out, 11),
-        Next::End => turn::turn_away(out, 11),
-        Next::Refused(n) => turn::turn_away(out, n),
+        // Where the first line is due, neither is found.
+        Next::Step { .. } => one_line::refuse(out, 11),
+        Next::End => one_line::refuse(out, 11),
+        Next::Refused(n) => one_line::refuse(out, n),
     }
 }
 
@@ -100,104 +118,66 @@ pub fn start(journal: &[u8], out: &mut [u8]) -> Played
 // the next line has no room.
 pub fn play(
     journal: &[u8],
-    from: Standing,
+    from: Checkpoint,
     private: &mut [u8],
     shared: &mut [u8],
     out: &mut [u8],
 ) -> Played
-    ensures { λ r. ⌜ Plays (now (journal .entry)) from (now («private» .entry)) (now (shared .entry)) (now (out .entry)) (now («private» .exit)) (now (shared .exit)) (now (out .exit)) r ⌝ }
+    ensures { λ r. ⌜ PlaysIn (journal .entry) from («private» .entry) (shared .entry) (out .entry) («private» .exit) (shared .exit) (out .exit) r ⌝ }
 {
-    if !may_stand(journal, from) {
+    if !resumable(journal, from) {
         return Played {
             progress: Progress::Unfit,
             written: 0,
-            standing: from,
+            checkpoint: from,
         };
     }
-    let mut s = from.state;
     let form = from.form;
     let mut at = from.at;
-    let mut steps = from.steps;
-    let mut commits = from.commits;
-    let mut refusals = from.refusals;
+    let mut counts = from.counts;
+    let mut s = from.state;
     let mut used: usize = 0;
     let opening = s.opening;
     let cores = s.core;
     let lines = s.line;
     let base = refusals::machine_refusal(opening, cores, lines, private.len(), shared.len());
     loop {
-        match journal::step_at(journal, at, form) {
-            // No line after the first opens an engine.
-            Next::Opening {
-                form: _,
-                opening: _,
-                next: _,
-            } => {
-                let there = turn::standing(at, form, steps, commits, refusals, s);
-                return turn::played(Put::Short, used, there);
+        let mut bytes = [0u8; 128];
+        match one_line::due(journal, at, form, base, opening, &mut bytes) {
+            Due::Last(last) => {
+                let put = one_line::put_last(out, used, last, counts);
+                return one_line::played(put, used, at, form, counts, s);
             }
-            Next::End => {
-                let put = listing::put_end(out, used, steps, commits, refusals);
-                let there = turn::standing(at, form, steps, commits, refusals, s);
-                return turn::played(put, used, there);
-            }
-            Next::Refused(n) => {
-                let put = turn::put_last(out, used, n, steps + 1, commits, refusals + 1);
-                let there = turn::standing(at, form, steps, commits, refusals, s);
-                return turn::played(put, used, there);
-            }
-            Next::Step {
+            Due::Step {
                 call,
-                start,
-                end,
+                number,
+                count,
                 next,
             } => {
-                let mut bytes = [0u8; 128];
-                let count = turn::decode(&mut bytes, journal, start, end);
-                let number = turn::number_of(base, call, opening, count);
-                let met = steps + 1;
-                // 1 to 6: the machine stays.
-                if number != 0 {
-                    match listing::put_record(
-                        out,
-                        used,
-                        Place(met),
-                        Answer::Refused(number),
-                        &bytes[0..0],
-                    ) {
-                        Put::Short => {
-                            let there = turn::standing(at, form, steps, commits, refusals, s);
-                            return turn::played(Put::Short, used, there);
-                        }
-                        Put::End(e) => {
-                            used = e;
-                            steps = met;
-                            refusals += 1;
-                            at = next;
-                            continue;
-                        }
-                    }
-                }
-                // The table's row, or 20 to 27, on the core, the copy and the manager's line that the
-                // call is about. Its line is put first: where there is no room, nothing has changed.
-                let named = tables::named_line(call);
+                // The effect of the call on the core, the copy and the manager's line that it is about. Its
+                // line is put first: where there is no room, nothing has changed.
+                let about = call.about();
+                let act = about.act;
+                let named = tables::named_line(about, opening);
                 let owned = s.line[named];
                 let manager = owned.manager;
-                let c = tables::core_of(call, manager);
+                let c = tables::core_of(about, manager, opening);
                 let k = s.core[c];
                 let slot = k.slot;
-                let l = tables::line_of(call, slot);
+                let l = tables::line_of(about, slot, opening);
                 let i = c * Opening::MOST_LINES + l;
                 let cell = s.cell[i];
                 let line = s.line[l];
                 let copy = cell.copy;
-                let d = tables::effect(call, k, copy, line, opening);
+                let d = tables::effect(number, call, k, copy, line, opening);
                 let answer = d.answer;
-                match turn::put_answer(
+                let met = one_line::met(counts, call, answer);
+                let place = met.steps;
+                match one_line::put_answer(
                     out,
                     used,
-                    Place(met),
-                    call,
+                    place,
+                    act,
                     answer,
                     &bytes[0..count],
                     private,
@@ -206,8 +186,7 @@ pub fn play(
                     l,
                 ) {
                     Put::Short => {
-                        let there = turn::standing(at, form, steps, commits, refusals, s);
-                        return turn::played(Put::Short, used, there);
+                        return one_line::played(Put::Short, used, at, form, counts, s);
                     }
                     Put::End(e) => {
                         let moves = d.moves;
@@ -218,11 +197,17 @@ pub fn play(
                         s.core[c] = core;
                         s.cell[i] = cell;
                         s.line[l] = line;
-                        places::move_bytes(moves, opening, private, shared, c, l, &bytes[0..count]);
+                        buffers::move_bytes(
+                            moves,
+                            opening,
+                            private,
+                            shared,
+                            c,
+                            l,
+                            &bytes[0..count],
+                        );
                         used = e;
-                        steps = met;
-                        commits += answers::commits_of(answer);
-                        refusals += answers::refusals_of(answer);
+                        counts = met;
                         at = next;
                         continue;
                     }

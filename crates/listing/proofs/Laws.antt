@@ -6,16 +6,11 @@ use native.Mathlib.Omega.{arith}
 use lib.ListN.{length, take, drop, length-append, length-drop, drop-of-length-le}
 use lib.Seq.{take-all}
 use borrow.Author.Tests.{le-leb}
-use Rattle.spelling.specs.Over.{over, PutAt, PutBefore}
-use Rattle.spelling.specs.Decimal.{decimal}
-use Rattle.spelling.specs.Hex.{hex}
-use Rattle.spelling.specs.Text.{text}
-use Rattle.spelling.specs.declared.Put.{Put}
+use Rattle.spelling.specs.{Over.over, Over.PutAt, Over.PutBefore, Decimal.decimal, Hex.hex, Text.text, declared.Put.Put}
 use Rattle.spelling.specs.declared.Put.the-variants.{End, Short}
 use Rattle.spelling.proofs.OverLaws.{over-from, over-length, over-append, before-place, before-laid, before-from, decimal-short, put-done, put-short}
 use Rattle.spelling.proofs.HexLaws.{hex-length}
-use Rattle.protocol.specs.declared.Name.{Name}
-use Rattle.protocol.specs.Step.{fence}
+use Rattle.protocol.specs.{declared.Name.Name, Step.fence}
 use Rattle.listing.specs.Record.{nameText, doneText, commitText}
 use Rattle.listing.specs.Back.{Room, Field, Tail, names, Named, three, access}
 

@@ -3,9 +3,7 @@ use Prim.Native.Nat.{ℕ, _+_, _-_, _≤_}
 use mathlib.Core.Path.{_≡_}
 use mathlib.Core.List.{List, _++_}
 use lib.ListN.{length, take, drop}
-use Rattle.spelling.specs.Text.{text}
-use Rattle.spelling.specs.Decimal.{decimal}
-use Rattle.spelling.specs.Hex.{hex}
+use Rattle.spelling.specs.{Text.text, Decimal.decimal, Hex.hex}
 use Rattle.protocol.specs.declared.Name.{Name}
 use Rattle.listing.specs.Record.{nameText}
 

@@ -1,9 +1,7 @@
 -- What the program prints, byte for byte (01, "Journal and driver"): a record for each call, and the end line. Assumes nothing.
 use Prim.Native.Nat.{ℕ}
 use mathlib.Core.List.{List, [], _++_}
-use Rattle.spelling.specs.Text.{text}
-use Rattle.spelling.specs.Decimal.{decimal}
-use Rattle.spelling.specs.Hex.{hex}
+use Rattle.spelling.specs.{Text.text, Decimal.decimal, Hex.hex}
 use Rattle.protocol.specs.declared.{Place.Place, Name.Name, Counts.Counts}
 use Rattle.protocol.specs.declared.Name.the-variants.{Open, Ask, Recall, Share, Renew, Own, Drop, Evict, Advance, Yield, Take}
 use Rattle.protocol.specs.Step.{Op, load, store, fence, Reply, refused, done, commit}

@@ -4,22 +4,16 @@ use mathlib.Core.Path.{_≡_, refl, _∙_, ap, ap₂, subst₂}
 use mathlib.Core.List.{List, _++_}
 use mathlib.Core.Logic.{inl, inr}
 use native.Mathlib.Omega.{arith}
-use Rattle.protocol.specs.Buffers.{Bytes}
-use Rattle.protocol.specs.Refusals.{openRefusal}
-use Rattle.protocol.specs.Machine.{freshMachine}
-use Rattle.protocol.specs.Step.{openReply}
-use Rattle.protocol.specs.Run.{Given, place}
+use Rattle.protocol.specs.{Buffers.Bytes, Refusals.openRefusal, Machine.freshMachine, Step.openReply, Run.Given, Run.place, Counts.nothingMet}
 use Rattle.protocol.specs.declared.Opening.{Opening as Sizes}
 use Rattle.spelling.proofs.Decide.{Told, same-number}
-use Rattle.journal.specs.Journal.{NextOf}
-use Rattle.journal.specs.declared.Next.{Next}
+use Rattle.journal.specs.{Journal.NextOf, declared.Next.Next}
 use Rattle.journal.specs.declared.Next.the-variants.{Opening, Step, End, Refused}
 use Rattle.journal.proofs.OneNext.{one-next-theorem}
 use Rattle.listing.specs.Record.{recordText}
 use Rattle.driver.specs.Listing.{Ending, NotOpened, outside, refusedFirst, notOpened}
 use Rattle.driver.proofs.Reading.{known}
-use Rattle.playing.specs.Listing.{Reads, listingFrom, none, Listing, opens, fails}
-use Rattle.playing.specs.Theorems.{OneListingTheorem}
+use Rattle.playing.specs.{Listing.Reads, Listing.listingFrom, Listing.Listing, Listing.opens, Listing.fails, Theorems.OneListingTheorem}
 use Rattle.playing.proofs.OneReading.{same-next, reads-same, one-reading-theorem}
 
 -- ---- there is no other
@@ -37,7 +31,7 @@ opened-not x e (refusedFirst y) = let s = same-next x y in let z : _≡_ {A = �
 
 -- the text of a listing whose engine is opened
 abbrev whole : Sizes → List Given → Ending → Bytes
-whole o gs e = recordText (place 0) (openReply o) ++ listingFrom (freshMachine o) none gs e
+whole o gs e = recordText (place 0) (openReply o) ++ listingFrom (freshMachine o) nothingMet gs e
 
 listing-same : {j t u : Bytes} → Listing j t → Listing j u → t ≡ u
 listing-same {j} (opens {o = o} {gs = gs} {e = e} x h r) (opens {form = f'} {o = o'} {next = n'} {gs = hs} {e = d} y k q) =

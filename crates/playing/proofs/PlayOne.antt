@@ -1,4 +1,4 @@
--- `play` has one answer. Two runs from one standing that both meet the contract made the same steps: of two that made different ones, the
+-- `play` has one answer. Two runs from one checkpoint that both meet the contract made the same steps: of two that made different ones, the
 -- shorter stopped although the longer, with an output of the same length, had room for the next piece.
 use Prim.Native.Nat.{ℕ, _+_, _≤_, _<_}
 use mathlib.Core.Path.{_≡_, refl, sym, _∙_, ap}
@@ -6,25 +6,22 @@ use mathlib.Core.List.{List, [], _∷_, _++_}
 use native.Mathlib.Omega.{arith}
 use lib.ListN.{length, length-append}
 use lib.Seq.{append-snoc}
-use Rattle.protocol.specs.Buffers.{Bytes}
-use Rattle.protocol.specs.Machine.{Machine, machine}
-use Rattle.protocol.specs.Run.{Given, Record, run}
-use Rattle.driver.specs.Listing.{Ending, Between, aLine, EndsAt, lines, Counts, counted, lastLines}
-use Rattle.driver.specs.Play.{countsOf, runFrom, Leads, Piece, aStep, theEnd, Tells, done, more, unfit}
-use Rattle.driver.specs.declared.Standing.{Standing}
-use Rattle.driver.specs.declared.Progress.{Progress}
+use Rattle.protocol.specs.{Buffers.Bytes, Machine.Machine, Machine.machine, Run.Given, Run.Record, Run.run, Counts.plus, Counts.total}
+use Rattle.driver.specs.Listing.{Ending, Between, aLine, EndsAt, lines, lastLines}
+use Rattle.driver.specs.Play.{runFrom, Leads, Piece, aStep, theEnd, Tells, finished, more, unfit}
+use Rattle.driver.specs.{declared.Checkpoint.Checkpoint, declared.Progress.Progress}
 use Rattle.driver.proofs.Running.{given, lines-append, run-records, lines-more}
 use Rattle.playing.specs.Theorems.{PlayOneTheorem}
 use Rattle.playing.proofs.OneReading.{step-same, ends-same, no-end, Compared, alike, fewer, further, compare, none-after}
 use Rattle.playing.proofs.Writing.{Fills, room-same, written-same, output-same}
 
--- the lines of the steps gs made from a standing
-abbrev linesFrom : Standing → Bytes → Bytes → List Given → Bytes
+-- the lines of the steps gs made from a checkpoint
+abbrev linesFrom : Checkpoint → Bytes → Bytes → List Given → Bytes
 linesFrom a p q gs = lines (runFrom a p q gs .records)
 
--- and the last lines, where they lead to the standing b and the journal ends
-abbrev doneFrom : Standing → Bytes → Bytes → List Given → Standing → Ending → Bytes
-doneFrom a p q gs b e = linesFrom a p q gs ++ lastLines (countsOf b) e
+-- and the last lines, where they lead to the checkpoint b and the journal ends
+abbrev finishedFrom : Checkpoint → Bytes → Bytes → List Given → Checkpoint → Ending → Bytes
+finishedFrom a p q gs b e = linesFrom a p q gs ++ lastLines (b .counts) e
 
 -- ---- the next piece
 
@@ -37,47 +34,44 @@ lines-grow gs hs n m =
 
 -- where steps go on, their text holds the next piece
 passed :
-    {j : Bytes} {a b : Standing} {p q p' q' t : Bytes} {gs : List Given} {g : Given} {ks : List Given} {to : ℕ} → Leads j a p q gs b p' q' → Piece j b p' q' t
+    {j : Bytes} {a b : Checkpoint} {p q p' q' t : Bytes} {gs : List Given} {g : Given} {ks : List Given} {to : ℕ} → Leads j a p q gs b p' q' → Piece j b p' q' t
     → Between j (a .form) (b .at) (g ∷ ks) to
     → length (linesFrom a p q gs) + length t ≤ length (linesFrom a p q (gs ++ (g ∷ ks)))
 passed {a = a} {p = p} {q = q} {gs = gs} {ks = ks} l (aStep {call = c} {bs = bs} x d) (aLine y f r) =
     let s = step-same (rw (l .form) at x) d y f in
     let e = ap length (lines-more l c bs) ∙ length-append (linesFrom a p q gs) _ in
-    let i = lines-grow (gs ++ (given c bs ∷ [])) ks (a .steps + 1) (machine (a .state) p q) in
+    let i = lines-grow (gs ++ (given c bs ∷ [])) ks (a .counts .steps + 1) (machine (a .state) p q) in
     rw (s .call, s .bytes, ← append-snoc gs (given c bs) ks) (omega arith)
 passed l (theEnd x) (aLine y f r) = absurd (no-end y (rw (l .form) at x))
 
 -- a piece where the journal ends is the last lines
-last-piece : {j : Bytes} {s : Standing} {p q t : Bytes} {e : Ending} → Piece j s p q t → EndsAt j (s .form) (s .at) e → t ≡ lastLines (countsOf s) e
+last-piece : {j : Bytes} {s : Checkpoint} {p q t : Bytes} {e : Ending} → Piece j s p q t → EndsAt j (s .form) (s .at) e → t ≡ lastLines (s .counts) e
 last-piece (aStep x d) y = absurd (no-end x y)
-last-piece {s = s} (theEnd x) y = ap (lastLines (countsOf s)) (ends-same x y)
+last-piece {s = s} (theEnd x) y = ap (lastLines (s .counts)) (ends-same x y)
 
 -- ---- two runs
 
--- two standings with their buffers are the same
-record Same (s s' : Standing) (p q p' q' : Bytes) : Type 0 where
-  pub standing : s ≡ s'
+-- two checkpoints with their buffers are the same
+record Same (s s' : Checkpoint) (p q p' q' : Bytes) : Type 0 where
+  pub checkpoint : s ≡ s'
   pub private : p ≡ p'
   pub shared : q ≡ q'
 
--- a standing and its buffers, from where they are, the machine and the counts
-standing-same :
-    (s s' : Standing) (p q p' q' : Bytes) → s .at ≡ s' .at → s .form ≡ s' .form → machine (s .state) p q ≡ machine (s' .state) p' q'
-    → countsOf s ≡ countsOf s' → Same s s' p q p' q'
-standing-same s s' p q p' q' a f m k =
+-- a checkpoint and its buffers, from where they are, the machine and the counts
+checkpoint-same :
+    (s s' : Checkpoint) (p q p' q' : Bytes) → s .at ≡ s' .at → s .form ≡ s' .form → machine (s .state) p q ≡ machine (s' .state) p' q'
+    → s .counts ≡ s' .counts → Same s s' p q p' q'
+checkpoint-same s s' p q p' q' a f m k =
     let es = ap (λ (x : Machine). x .state) m in
-    let n = ap (λ (x : Counts). x .steps) k in
-    let c = ap (λ (x : Counts). x .commits) k in
-    let r = ap (λ (x : Counts). x .refusals) k in
-    record { standing = rw (a, f, n, c, r, es); private = ap (λ (x : Machine). x .private) m; shared = ap (λ (x : Machine). x .shared) m }
+    record { checkpoint = rw (a, f, k, es); private = ap (λ (x : Machine). x .private) m; shared = ap (λ (x : Machine). x .shared) m }
 
-module _ {j : Bytes} {a b d : Standing} {p q p₁ q₁ p₂ q₂ : Bytes} {gs hs : List Given} (l : Leads j a p q gs b p₁ q₁) (m : Leads j a p q hs d p₂ q₂) where
-  -- the same steps lead to the same standing
+module _ {j : Bytes} {a b d : Checkpoint} {p q p₁ q₁ p₂ q₂ : Bytes} {gs hs : List Given} (l : Leads j a p q gs b p₁ q₁) (m : Leads j a p q hs d p₂ q₂) where
+  -- the same steps lead to the same checkpoint
   leads-same : gs ≡ hs → b .at ≡ d .at → Same b d p₁ q₁ p₂ q₂
   leads-same e n =
-      standing-same b d p₁ q₁ p₂ q₂ n (l .form ∙ sym (m .form))
+      checkpoint-same b d p₁ q₁ p₂ q₂ n (l .form ∙ sym (m .form))
       (l .machine ∙ ap (λ (ks : List Given). runFrom a p q ks .last) e ∙ sym (m .machine))
-      (l .counts ∙ ap (λ (ks : List Given). counted (countsOf a) (runFrom a p q ks .records)) e ∙ sym (m .counts))
+      (l .counts ∙ ap (λ (ks : List Given). plus (a .counts) (total (runFrom a p q ks .records))) e ∙ sym (m .counts))
 
   -- a run with no room for the next piece, and one that made more steps
   no-fewer :
@@ -85,50 +79,50 @@ module _ {j : Bytes} {a b d : Standing} {p q p₁ q₁ p₂ q₂ : Bytes} {gs hs
       → length (linesFrom a p q hs) ≤ length (linesFrom a p q gs) + room → room < length t → ⊥
   no-fewer x y e n r = omega (arith, passed l x y, ap (λ (ks : List Given). length (linesFrom a p q ks)) e)
 
-  -- a run that is done, and one with no room for the next piece
+  -- a run that is finished, and one with no room for the next piece
   not-both :
       {e : Ending} {t : Bytes} {room : ℕ} → EndsAt j (b .form) (b .at) e → Piece j d p₂ q₂ t
-      → length (doneFrom a p q gs b e) ≤ length (linesFrom a p q hs) + room → room < length t → ⊥
+      → length (finishedFrom a p q gs b e) ≤ length (linesFrom a p q hs) + room → room < length t → ⊥
   not-both {e} {t} x y n r = go (compare (l .steps) (m .steps))
     where
-      all : length (doneFrom a p q gs b e) ≡ length (linesFrom a p q gs) + length (lastLines (countsOf b) e)
-      all = length-append (linesFrom a p q gs) (lastLines (countsOf b) e)
+      all : length (finishedFrom a p q gs b e) ≡ length (linesFrom a p q gs) + length (lastLines (b .counts) e)
+      all = length-append (linesFrom a p q gs) (lastLines (b .counts) e)
 
       go : Compared j (a .form) gs hs (b .at) (d .at) → ⊥
       go (alike s i) =
           let o = leads-same s i in
-          let z : t ≡ lastLines (countsOf b) e = last-piece y (rw (o .standing) at x) ∙ ap (λ (k : Standing). lastLines (countsOf k) e) (sym (o .standing)) in
+          let z : t ≡ lastLines (b .counts) e = last-piece y (rw (o .checkpoint) at x) ∙ ap (λ (k : Checkpoint). lastLines (k .counts) e) (sym (o .checkpoint)) in
           omega (arith, all, ap length z, ap (λ (ks : List Given). length (linesFrom a p q ks)) s)
       go (fewer g ks s i) = none-after i (rw (l .form) at x)
       go (further g ks s i) = omega (arith, all, passed m y i, ap (λ (ks : List Given). length (linesFrom a p q ks)) s)
 
 -- ---- what two calls tell
 
--- the progress, the standing with the buffers and the text are the same
-record Alike (g g' : Progress) (s s' : Standing) (p q p' q' t t' : Bytes) : Type 0 where
+-- the progress, the checkpoint with the buffers and the text are the same
+record Alike (g g' : Progress) (s s' : Checkpoint) (p q p' q' t t' : Bytes) : Type 0 where
   pub progress : g ≡ g'
   pub there : Same s s' p q p' q'
   pub text : t ≡ t'
 
-module _ {j : Bytes} {a : Standing} {p q : Bytes} where
-  -- two that are done
-  done-same :
-      {b d : Standing} {p₁ q₁ p₂ q₂ : Bytes} {gs hs : List Given} {e f : Ending} (l : Leads j a p q gs b p₁ q₁) (m : Leads j a p q hs d p₂ q₂)
+module _ {j : Bytes} {a : Checkpoint} {p q : Bytes} where
+  -- two that are finished
+  finished-same :
+      {b d : Checkpoint} {p₁ q₁ p₂ q₂ : Bytes} {gs hs : List Given} {e f : Ending} (l : Leads j a p q gs b p₁ q₁) (m : Leads j a p q hs d p₂ q₂)
       → EndsAt j (b .form) (b .at) e → EndsAt j (d .form) (d .at) f
-      → Same b d p₁ q₁ p₂ q₂ × (doneFrom a p q gs b e ≡ doneFrom a p q hs d f)
-  done-same {b} {d} {p₁} {q₁} {p₂} {q₂} {gs} {hs} {e} {f} l m x y = go (compare (l .steps) (m .steps))
+      → Same b d p₁ q₁ p₂ q₂ × (finishedFrom a p q gs b e ≡ finishedFrom a p q hs d f)
+  finished-same {b} {d} {p₁} {q₁} {p₂} {q₂} {gs} {hs} {e} {f} l m x y = go (compare (l .steps) (m .steps))
     where
-      go : Compared j (a .form) gs hs (b .at) (d .at) → Same b d p₁ q₁ p₂ q₂ × (doneFrom a p q gs b e ≡ doneFrom a p q hs d f)
+      go : Compared j (a .form) gs hs (b .at) (d .at) → Same b d p₁ q₁ p₂ q₂ × (finishedFrom a p q gs b e ≡ finishedFrom a p q hs d f)
       go (alike s i) =
           let o = leads-same l m s i in
-          let z : e ≡ f = ends-same (rw (o .standing) at x) y in
-          (o, rw (s, o .standing, z))
+          let z : e ≡ f = ends-same (rw (o .checkpoint) at x) y in
+          (o, rw (s, o .checkpoint, z))
       go (fewer g ks s i) = absurd (none-after i (rw (l .form) at x))
       go (further g ks s i) = absurd (none-after i (rw (m .form) at y))
 
   -- two that had no room for the next piece
   more-same :
-      {b d : Standing} {p₁ q₁ p₂ q₂ t u : Bytes} {gs hs : List Given} {room room' : ℕ} (l : Leads j a p q gs b p₁ q₁) (m : Leads j a p q hs d p₂ q₂)
+      {b d : Checkpoint} {p₁ q₁ p₂ q₂ t u : Bytes} {gs hs : List Given} {room room' : ℕ} (l : Leads j a p q gs b p₁ q₁) (m : Leads j a p q hs d p₂ q₂)
       → Piece j b p₁ q₁ t → Piece j d p₂ q₂ u → room < length t → room' < length u
       → length (linesFrom a p q gs) + room ≡ length (linesFrom a p q hs) + room'
       → Same b d p₁ q₁ p₂ q₂ × (linesFrom a p q gs ≡ linesFrom a p q hs)
@@ -140,24 +134,24 @@ module _ {j : Bytes} {a : Standing} {p q : Bytes} where
       go (further g ks s i) = absurd (no-fewer m l y i s (omega arith) k)
 
   told-same :
-      {b d : Standing} {p₁ q₁ p₂ q₂ t u : Bytes} {room room' : ℕ} {g h : Progress} → length t + room ≡ length u + room' → Tells j a p q b p₁ q₁ t room g
+      {b d : Checkpoint} {p₁ q₁ p₂ q₂ t u : Bytes} {room room' : ℕ} {g h : Progress} → length t + room ≡ length u + room' → Tells j a p q b p₁ q₁ t room g
       → Tells j a p q d p₂ q₂ u room' h → Alike g h b d p₁ q₁ p₂ q₂ t u
-  told-same n (done s l x e) (done s' m y f) = let z = done-same l m x y in record { progress = refl; there = z .0; text = e ∙ z .1 ∙ sym f }
-  told-same n (done s l x e) (more s' m f y r) = absurd (let k = rw (e, f) at n in not-both l m x y (omega arith) r)
-  told-same n (done s l x e) (unfit s' i k o f) = absurd (let z : _≡_ {A = ℕ} 0 1 = cc in omega arith)
-  told-same n (more s l e x r) (done s' m y f) = absurd (let k = rw (e, f) at n in not-both m l y x (omega arith) r)
+  told-same n (finished s l x e) (finished s' m y f) = let z = finished-same l m x y in record { progress = refl; there = z .0; text = e ∙ z .1 ∙ sym f }
+  told-same n (finished s l x e) (more s' m f y r) = absurd (let k = rw (e, f) at n in not-both l m x y (omega arith) r)
+  told-same n (finished s l x e) (unfit s' i k o f) = absurd (let z : _≡_ {A = ℕ} 0 1 = cc in omega arith)
+  told-same n (more s l e x r) (finished s' m y f) = absurd (let k = rw (e, f) at n in not-both m l y x (omega arith) r)
   told-same n (more s l e x r) (more s' m f y k) =
       let z = more-same l m x y r k (rw (e, f) at n) in
       record { progress = refl; there = z .0; text = e ∙ z .1 ∙ sym f }
   told-same n (more s l e x r) (unfit s' i k o f) = absurd (let z : _≡_ {A = ℕ} 0 1 = cc in omega arith)
-  told-same n (unfit s' i k o f) (done s l x e) = absurd (let z : _≡_ {A = ℕ} 0 1 = cc in omega arith)
+  told-same n (unfit s' i k o f) (finished s l x e) = absurd (let z : _≡_ {A = ℕ} 0 1 = cc in omega arith)
   told-same n (unfit s' i k o f) (more s l e x r) = absurd (let z : _≡_ {A = ℕ} 0 1 = cc in omega arith)
   told-same n (unfit s i k o f) (unfit s' i' k' o' f') =
-      record { progress = refl; there = record { standing = i ∙ sym i'; private = k ∙ sym k'; shared = o ∙ sym o' }; text = f ∙ sym f' }
+      record { progress = refl; there = record { checkpoint = i ∙ sym i'; private = k ∙ sym k'; shared = o ∙ sym o' }; text = f ∙ sym f' }
 
 pub play-one-theorem : PlayOneTheorem
 play-one-theorem j from p q old a b x y =
     let u : Fills old (a .out) (a .played .written) = record { size = x .size; within = x .within; beyond = x .beyond } in
     let v : Fills old (b .out) (b .played .written) = record { size = y .size; within = y .within; beyond = y .beyond } in
     let s = told-same (room-same u v) (x .tells) (y .tells) in
-    rw (s .progress, s .there .standing, written-same u v (s .text), s .there .private, s .there .shared, output-same u v (s .text))
+    rw (s .progress, s .there .checkpoint, written-same u v (s .text), s .there .private, s .there .shared, output-same u v (s .text))

@@ -9,39 +9,27 @@ use lib.Dec.{eqb}
 use lib.ListN.{length, drop, length-append, length-take, length-drop}
 use lib.Seq.{length-take-le}
 use borrow.Author.Tests.{eqb-true, ne-eqb, le-leb}
-use Rattle.protocol.specs.Pick.{pick, fails}
-use Rattle.protocol.specs.Buffers.{Bytes, copyStart, copyBytes}
-use Rattle.protocol.specs.Machine.{Machine, machine}
-use Rattle.protocol.specs.Refusals.{openRefusal, callRefusal, refusal}
-use Rattle.protocol.specs.Step.{«open», Reply, refused, done as reply, commit, meaning, commitBytes, openReply, accepted, step}
-use Rattle.protocol.specs.Run.{Given, Record, place, run}
-use Rattle.protocol.specs.declared.Place.{Place}
-use Rattle.protocol.specs.declared.Opening.{Opening as Sizes}
-use Rattle.protocol.specs.declared.Call.{Call}
-use Rattle.protocol.specs.declared.Call.the-variants.{Load, Store, Fence, Evict, Advance, Serve, Receive, Yield, Take}
-use Rattle.protocol.specs.declared.Answer.the-variants.{Open}
-use Rattle.protocol.specs.declared.Effect.{Effect}
-use Rattle.protocol.proofs.Tests.{both-true}
-use Rattle.protocol.proofs.Places.{inside}
-use Rattle.protocol.proofs.Refusals.{machine-fit, store-width, not-refused}
+use Rattle.protocol.specs.{Pick.pick, Buffers.Bytes, Buffers.copyStart, Buffers.copyBytes, About.about, Machine.Machine, Machine.machine}
+use Rattle.protocol.specs.{Refusals.openRefusal, Refusals.wrongCount, Refusals.refusal, Run.Given, Run.Record, Run.place, Run.run}
+use Rattle.protocol.specs.Step.{refused, done as reply, meaning, actBytes, commitBytes, openReply, accepted, step}
+use Rattle.protocol.specs.{Counts.counts, Counts.countsOf, Counts.plus, Counts.total, declared.Place.Place, declared.Counts.Counts}
+use Rattle.protocol.specs.{declared.Opening.Opening as Sizes, declared.Call.Call, declared.Act.Act, declared.Answer.the-variants.Done}
+use Rattle.protocol.specs.declared.Act.the-variants.{Load, Store, Fence, Advance, Transfer}
+use Rattle.protocol.specs.{declared.Name.the-variants.Open, declared.Effect.Effect}
+use Rattle.protocol.proofs.{Places.inside, Refusals.machine-fit, Refusals.named, Refusals.store-width, Refusals.not-refused}
 use Rattle.grammar.specs.declared.Line.{Line}
 use Rattle.grammar.specs.declared.Line.the-variants.{Opening as OpeningLine, Step as StepLine, Refused as RefusedLine}
 use Rattle.journal.specs.Journal.{placed, LineAt, NextOf, tooMuch, empty, ended as atLast, unended, aLine as wholeLine, placeAfter}
 use Rattle.journal.specs.declared.Next.{Next}
 use Rattle.listing.specs.Record.{recordText}
 use Rattle.listing.proofs.Lengths.{record-length, end-length}
-use Rattle.driver.specs.Listing.{Ending, ended, stopped, Between, noLine, aLine, lines, isCommit, isRefusal, count, Counts, lastLines, notOpened}
-use Rattle.driver.specs.Play.{countsOf, runFrom, stands, Leads, Piece, aStep, theEnd, Tells, done, more, unfit, Plays}
-use Rattle.driver.specs.Play.{opened, Begins, opens, fails as turned, noRoom, noRoomToEnd, Starts}
-use Rattle.driver.specs.declared.Standing.{Standing}
-use Rattle.driver.specs.declared.Progress.{Progress}
+use Rattle.driver.specs.Listing.{Ending, ended, stopped, Between, noLine, aLine, lines, lastLines, notOpened}
+use Rattle.driver.specs.Play.{runFrom, few, resumable, Leads, Piece, aStep, theEnd, Tells, finished, more, unfit, Plays}
+use Rattle.driver.specs.Play.{firstCheckpoint, Begins, opens, fails as turned, noRoom, noRoomToEnd, Starts}
+use Rattle.driver.specs.{declared.Checkpoint.Checkpoint, declared.Progress.Progress, declared.Played.Played}
 use Rattle.driver.specs.declared.Progress.the-variants.{More, Short}
-use Rattle.driver.specs.declared.Played.{Played}
-use Rattle.driver.proofs.Reading.{known}
-use Rattle.driver.proofs.Running.{run-length}
-use Rattle.driver.proofs.Putting.{refused-length}
-use Rattle.driver.proofs.Going.{met}
-use Rattle.playing.specs.Theorems.{pieceBytes, Begun, listed, running, Onward, finished, further, StartComesOnTheorem, PlayComesOnTheorem}
+use Rattle.driver.proofs.{Reading.known, Running.run-length, Putting.refused-length, Counting.few-one, Counting.few-sum, Loop.Resumes, Loop.resumes}
+use Rattle.playing.specs.Theorems.{pieceBytes, Begun, listed, running, Onward, ends, further, StartAdvancesTheorem, PlayAdvancesTheorem}
 
 -- ---- how long a piece is
 
@@ -50,18 +38,13 @@ copy-few : (o : Sizes) (p : Bytes) (c l : ℕ) → length (copyBytes o p c l) �
 copy-few o p c l = let n = length-take (o .width) (drop (copyStart o c l) p) in omega arith
 
 -- a commit's bytes are a line's at most
-commit-few :
-    (call : Call) (o : Sizes) (p bs : Bytes) (c l : ℕ) → callRefusal call o (length bs) ≡ 0
-    → length (commitBytes call bs (copyBytes o p c l)) ≤ o .width
-commit-few (Store a b) o p bs c l e = omega (arith, store-width a b o (length bs) e)
-commit-few (Load a b) o p bs c l e = copy-few o p c l
-commit-few (Fence a) o p bs c l e = copy-few o p c l
-commit-few (Evict a b) o p bs c l e = copy-few o p c l
-commit-few (Advance a n) o p bs c l e = copy-few o p c l
-commit-few (Serve a) o p bs c l e = copy-few o p c l
-commit-few (Receive a) o p bs c l e = copy-few o p c l
-commit-few (Yield b) o p bs c l e = copy-few o p c l
-commit-few (Take b) o p bs c l e = copy-few o p c l
+act-few :
+    (t : Act) (o : Sizes) (p bs : Bytes) (c l : ℕ) → wrongCount t o (length bs) ≡ false → length (actBytes t bs (copyBytes o p c l)) ≤ o .width
+act-few Store o p bs c l e = omega (arith, store-width o (length bs) e)
+act-few Load o p bs c l e = copy-few o p c l
+act-few Fence o p bs c l e = copy-few o p c l
+act-few (Advance n) o p bs c l e = copy-few o p c l
+act-few Transfer o p bs c l e = copy-few o p c l
 
 -- a step's line: 118 bytes beside its data, where each number has twenty digits, and two digits for each of 64 bytes
 step-length : (at : Place) (m : Machine) (call : Call) (bs : Bytes) → length (recordText at (step m call bs .reply)) ≤ pieceBytes
@@ -74,39 +57,39 @@ step-length at m call bs = go (eqb (refusal m call (length bs)) 0) refl _ _ _
     go true e c l d =
         let k = not-refused m call (length bs) (eqb-true _ 0 e) in
         let i = inside (m .state .opening) (machine-fit m (k .machineOk) .opening) in
-        let n = commit-few call (m .state .opening) (m .private) bs c l (k .callOk) in
+        let n = act-few (about call .act) (m .state .opening) (m .private) bs c l (named call (m .state .opening) (length bs) (k .callOk) .count) in
         omega (arith, i .mostWidth, record-length at (d .answer) (commitBytes call bs (copyBytes (m .state .opening) (m .private) c l)))
     go false e c l d = omega (arith, refused-length at (refusal m call (length bs)))
 
 -- the last lines of a run
 last-length : (k : Counts) (e : Ending) → length (lastLines k e) ≤ pieceBytes
-last-length k ended = omega (arith, end-length (k .steps) (k .commits) (k .refusals))
+last-length k ended = omega (arith, end-length k)
 last-length k (stopped n) =
-    simp length-append (omega (arith, refused-length (place (k .steps + 1)) n, end-length (k .steps + 1) (k .commits) (k .refusals + 1)))
+    simp length-append (omega (arith, refused-length (place (k .steps + 1)) n, end-length (plus k (counts 1 0 1))))
 
 -- what is written next, whatever it is
-piece-length : {j : Bytes} {s : Standing} {p q t : Bytes} → Piece j s p q t → length t ≤ pieceBytes
-piece-length {s = s} {p} {q} (aStep {call = call} {bs = bs} x d) = step-length (place (s .steps + 1)) (machine (s .state) p q) call bs
-piece-length {s = s} (theEnd {e = e} x) = last-length (countsOf s) e
+piece-length : {j : Bytes} {s : Checkpoint} {p q t : Bytes} → Piece j s p q t → length t ≤ pieceBytes
+piece-length {s = s} {p} {q} (aStep {call = call} {bs = bs} x d) = step-length (place (s .counts .steps + 1)) (machine (s .state) p q) call bs
+piece-length {s = s} (theEnd {e = e} x) = last-length (s .counts) e
 
 -- ---- play
 
 told-room :
-    {j : Bytes} {from : Standing} {p q : Bytes} {there : Standing} {p' q' text : Bytes} {room : ℕ} {g : Progress} → Tells j from p q there p' q' text room g
+    {j : Bytes} {from : Checkpoint} {p q : Bytes} {there : Checkpoint} {p' q' text : Bytes} {room : ℕ} {g : Progress} → Tells j from p q there p' q' text room g
     → g ≡ More → room < pieceBytes
-told-room (done s l r t) e = absurd (let z : _≡_ {A = ℕ} 0 1 = cc in omega arith)
+told-room (finished s l r t) e = absurd (let z : _≡_ {A = ℕ} 0 1 = cc in omega arith)
 told-room (more s l t x h) e = omega (arith, piece-length x)
 told-room (unfit s a b d t) e = absurd (let z : _≡_ {A = ℕ} 0 1 = cc in omega arith)
 
 -- A CALL OF `play` THAT GOES ON leaves fewer than 246 bytes of the output unwritten
 play-fills :
-    {j : Bytes} {from : Standing} {p q old p' q' new : Bytes} {r : Played} → Plays j from p q old p' q' new r → r .progress ≡ More
+    {j : Bytes} {from : Checkpoint} {p q old p' q' new : Bytes} {r : Played} → Plays j from p q old p' q' new r → r .progress ≡ More
     → length new < r .written + pieceBytes
 play-fills x e = let h = told-room (x .tells) e in omega (arith, x .within)
 
 -- so to an output of 246 bytes or more it wrote something
 play-writes :
-    {j : Bytes} {from : Standing} {p q old p' q' new : Bytes} {r : Played} → Plays j from p q old p' q' new r → r .progress ≡ More
+    {j : Bytes} {from : Checkpoint} {p q old p' q' new : Bytes} {r : Played} → Plays j from p q old p' q' new r → r .progress ≡ More
     → pieceBytes ≤ length new → 0 < r .written
 play-writes x e h = let f = play-fills x e in omega arith
 
@@ -117,15 +100,15 @@ opening-length : (o : Sizes) → length (recordText (place 0) (openReply o)) ≤
 unfolding meaning
 opening-length o = go (eqb (openRefusal o) 0)
   where
-    go : (b : Bool) → length (recordText (place 0) (pick b (reply «open») (refused (openRefusal o)))) ≤ pieceBytes
-    go true = omega (arith, record-length (place 0) Open [])
+    go : (b : Bool) → length (recordText (place 0) (pick b (reply Open) (refused (openRefusal o)))) ≤ pieceBytes
+    go true = omega (arith, record-length (place 0) (Done Open) [])
     go false = omega (arith, refused-length (place 0) (openRefusal o))
 
 turned-length : (n : ℕ) → length (notOpened n) ≤ pieceBytes
-turned-length n = simp length-append (omega (arith, refused-length (place 0) n, end-length 0 0 1))
+turned-length n = simp length-append (omega (arith, refused-length (place 0) n, end-length (counts 0 0 1)))
 
 begun-room :
-    {j : Bytes} {there : Standing} {text : Bytes} {room : ℕ} {g : Progress} → Begins j there text room g → g ≡ Short
+    {j : Bytes} {there : Checkpoint} {text : Bytes} {room : ℕ} {g : Progress} → Begins j there text room g → g ≡ Short
     → (room < pieceBytes) × (text ≡ [])
 begun-room (opens x h t u) e = absurd (let z : _≡_ {A = ℕ} 0 1 = cc in omega arith)
 begun-room (turned n t u) e = absurd (let z : _≡_ {A = ℕ} 0 1 = cc in omega arith)
@@ -138,7 +121,7 @@ start-writes {new = new} {r = r} x h e =
     let b = begun-room (x .begins) e in
     omega (arith, b .0, ap length (b .1), length-take-le (r .written) new (x .within))
 
--- ---- the run comes to its end
+-- ---- the run gets to its end
 
 -- a step takes a byte of the journal or more
 steps-long : {j : Bytes} {form at to : ℕ} {gs : List Given} → Between j form at gs to → at + length gs ≤ to
@@ -175,72 +158,53 @@ next-inside (atLast l h n) k = k
 next-inside (unended l h w) k = k
 next-inside {j} {at} (wholeLine {a = a} l next s h o) k = placed-inside j at next a (line-inside j at l next h) k
 
--- no more commits or refusals than records
-commit-one : (x : Reply) → isCommit x ≤ 1
-commit-one (refused n) = omega arith
-commit-one (reply d) = omega arith
-commit-one (commit c t o) = omega arith
+-- no count is above the number of records
+few-total : (rs : List Record) → few (total rs) (length rs) ≡ true
+unfolding total
+few-total [] = refl
+few-total (r ∷ rs) =
+    few-sum (countsOf (r .given .call) (r .reply)) (total rs) 1 (length rs) (suc (length rs)) (few-one (r .given .call) (r .reply)) (few-total rs) (omega arith)
 
-refusal-one : (x : Reply) → isRefusal x ≤ 1
-refusal-one (refused n) = omega arith
-refusal-one (reply d) = omega arith
-refusal-one (commit c t o) = omega arith
+-- a checkpoint of a run, from what is to hold
+resumes-again : (n : ℕ) (s : Checkpoint) → Resumes n s → resumable n s ≡ true
+resumes-again n s r = rw (ne-eqb (s .form) 0 (r .named), le-leb _ _ (r .inside), r .few)
 
-count-few : (f : Reply → ℕ) → ((x : Reply) → f x ≤ 1) → (rs : List Record) → count f rs ≤ length rs
-unfolding count
-count-few f h [] = omega arith
-count-few f h (r ∷ rs) = omega (arith, h (r .reply), count-few f h rs)
-
--- a run may stand there, from what is to hold
-may-stand :
-    (n : ℕ) (s : Standing) → (s .form ≡ 0 → ⊥) → s .at ≤ n → s .steps ≤ s .at → s .commits ≤ s .at → s .refusals ≤ s .at
-    → stands n s ≡ true
-may-stand n s f a b c d = rw (ne-eqb (s .form) 0 f, le-leb _ _ a, le-leb _ _ b, le-leb _ _ c, le-leb _ _ d)
-
-form-named : (n : ℕ) (s : Standing) → stands n s ≡ true → s .form ≡ 0 → ⊥
-form-named n s e f =
-    let a : fails (eqb (s .form) 0) ≡ false = rw f in
-    let b = both-true (fails (eqb (s .form) 0)) _ e .0 in
-    let z : _≡_ {A = ℕ} 0 1 = cc in
-    omega arith
-
--- the steps of a run lead to where it may stand
-leads-stand :
-    {j : Bytes} {from : Standing} {p q : Bytes} {gs : List Given} {there : Standing} {p' q' : Bytes} → stands (length j) from ≡ true
-    → Leads j from p q gs there p' q' → stands (length j) there ≡ true
-leads-stand {j} {from} {p} {q} {gs} {there} s l =
-    let m = met j from s in
+-- the steps of a run lead to another checkpoint of it
+leads-on :
+    {j : Bytes} {from : Checkpoint} {p q : Bytes} {gs : List Given} {there : Checkpoint} {p' q' : Bytes} → resumable (length j) from ≡ true
+    → Leads j from p q gs there p' q' → resumable (length j) there ≡ true
+leads-on {j} {from} {p} {q} {gs} {there} s l =
+    let r = resumes (length j) from s in
     let rs : List Record = runFrom from p q gs .records in
-    let n = run-length gs (from .steps + 1) (machine (from .state) p q) in
-    let k = steps-long (l .steps) in
-    let es : there .steps ≡ from .steps + length rs = ap (λ (c : Counts). c .steps) (l .counts) in
-    let ec : there .commits ≡ from .commits + count isCommit rs = ap (λ (c : Counts). c .commits) (l .counts) in
-    let er : there .refusals ≡ from .refusals + count isRefusal rs = ap (λ (c : Counts). c .refusals) (l .counts) in
-    may-stand (length j) there (λ z. form-named (length j) from s (sym (l .form) ∙ z)) (steps-inside (l .steps) (m .inside))
-    (omega (arith, m .few-steps)) (omega (arith, m .few-commits, count-few isCommit commit-one rs))
-    (omega (arith, m .few-refusals, count-few isRefusal refusal-one rs))
+    let n = run-length gs (from .counts .steps + 1) (machine (from .state) p q) in
+    resumes-again (length j) there
+    (record {
+      named = λ z. r .named (sym (l .form) ∙ z);
+      inside = steps-inside (l .steps) (r .inside);
+      few = rw (l .counts) (few-sum (from .counts) (total rs) (from .at) (length rs) (there .at) (r .few) (few-total rs) (omega (arith, steps-long (l .steps))));
+    })
 
 told-onward :
-    {j : Bytes} {from : Standing} {p q : Bytes} {there : Standing} {p' q' text : Bytes} {room : ℕ} {g : Progress} → Tells j from p q there p' q' text room g
-    → stands (length j) from ≡ true → (g ≡ More → 0 < length text) → Onward j from there g
-told-onward (done s l r t) e h = finished
+    {j : Bytes} {from : Checkpoint} {p q : Bytes} {there : Checkpoint} {p' q' text : Bytes} {room : ℕ} {g : Progress} → Tells j from p q there p' q' text room g
+    → resumable (length j) from ≡ true → (g ≡ More → 0 < length text) → Onward j from there g
+told-onward (finished s l r t) e h = ends
 told-onward {from = from} {p} {q} (more {gs = gs} s l t x r) e h =
-    let n = lines-some gs (from .steps + 1) (machine (from .state) p q) (rw t at (h refl)) in
-    further (omega (arith, steps-long (l .steps))) (leads-stand s l)
+    let n = lines-some gs (from .counts .steps + 1) (machine (from .state) p q) (rw t at (h refl)) in
+    further (omega (arith, steps-long (l .steps))) (leads-on s l)
 told-onward (unfit s a b d t) e h = absurd (let z : _≡_ {A = ℕ} 0 1 = cc in omega arith)
 
-pub play-comes-on-theorem : PlayComesOnTheorem
-play-comes-on-theorem j from p q old p' q' new r x s h =
+pub play-advances-theorem : PlayAdvancesTheorem
+play-advances-theorem j from p q old p' q' new r x s h =
     told-onward (x .tells) s (λ e. omega (arith, length-take-le (r .written) new (x .within), play-writes x e (omega (arith, x .size))))
 
 told-begun :
-    {j : Bytes} {there : Standing} {text : Bytes} {room : ℕ} {g : Progress} → Begins j there text room g → (g ≡ Short → ⊥) → Begun j there g
+    {j : Bytes} {there : Checkpoint} {text : Bytes} {room : ℕ} {g : Progress} → Begins j there text room g → (g ≡ Short → ⊥) → Begun j there g
 told-begun {j} (opens {form = f} {o = o} {next = n} x h t u) k =
     let i = next-inside x (omega arith) in
-    running (rw t (may-stand (length j) (opened n f o) (known x .1) i (omega arith) (omega arith) (omega arith)))
+    running (rw t (resumes-again (length j) (firstCheckpoint n f o) (record { named = known x .1; inside = i; few = rw (le-leb 0 n (omega arith)) })))
 told-begun (turned n t u) k = listed
 told-begun (noRoom x h t u r) k = absurd (k refl)
 told-begun (noRoomToEnd x t u r) k = absurd (k refl)
 
-pub start-comes-on-theorem : StartComesOnTheorem
-start-comes-on-theorem j old new r x h = told-begun (x .begins) (start-writes x (omega (arith, x .size)))
+pub start-advances-theorem : StartAdvancesTheorem
+start-advances-theorem j old new r x h = told-begun (x .begins) (start-writes x (omega (arith, x .size)))

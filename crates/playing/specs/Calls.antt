@@ -1,33 +1,31 @@
--- The calls that play a journal: `start`, and then `play` until it is done.
+-- The calls that play a journal: `start`, and then `play` until it is finished.
 use mathlib.Core.Path.{_≡_}
 use mathlib.Core.List.{List, [], _∷_, _++_}
 use lib.ListN.{take, replicate}
 use Rattle.protocol.specs.Buffers.{Bytes, privateLength, sharedLength}
-use Rattle.driver.specs.Play.{Plays, Starts}
-use Rattle.driver.specs.declared.Standing.{Standing}
-use Rattle.driver.specs.declared.Progress.the-variants.{Done, More}
-use Rattle.driver.specs.declared.Played.{Played}
+use Rattle.driver.specs.{Play.Plays, Play.Starts, declared.Checkpoint.Checkpoint, declared.Played.Played}
+use Rattle.driver.specs.declared.Progress.the-variants.{Finished, More}
 
 -- the texts that calls wrote, one after the other
 unfoldable pub joined : List Bytes → Bytes
 joined [] = []
 joined (t ∷ ts) = t ++ joined ts
 
--- calls of `play` from a standing with the buffers p and q, each from the standing and with the buffers that the one before left, with any
--- output at all, until one is done; and the texts that they wrote
-pub data Plays-on (journal : Bytes) : Standing → Bytes → Bytes → List Bytes → Type 0 where
+-- calls of `play` from a checkpoint with the buffers p and q, each from the checkpoint and with the buffers that the one before left, with any
+-- output at all, until one is finished; and the texts that they wrote
+pub data Plays-on (journal : Bytes) : Checkpoint → Bytes → Bytes → List Bytes → Type 0 where
   last :
-      {from : Standing} {p q old p' q' new : Bytes} {r : Played} → Plays journal from p q old p' q' new r → r .progress ≡ Done
+      {from : Checkpoint} {p q old p' q' new : Bytes} {r : Played} → Plays journal from p q old p' q' new r → r .progress ≡ Finished
       → Plays-on journal from p q (take (r .written) new ∷ [])
   next :
-      {from : Standing} {p q old p' q' new : Bytes} {r : Played} {ts : List Bytes} → Plays journal from p q old p' q' new r → r .progress ≡ More
-      → Plays-on journal (r .standing) p' q' ts → Plays-on journal from p q (take (r .written) new ∷ ts)
+      {from : Checkpoint} {p q old p' q' new : Bytes} {r : Played} {ts : List Bytes} → Plays journal from p q old p' q' new r → r .progress ≡ More
+      → Plays-on journal (r .checkpoint) p' q' ts → Plays-on journal from p q (take (r .written) new ∷ ts)
 
 -- the calls that play a whole journal, and the texts that they wrote: `start`, and where it opens an engine `play`, on zeroed buffers of
 -- the exact lengths
 pub data Playing (journal : Bytes) : List Bytes → Type 0 where
-  over : {old new : Bytes} {r : Played} → Starts journal old new r → r .progress ≡ Done → Playing journal (take (r .written) new ∷ [])
+  over : {old new : Bytes} {r : Played} → Starts journal old new r → r .progress ≡ Finished → Playing journal (take (r .written) new ∷ [])
   begun :
       {old new : Bytes} {r : Played} {ts : List Bytes} → Starts journal old new r → r .progress ≡ More
-      → Plays-on journal (r .standing) (replicate (privateLength (r .standing .state .opening)) 0) (replicate (sharedLength (r .standing .state .opening)) 0) ts
+      → Plays-on journal (r .checkpoint) (replicate (privateLength (r .checkpoint .state .opening)) 0) (replicate (sharedLength (r .checkpoint .state .opening)) 0) ts
       → Playing journal (take (r .written) new ∷ ts)

@@ -3,16 +3,12 @@
 use Prim.Native.Nat.{ℕ, _+_}
 use mathlib.Core.Path.{_≡_}
 use mathlib.Core.List.{List, _++_}
-use Rattle.protocol.specs.Buffers.{Bytes}
-use Rattle.protocol.specs.Machine.{Machine, freshMachine}
-use Rattle.protocol.specs.Refusals.{openRefusal}
-use Rattle.protocol.specs.Step.{openReply}
-use Rattle.protocol.specs.Run.{Given, place, run}
-use Rattle.protocol.specs.declared.Opening.{Opening as Sizes}
-use Rattle.journal.specs.Journal.{NextOf}
-use Rattle.journal.specs.declared.Next.the-variants.{Opening}
+use Rattle.protocol.specs.{Buffers.Bytes, Machine.Machine, Machine.freshMachine, Refusals.openRefusal, Step.openReply}
+use Rattle.protocol.specs.{Run.Given, Run.place, Run.run, Counts.nothingMet, Counts.plus, Counts.total}
+use Rattle.protocol.specs.declared.{Opening.Opening as Sizes, Counts.Counts}
+use Rattle.journal.specs.{Journal.NextOf, declared.Next.the-variants.Opening}
 use Rattle.listing.specs.Record.{recordText}
-use Rattle.driver.specs.Listing.{Ending, Between, EndsAt, lines, Counts, counted, lastLines, NotOpened, notOpened}
+use Rattle.driver.specs.Listing.{Ending, Between, EndsAt, lines, lastLines, NotOpened, notOpened}
 
 -- the steps that a journal of some form spells from a place on, and how it ends
 pub record Reads (journal : Bytes) (form at : ℕ) (gs : List Given) (e : Ending) : Type 0 where
@@ -22,17 +18,13 @@ pub record Reads (journal : Bytes) (form at : ℕ) (gs : List Given) (e : Ending
 
 -- the listing from a machine on, after k was met: the records of the steps, and the last lines
 abbrev pub listingFrom : Machine → Counts → List Given → Ending → Bytes
-listingFrom m k gs e = lines (run gs (k .steps + 1) m .records) ++ lastLines (counted k (run gs (k .steps + 1) m .records)) e
-
--- nothing met yet
-abbrev pub none : Counts
-none = record { steps = 0; commits = 0; refusals = 0 }
+listingFrom m k gs e = lines (run gs (k .steps + 1) m .records) ++ lastLines (plus k (total (run gs (k .steps + 1) m .records))) e
 
 -- THE LISTING of a journal
 pub data Listing (journal : Bytes) : Bytes → Type 0 where
   -- the first line opens an engine, and the steps run on it
   opens :
       {form : ℕ} {o : Sizes} {next : ℕ} {gs : List Given} {e : Ending} → NextOf journal 0 0 (Opening form o next) → openRefusal o ≡ 0
-      → Reads journal form next gs e → Listing journal (recordText (place 0) (openReply o) ++ listingFrom (freshMachine o) none gs e)
+      → Reads journal form next gs e → Listing journal (recordText (place 0) (openReply o) ++ listingFrom (freshMachine o) nothingMet gs e)
   -- the first line opens none
   fails : {n : ℕ} → NotOpened journal n → Listing journal (notOpened n)

@@ -1,19 +1,14 @@
--- The theorems about the driver: what its calls write is the listing, everything has exactly one answer, and with room the calls come on.
+-- The theorems about the driver: what its calls write is the listing, everything has exactly one answer, and with room the calls advance.
 use Prim.Native.Nat.{ℕ, _≤_, _<_}
 use mathlib.Core.Path.{_≡_}
 use mathlib.Core.Bool.{true}
 use mathlib.Core.List.{List}
 use lib.ListN.{length}
-use Rattle.protocol.specs.Buffers.{Bytes}
-use Rattle.protocol.specs.Run.{Given}
-use Rattle.driver.specs.Listing.{Ending}
-use Rattle.driver.specs.Play.{stands, Plays, Starts}
-use Rattle.driver.specs.declared.Standing.{Standing}
-use Rattle.driver.specs.declared.Progress.{Progress}
-use Rattle.driver.specs.declared.Progress.the-variants.{Done, More}
-use Rattle.driver.specs.declared.Played.{Played}
-use Rattle.playing.specs.Listing.{Reads, Listing}
-use Rattle.playing.specs.Calls.{joined, Playing}
+use Rattle.protocol.specs.{Buffers.Bytes, Run.Given}
+use Rattle.driver.specs.{Listing.Ending, Play.resumable, Play.Plays, Play.Starts}
+use Rattle.driver.specs.declared.{Checkpoint.Checkpoint, Progress.Progress, Played.Played}
+use Rattle.driver.specs.declared.Progress.the-variants.{Finished, More}
+use Rattle.playing.specs.{Listing.Reads, Listing.Listing, Calls.joined, Calls.Playing}
 
 -- ---- the listing
 
@@ -61,36 +56,36 @@ abbrev pub StartOneTheorem : Type 0
 StartOneTheorem =
     (journal old : Bytes) (a b : Started) → Starts journal old (a .out) (a .played) → Starts journal old (b .out) (b .played) → a ≡ b
 
--- for a journal, a standing, the buffers p and q and an output, no two answers of `play` meet its contract
+-- for a journal, a checkpoint, the buffers p and q and an output, no two answers of `play` meet its contract
 abbrev pub PlayOneTheorem : Type 0
 PlayOneTheorem =
-    (journal : Bytes) (from : Standing) (p q old : Bytes) (a b : Left)
+    (journal : Bytes) (from : Checkpoint) (p q old : Bytes) (a b : Left)
     → Plays journal from p q old (a .private) (a .shared) (a .out) (a .played)
     → Plays journal from p q old (b .private) (b .shared) (b .out) (b .played) → a ≡ b
 
--- ---- with room the calls come on
+-- ---- with room the calls advance
 
 -- what is written in one piece has at most so many bytes: a line's numbers have twenty digits at most, and its data are 64 bytes at most
 abbrev pub pieceBytes : ℕ
 pieceBytes = 246
 
--- the whole listing is written, or a run stands where `play` goes on from
-pub data Begun (journal : Bytes) (there : Standing) : Progress → Type 0 where
-  listed : Begun journal there Done
-  running : stands (length journal) there ≡ true → Begun journal there More
+-- the whole listing is written, or there is a checkpoint that `play` goes on from
+pub data Begun (journal : Bytes) (there : Checkpoint) : Progress → Type 0 where
+  listed : Begun journal there Finished
+  running : resumable (length journal) there ≡ true → Begun journal there More
 
--- a call of `start` with room for a piece comes to one of them
-abbrev pub StartComesOnTheorem : Type 0
-StartComesOnTheorem =
-    (journal old new : Bytes) (r : Played) → Starts journal old new r → pieceBytes ≤ length old → Begun journal (r .standing) (r .progress)
+-- a call of `start` with room for a piece has one of them
+abbrev pub StartAdvancesTheorem : Type 0
+StartAdvancesTheorem =
+    (journal old new : Bytes) (r : Played) → Starts journal old new r → pieceBytes ≤ length old → Begun journal (r .checkpoint) (r .progress)
 
--- the listing's last line is written, or the run stands further on in the journal, where `play` goes on from
-pub data Onward (journal : Bytes) (from there : Standing) : Progress → Type 0 where
-  finished : Onward journal from there Done
-  further : from .at < there .at → stands (length journal) there ≡ true → Onward journal from there More
+-- the listing's last line is written, or there is a checkpoint further on in the journal that `play` goes on from
+pub data Onward (journal : Bytes) (from there : Checkpoint) : Progress → Type 0 where
+  ends : Onward journal from there Finished
+  further : from .at < there .at → resumable (length journal) there ≡ true → Onward journal from there More
 
--- a call of `play` from where a run may stand, with room for a piece, comes to one of them: so the calls come to the listing's end
-abbrev pub PlayComesOnTheorem : Type 0
-PlayComesOnTheorem =
-    (journal : Bytes) (from : Standing) (p q old p' q' new : Bytes) (r : Played) → Plays journal from p q old p' q' new r
-    → stands (length journal) from ≡ true → pieceBytes ≤ length old → Onward journal from (r .standing) (r .progress)
+-- a call of `play` from a checkpoint of a run, with room for a piece, has one of them: so the calls come to the listing's end
+abbrev pub PlayAdvancesTheorem : Type 0
+PlayAdvancesTheorem =
+    (journal : Bytes) (from : Checkpoint) (p q old p' q' new : Bytes) (r : Played) → Plays journal from p q old p' q' new r
+    → resumable (length journal) from ≡ true → pieceBytes ≤ length old → Onward journal from (r .checkpoint) (r .progress)

@@ -7,8 +7,7 @@ use mathlib.Core.List.{List, [], _∷_}
 use native.Mathlib.Omega.{arith}
 use lib.Dec.{ltb, eqb}
 use borrow.Author.Tests.{ltb-true, lt-ltb, eqb-true, eq-eqb}
-use Rattle.protocol.specs.Pick.{pick, both, every, fails}
-use Rattle.protocol.specs.Order.{In, here, there}
+use Rattle.protocol.specs.{Pick.pick, Pick.both, Pick.every, Pick.fails, Order.In, Order.here, Order.there}
 
 -- the test b passes exactly where P holds
 pub record Decides (b : Bool) (P : Type 0) : Type 0 where

@@ -10,16 +10,12 @@ use lib.ListN.{length, getD, drop}
 use borrow.Author.Tests.{leb-true, ltb-true, eqb-true, eqb-false, le-leb, lt-ltb, eq-eqb}
 use Rattle.protocol.specs.Pick.{pick, both, fails, every}
 use Rattle.protocol.proofs.Tests.{both-true}
-use Rattle.spelling.specs.Bytes.{All, Byte, upTo}
-use Rattle.spelling.specs.Decimal.{decimal, decimalUpTo, greatest, IsNumber}
+use Rattle.spelling.specs.{Bytes.All, Bytes.Byte, Bytes.upTo, Decimal.decimal, Decimal.decimalUpTo, Decimal.greatest, Decimal.IsNumber}
 use Rattle.spelling.specs.Hex.{hex, IsData}
-use Rattle.spelling.proofs.DecimalLaws.{value as valueOf, value-decimal}
-use Rattle.spelling.proofs.HexLaws.{unhex, unhex-hex}
+use Rattle.spelling.proofs.{DecimalLaws.value as valueOf, DecimalLaws.value-decimal, HexLaws.unhex, HexLaws.unhex-hex}
 use Rattle.grammar.specs.Form.{Value, Part, fixed, value, number, pairs, lay, Each as EachValue, NoBlank, RightNumber, RightData, Has, Given, spellings, spell}
-use Rattle.grammar.specs.Table.{Row, rowAt, rowsOf}
+use Rattle.grammar.specs.{Table.Row, Table.rowAt, Table.rowsOf, declared.Line.Line, declared.Line.the-variants.Refused}
 use Rattle.grammar.specs.Line.{said, Fits, LineOf, tooLong, noForm, wrongNumber, wrongData, spelt}
-use Rattle.grammar.specs.declared.Line.{Line}
-use Rattle.grammar.specs.declared.Line.the-variants.{Refused}
 use Rattle.reference_points.specs.Lines.{Written, Says, formless, misnumbered, misspelt, LinesTheorem}
 use Rattle.reference_points.proofs.Each.{each}
 

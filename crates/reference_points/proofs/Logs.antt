@@ -5,10 +5,7 @@ use mathlib.Core.Bool.{Bool, true, false}
 use mathlib.Core.Logic.{_⊎_}
 use native.Mathlib.Omega.{arith}
 use lib.Dec.{ltb, eqb}
-use Rattle.protocol.specs.Pick.{pick, both, every, fails}
-use Rattle.protocol.specs.Stamps.{precedes}
-use Rattle.protocol.specs.Step.{Op, load, store, fence}
-use Rattle.protocol.specs.Run.{Commit}
+use Rattle.protocol.specs.{Pick.pick, Pick.both, Pick.every, Pick.fails, Stamps.precedes, Step.Op, Step.load, Step.store, Step.fence, Run.Commit}
 use Rattle.protocol.specs.Order.{In, key, Before, Earlier, TsoKeeps, Stores, Loads, MaySee, LastWrite, TSO}
 use Rattle.protocol.proofs.Order.Theorem.{key-theorem}
 use Rattle.reference_points.specs.Logs.{Log, at, obeying, disobeying, TsoTheorem, NotTsoTheorem}

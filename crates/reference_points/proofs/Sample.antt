@@ -7,22 +7,17 @@ use native.Mathlib.Omega.{arith}
 use lib.Dec.{ltb, eqb, lit≤}
 use lib.ListN.{length, take, drop}
 use borrow.Author.Tests.{ltb-true, eqb-true}
-use Rattle.protocol.specs.Pick.{both}
-use Rattle.protocol.specs.Run.{run}
+use Rattle.protocol.specs.{Pick.both, Run.run, Counts.total}
 use Rattle.protocol.proofs.Tests.{both-true}
-use Rattle.spelling.specs.Bytes.{upTo}
-use Rattle.spelling.specs.Decimal.{decimal, decimalUpTo}
-use Rattle.spelling.specs.Hex.{hex}
-use Rattle.grammar.specs.Form.{lay, spellings, spell}
-use Rattle.grammar.specs.Table.{rowAt, rowsOf}
+use Rattle.spelling.specs.{Bytes.upTo, Decimal.decimal, Decimal.decimalUpTo, Hex.hex}
+use Rattle.grammar.specs.{Form.lay, Form.spellings, Form.spell, Table.rowAt, Table.rowsOf}
 use Rattle.journal.specs.Journal.{placed, NextOf, ended}
 use Rattle.journal.proofs.Lines.{line-answer}
 use Rattle.listing.specs.Record.{recordText, endText}
-use Rattle.driver.specs.Listing.{Data, noData, someData, noLine, aLine, atEnd, lines, count}
+use Rattle.driver.specs.Listing.{Data, noData, someData, noLine, aLine, atEnd, lines}
 use Rattle.playing.specs.Listing.{opens}
 use Rattle.reference_points.specs.Sample.{sampleJournal, SampleTheorem}
-use Rattle.reference_points.proofs.Rows.{calling}
-use Rattle.reference_points.proofs.Lines.{takes, saying, spelt-line}
+use Rattle.reference_points.proofs.{Rows.calling, Lines.takes, Lines.saying, Lines.spelt-line}
 
 -- the bytes of the sample from one place up to another
 abbrev from : ℕ → ℕ → List ℕ
@@ -49,7 +44,7 @@ seven : {digits : List ℕ} → digits ≡ hex (7 ∷ []) → Data digits (7 ∷
 seven e = someData {bs = 7 ∷ []} (record { some = lit≤ tt; bytes = (lit≤ tt, tt); same = e })
 
 pub sample-theorem : SampleTheorem
-unfolding calling run upTo takes stands lay spellings decimal decimalUpTo hex recordText endText lines count
+unfolding calling run upTo takes stands lay spellings decimal decimalUpTo hex recordText endText lines total
 sample-theorem =
     opens (line 0 0 41 0 (1 ∷ 1 ∷ 1 ∷ 10 ∷ []) [] refl refl) refl
     (record {

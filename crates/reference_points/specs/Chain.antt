@@ -3,16 +3,11 @@
 use Prim.Native.Nat.{ℕ}
 use mathlib.Core.Path.{_≡_}
 use mathlib.Core.List.{List, [], _∷_}
-use Rattle.protocol.specs.Stamps.{stamp}
-use Rattle.protocol.specs.Fresh.{smallest}
-use Rattle.protocol.specs.Buffers.{Bytes}
-use Rattle.protocol.specs.Machine.{Machine, freshMachine}
-use Rattle.protocol.specs.Step.{fence, step}
-use Rattle.protocol.specs.Run.{place, Commit}
-use Rattle.protocol.specs.declared.Call.{Call}
+use Rattle.protocol.specs.{Stamps.stamp, Fresh.smallest, Buffers.Bytes, Machine.Machine, Machine.freshMachine, Step.fence, Step.step}
+use Rattle.protocol.specs.{Run.place, Run.Commit, declared.Call.Call, declared.Answer.Answer, declared.Kind.the-variants.Fence as OfFence}
 use Rattle.protocol.specs.declared.Call.the-variants.{Load, Fence, Take}
-use Rattle.protocol.specs.declared.Answer.{Answer}
-use Rattle.protocol.specs.declared.Answer.the-variants.{Refused, Ask, CommitFence}
+use Rattle.protocol.specs.declared.Answer.the-variants.{Refused, Done, Commit as Committed}
+use Rattle.protocol.specs.declared.Name.the-variants.{Ask}
 use Rattle.engine.specs.History.{Made, MadeFrom, history}
 
 -- a call, the bytes given to it, what it answers, and where the bytes of its commit lie: so many from a start in the private buffer
@@ -43,7 +38,7 @@ chain m (k ∷ ks) = made m k ∷ chain (step m (k .call) (k .bytes) .machine) k
 
 -- a fence that commits, a load that asks, a take without a writeback (25)
 abbrev pub entries : List Entry
-entries = entry (Fence 0) [] (CommitFence 0 (stamp 0)) 0 0 ∷ entry (Load 0 0) [] Ask 0 0 ∷ entry (Take 0) [] (Refused 25) 0 0 ∷ []
+entries = entry (Fence 0) [] (Committed 0 (stamp 0) OfFence) 0 0 ∷ entry (Load 0 0) [] (Done Ask) 0 0 ∷ entry (Take 0) [] (Refused 25) 0 0 ∷ []
 
 -- "Commits come from load, store and fence only."
 abbrev pub entryCommits : List (Commit Bytes)

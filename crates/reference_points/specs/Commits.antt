@@ -2,14 +2,10 @@
 use Prim.Native.Nat.{ℕ}
 use mathlib.Core.Path.{_≡_}
 use mathlib.Core.List.{List, [], _∷_, map}
-use Rattle.protocol.specs.Stamps.{stamp}
-use Rattle.protocol.specs.Buffers.{Bytes}
-use Rattle.protocol.specs.Machine.{freshMachine}
-use Rattle.protocol.specs.Step.{Op, ask, share, own, evict, advance, load, store, fence, Reply, refused, done, commit}
-use Rattle.protocol.specs.Run.{Given, Record, Commit, place, run}
-use Rattle.protocol.specs.Order.{commitsOf}
-use Rattle.protocol.specs.declared.Opening.{Opening}
-use Rattle.protocol.specs.declared.Call.{Call}
+use Rattle.protocol.specs.{Stamps.stamp, Buffers.Bytes, Machine.freshMachine, Run.Given, Run.Record, Run.Commit, Run.place, Run.run}
+use Rattle.protocol.specs.{Step.Op, Step.load, Step.store, Step.fence, Step.Reply, Step.refused, Step.done, Step.commit, Order.commitsOf}
+use Rattle.protocol.specs.{declared.Opening.Opening, declared.Call.Call}
+use Rattle.protocol.specs.declared.Name.the-variants.{Ask as ask, Share as share, Own as own, Evict as evict, Advance as advance}
 use Rattle.protocol.specs.declared.Call.the-variants.{Load, Store, Fence, Evict, Advance, Serve, Receive, Take}
 use Rattle.reference_points.specs.Numbers.{opening}
 

@@ -3,10 +3,7 @@
 -- The values are numbers; where nothing is stored a line reads 0.
 use Prim.Native.Nat.{ℕ}
 use mathlib.Core.List.{List, [], _∷_}
-use Rattle.protocol.specs.Stamps.{stamp}
-use Rattle.protocol.specs.Step.{Op, load, store, fence}
-use Rattle.protocol.specs.Run.{Commit, place}
-use Rattle.protocol.specs.Order.{TSO}
+use Rattle.protocol.specs.{Stamps.stamp, Step.Op, Step.load, Step.store, Step.fence, Run.Commit, Run.place, Order.TSO}
 use Rattle.reference_points.specs.Rows.{Each}
 
 abbrev pub Log : Type 0

@@ -5,19 +5,14 @@
 use Prim.Native.Nat.{ℕ}
 use mathlib.Core.List.{List, [], _∷_, _++_, map}
 use lib.ListN.{drop, replicate}
-use Rattle.protocol.specs.Stamps.{stamp}
-use Rattle.protocol.specs.Buffers.{Bytes}
-use Rattle.protocol.specs.Machine.{Machine, machine, freshMachine, Pieces}
-use Rattle.protocol.specs.Step.{Reply, refused, done, «open», Outcome, step, openReply, opened}
-use Rattle.protocol.specs.declared.Copy.the-variants.{None as NoCopy}
+use Rattle.protocol.specs.{Stamps.stamp, Buffers.Bytes, Machine.Machine, Machine.machine, Machine.freshMachine, Machine.Pieces, declared.Call.Call}
+use Rattle.protocol.specs.{Step.Reply, Step.refused, Step.done, Step.Outcome, Step.step, Step.openReply, Step.opened, declared.Opening.Opening}
+use Rattle.protocol.specs.{declared.Name.the-variants.Open, declared.Copy.the-variants.None as NoCopy, declared.State.State}
 use Rattle.protocol.specs.declared.Want.the-variants.{Load as WantLoad, Store as WantStore}
 use Rattle.protocol.specs.declared.Held.the-variants.{None as NothingHeld, Version}
 use Rattle.protocol.specs.declared.Grant.the-variants.{Share as GrantShare, Own as GrantOwn}
 use Rattle.protocol.specs.declared.Slot.the-variants.{Empty, Asked, Answered}
 use Rattle.protocol.specs.declared.Recall.the-variants.{None as NoRecall, Downgrade, Flush}
-use Rattle.protocol.specs.declared.Opening.{Opening}
-use Rattle.protocol.specs.declared.State.{State}
-use Rattle.protocol.specs.declared.Call.{Call}
 use Rattle.protocol.specs.declared.Call.the-variants.{Load, Store, Fence, Evict, Advance, Serve, Receive, Yield, Take}
 use Rattle.reference_points.specs.Rows.{core, asked, answered, askedElsewhere, answeredElsewhere, sharedCopy, cleanCopy, dirtyCopy, pieces}
 use Rattle.reference_points.specs.Rows.{sharedLine, ownedLine, withWriteback, busy, unmoved, counting, given}
@@ -230,7 +225,7 @@ abbrev pub inside : List Opening
 inside = opening 1 1 1 1 ∷ opening 16 64 64 1000 ∷ opening 2 3 4 5 ∷ []
 
 abbrev pub accepted : Opening → Opened
-accepted o = record { reply = done «open»; state = fresh o }
+accepted o = record { reply = done Open; state = fresh o }
 
 -- "a refused opening, which gets none, the fresh state of 1 core, 1 line, width 1, lease 1"
 abbrev pub refusedWithSeven : Opening → Opened

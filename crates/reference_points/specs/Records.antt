@@ -2,13 +2,12 @@
 use Prim.Native.Nat.{ℕ}
 use mathlib.Core.Path.{_≡_}
 use mathlib.Core.List.{List, [], _∷_, _++_}
-use Rattle.protocol.specs.Stamps.{stamp}
-use Rattle.protocol.specs.Buffers.{Bytes}
-use Rattle.protocol.specs.Step.{«open», ask, recall, share, renew, own, dropped, evict, advance, yield, taken, load, store, fence, Reply, refused, done, commit}
-use Rattle.protocol.specs.Run.{place}
+use Rattle.protocol.specs.{Stamps.stamp, Buffers.Bytes, Step.load, Step.store, Step.fence, Step.Reply, Step.refused, Step.done, Step.commit}
+use Rattle.protocol.specs.{Run.place, Counts.counts, declared.Counts.Counts}
+use Rattle.protocol.specs.declared.Name.the-variants.{Open, Ask, Recall, Share, Renew, Own, Drop, Evict, Advance, Yield, Take}
 use Rattle.spelling.specs.Text.{text}
 use Rattle.listing.specs.Record.{recordText, endText}
-use Rattle.driver.specs.Listing.{Counts, ended, stopped, lastLines, notOpened}
+use Rattle.driver.specs.Listing.{ended, stopped, lastLines, notOpened}
 use Rattle.reference_points.specs.Rows.{Agree}
 
 -- the record of a call: its place, its answer, the line printed for it
@@ -36,30 +35,30 @@ records =
     (text "n=4294967295 commit=load core=15 line=63 ts=4294967295 data=0123456789abcdef\n")
     ∷ printed 10 (commit 0 (stamp 0) (store 0 (0 ∷ 16 ∷ 255 ∷ []))) (text "n=10 commit=store core=0 line=0 ts=0 data=0010ff\n")
     ∷ printed 8 (commit 3 (stamp 45) fence) (text "n=8 commit=fence core=3 ts=45\n")
-    ∷ printed 0 (done «open») (text "n=0 done=open\n")
-    ∷ printed 1 (done ask) (text "n=1 done=ask\n")
-    ∷ printed 2 (done recall) (text "n=2 done=recall\n")
-    ∷ printed 3 (done share) (text "n=3 done=share\n")
-    ∷ printed 4 (done renew) (text "n=4 done=renew\n")
-    ∷ printed 5 (done own) (text "n=5 done=own\n")
-    ∷ printed 6 (done dropped) (text "n=6 done=drop\n")
-    ∷ printed 7 (done evict) (text "n=7 done=evict\n")
-    ∷ printed 8 (done advance) (text "n=8 done=advance\n")
-    ∷ printed 9 (done yield) (text "n=9 done=yield\n")
-    ∷ printed 10 (done taken) (text "n=10 done=take\n")
+    ∷ printed 0 (done Open) (text "n=0 done=open\n")
+    ∷ printed 1 (done Ask) (text "n=1 done=ask\n")
+    ∷ printed 2 (done Recall) (text "n=2 done=recall\n")
+    ∷ printed 3 (done Share) (text "n=3 done=share\n")
+    ∷ printed 4 (done Renew) (text "n=4 done=renew\n")
+    ∷ printed 5 (done Own) (text "n=5 done=own\n")
+    ∷ printed 6 (done Drop) (text "n=6 done=drop\n")
+    ∷ printed 7 (done Evict) (text "n=7 done=evict\n")
+    ∷ printed 8 (done Advance) (text "n=8 done=advance\n")
+    ∷ printed 9 (done Yield) (text "n=9 done=yield\n")
+    ∷ printed 10 (done Take) (text "n=10 done=take\n")
     ∷ printed 9 (refused 27) (text "n=9 refused=27\n")
     ∷ []
 
 -- 12 steps were met, of which 3 committed and 4 were refused
 abbrev pub met : Counts
-met = record { steps = 12; commits = 3; refusals = 4 }
+met = counts 12 3 4
 
 pub record RecordsTheorem : Type 0 where
   -- a text is its bytes in ASCII, and `\n` is the newline, 10
   pub bytes : text "n=0 az\n" ≡ 110 ∷ 61 ∷ 48 ∷ 32 ∷ 97 ∷ 122 ∷ 10 ∷ []
   pub records : Agree recorded lineOf records
   -- "The end line counts step lines met, the one that ends the run too, commits, and `refused=` lines above it."
-  pub end : endText 12 3 4 ≡ text "end=12 commits=3 refused=4\n"
+  pub end : endText met ≡ text "end=12 commits=3 refused=4\n"
   pub ended : lastLines met ended ≡ text "end=12 commits=3 refused=4\n"
   -- "Numbers 7 and 10 to 14 end the run, after `refused=` and the end line"
   pub stopped : lastLines met (stopped 11) ≡ text "n=13 refused=11\n" ++ text "end=13 commits=3 refused=5\n"

@@ -7,30 +7,16 @@ use mathlib.Core.Path.{_≡_}
 use mathlib.Core.Bool.{true, false}
 use mathlib.Core.List.{List, [], _∷_, _++_}
 use lib.ListN.{set, replicate}
-use Rattle.protocol.specs.Stamps.{stamp}
-use Rattle.protocol.specs.Fresh.{freshCore, freshCell, freshLine}
-use Rattle.protocol.specs.Buffers.{Bytes}
-use Rattle.protocol.specs.Machine.{Machine, machine, Pieces}
-use Rattle.protocol.specs.Step.{Reply, Outcome, step}
-use Rattle.protocol.specs.declared.Copy.{Copy}
+use Rattle.protocol.specs.{Stamps.stamp, Fresh.freshCore, Fresh.freshCell, Fresh.freshLine, Buffers.Bytes, Step.Reply, Step.Outcome, Step.step}
+use Rattle.protocol.specs.{Machine.Machine, Machine.machine, Machine.Pieces, declared.Copy.Copy, declared.Want.Want, declared.Held.Held}
 use Rattle.protocol.specs.declared.Copy.the-variants.{None as NoCopy, Shared as CopyShared, Owned as CopyOwned}
-use Rattle.protocol.specs.declared.Want.{Want}
-use Rattle.protocol.specs.declared.Want.the-variants.{Load as WantLoad, Store as WantStore}
-use Rattle.protocol.specs.declared.Held.{Held}
-use Rattle.protocol.specs.declared.Held.the-variants.{None as NothingHeld, Version}
-use Rattle.protocol.specs.declared.Grant.{Grant}
-use Rattle.protocol.specs.declared.Grant.the-variants.{Share as GrantShare}
-use Rattle.protocol.specs.declared.Slot.{Slot}
-use Rattle.protocol.specs.declared.Slot.the-variants.{Asked, Answered}
-use Rattle.protocol.specs.declared.Core.{Core}
-use Rattle.protocol.specs.declared.Cell.{Cell}
-use Rattle.protocol.specs.declared.Manager.the-variants.{Shared, Owned}
-use Rattle.protocol.specs.declared.Recall.{Recall}
+use Rattle.protocol.specs.{declared.Want.the-variants.Load as WantLoad, declared.Want.the-variants.Store as WantStore, declared.Grant.Grant}
+use Rattle.protocol.specs.{declared.Held.the-variants.None as NothingHeld, declared.Held.the-variants.Version, declared.Slot.Slot}
+use Rattle.protocol.specs.{declared.Grant.the-variants.Share as GrantShare, declared.Slot.the-variants.Asked, declared.Slot.the-variants.Answered}
+use Rattle.protocol.specs.{declared.Core.Core, declared.Cell.Cell, declared.Manager.the-variants.Shared, declared.Manager.the-variants.Owned}
+use Rattle.protocol.specs.{declared.Recall.Recall, declared.Writeback.the-variants.None as NoWriteback, declared.Writeback.the-variants.Flight}
 use Rattle.protocol.specs.declared.Recall.the-variants.{None as NoRecall, Downgrade, Flush}
-use Rattle.protocol.specs.declared.Writeback.the-variants.{None as NoWriteback, Flight}
-use Rattle.protocol.specs.declared.Line.{Line}
-use Rattle.protocol.specs.declared.State.{State}
-use Rattle.protocol.specs.declared.Call.{Call}
+use Rattle.protocol.specs.{declared.Line.Line, declared.State.State, declared.Call.Call}
 
 -- ---- parts of a machine
 

@@ -3,24 +3,16 @@
 use Prim.Native.Nat.{ℕ}
 use mathlib.Core.Path.{_≡_}
 use mathlib.Core.List.{List, [], _∷_, _++_, map}
-use Rattle.protocol.specs.Stamps.{stamp}
-use Rattle.protocol.specs.Machine.{machine, Pieces}
-use Rattle.protocol.specs.Step.{Done, done, ask, recall, share, renew, own, dropped, evict, advance, yield, taken, commit, load, store, fence}
-use Rattle.protocol.specs.Step.{Outcome, step}
-use Rattle.protocol.specs.declared.Copy.{Copy}
-use Rattle.protocol.specs.declared.Copy.the-variants.{None as NoCopy}
-use Rattle.protocol.specs.declared.Want.{Want}
-use Rattle.protocol.specs.declared.Want.the-variants.{Load as WantLoad, Store as WantStore}
-use Rattle.protocol.specs.declared.Held.{Held}
-use Rattle.protocol.specs.declared.Held.the-variants.{None as NothingHeld, Version}
+use Rattle.protocol.specs.{Stamps.stamp, Machine.machine, Machine.Pieces, Step.done, Step.commit, Step.load, Step.store, Step.fence}
+use Rattle.protocol.specs.{Step.Outcome, Step.step, declared.Name.Name, declared.Copy.Copy, declared.Copy.the-variants.None as NoCopy}
+use Rattle.protocol.specs.declared.Name.the-variants.{Ask as ask, Recall as recall, Share as share, Renew as renew, Own as own, Drop as dropped}
+use Rattle.protocol.specs.declared.Name.the-variants.{Evict as evict, Advance as advance, Yield as yield, Take as taken}
+use Rattle.protocol.specs.{declared.Want.Want, declared.Want.the-variants.Load as WantLoad, declared.Want.the-variants.Store as WantStore}
+use Rattle.protocol.specs.{declared.Held.Held, declared.Held.the-variants.None as NothingHeld, declared.Held.the-variants.Version}
 use Rattle.protocol.specs.declared.Grant.the-variants.{Share as GrantShare, Renew as GrantRenew, Own as GrantOwn}
-use Rattle.protocol.specs.declared.Slot.{Slot}
-use Rattle.protocol.specs.declared.Slot.the-variants.{Empty, Answered}
-use Rattle.protocol.specs.declared.Recall.{Recall}
+use Rattle.protocol.specs.{declared.Slot.Slot, declared.Slot.the-variants.Empty, declared.Slot.the-variants.Answered, declared.Recall.Recall}
 use Rattle.protocol.specs.declared.Recall.the-variants.{None as NoRecall, Downgrade, Flush}
-use Rattle.protocol.specs.declared.Line.{Line}
-use Rattle.protocol.specs.declared.State.{State}
-use Rattle.protocol.specs.declared.Call.{Call}
+use Rattle.protocol.specs.{declared.Line.Line, declared.State.State, declared.Call.Call}
 use Rattle.protocol.specs.declared.Call.the-variants.{Load, Store, Fence, Evict, Advance, Serve, Receive, Yield, Take}
 use Rattle.reference_points.specs.Rows.{core, asked, answered, askedElsewhere, answeredElsewhere, sharedCopy, cleanCopy, dirtyCopy, pieces}
 use Rattle.reference_points.specs.Rows.{sharedLine, ownedLine, withRecall, withWriteback, busy, greatest, Row, AllHold}
@@ -28,7 +20,7 @@ use Rattle.reference_points.specs.Rows.{Places, places, copyBytes, manag
 use Rattle.reference_points.specs.Rows.{counting, private, shared, stateOf, withCore, withLine}
 
 -- a call that is done: what it answers, the pieces and the bytes after it
-abbrev pub doing : Pieces → Call → Done → Pieces → Places → Row
+abbrev pub doing : Pieces → Call → Name → Pieces → Places → Row
 doing p call d q b = record { lease = 10; before = p; call = call; reply = done d; after = q; bytes = b }
 
 -- rows of a step that leaves the clocks, as they stand and with other clocks
@@ -194,10 +186,10 @@ recalling a k k′ =
 
 -- a request for the shared line, by a core with this copy, which stays: the asked lts, what is asked for, the version held; the manager's line; its
 -- answer, the slot, the line and the bytes after it
-abbrev pub servingOver : Copy → ℕ → Want → Held → Line → Done → Slot → Line → Places → Row
+abbrev pub servingOver : Copy → ℕ → Want → Held → Line → Name → Slot → Line → Places → Row
 servingOver x lts a h m d s m′ b = doing (pieces (core 7 9 (asked a lts h)) x m) (Serve 1) d (pieces (core 7 9 s) x m′) b
 
-abbrev pub serving : ℕ → Want → Held → Line → Done → Slot → Line → Places → Row
+abbrev pub serving : ℕ → Want → Held → Line → Name → Slot → Line → Places → Row
 serving = servingOver (sharedCopy 3 8)
 
 -- the manager's bytes as the answer
@@ -246,14 +238,14 @@ serveRows =
 -- ---- receive
 
 -- the manager's line, which stays; the slot and the copy before it; its answer, the copy and the bytes after it. "Slot becomes empty."
-abbrev pub receivingOf : Line → Slot → Copy → Done → Copy → Places → Row
+abbrev pub receivingOf : Line → Slot → Copy → Name → Copy → Places → Row
 receivingOf m s x d y b = doing (pieces (core 7 9 s) x m) (Receive 1) d (pieces (core 7 9 Empty) y m) b
 
 -- of a shared line; of one's own
-abbrev pub receiving : Slot → Copy → Done → Copy → Places → Row
+abbrev pub receiving : Slot → Copy → Name → Copy → Places → Row
 receiving = receivingOf (busy (sharedLine 4 30))
 
-abbrev pub receivingOwn : Slot → Copy → Done → Copy → Places → Row
+abbrev pub receivingOwn : Slot → Copy → Name → Copy → Places → Row
 receivingOwn = receivingOf (busy (ownedLine 1 NoRecall))
 
 -- the answer's bytes as the copy

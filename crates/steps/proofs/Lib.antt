@@ -1,2 +1,2 @@
 -- Laws that more than one proof cites.
-pub mod Coming
+pub mod Calling

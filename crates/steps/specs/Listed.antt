@@ -2,12 +2,11 @@
 use mathlib.Core.Bool.{Bool, true, false}
 use mathlib.Core.List.{List}
 use Rattle.protocol.specs.Buffers.{Bytes}
-use Rattle.driver.specs.declared.Standing.{Standing}
-use Rattle.playing.specs.Listing.{Listing}
-use Rattle.playing.specs.Calls.{joined, Plays-on, Playing}
+use Rattle.driver.specs.declared.Checkpoint.{Checkpoint}
+use Rattle.playing.specs.{Listing.Listing, Calls.joined, Calls.Plays-on, Calls.Playing}
 
--- from a standing on, with the buffers p and q: true, and calls of `play` lead from there to the listing's end
-pub data Ended (journal : Bytes) (from : Standing) (p q : Bytes) : Bool → Type 0 where
+-- from a checkpoint on, with the buffers p and q: true, and calls of `play` lead from there to the listing's end
+pub data Ended (journal : Bytes) (from : Checkpoint) (p q : Bytes) : Bool → Type 0 where
   ended : {ts : List Bytes} → Plays-on journal from p q ts → Ended journal from p q true
   stopped : Ended journal from p q false
 

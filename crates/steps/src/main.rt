@@ -2,7 +2,7 @@
 //
 // The journal is read to its end; one byte more than the longest that is taken suffices to tell one
 // that is too long. The driver does the work: it fills a large buffer with whole lines, which is
-// written in one piece, and goes on from where it stands.
+// written in one piece, and goes on from the checkpoint that it got to.
 //
 // A read that fails is no end: nothing is listed then. That a read or a write failed, and why, is one
 // line on standard error.
@@ -10,11 +10,11 @@ ghost use Prim.Native.Nat.{_≤_};
 ghost use mathlib.Core.Path.{_≡_};
 ghost use mathlib.Core.Bool.{true};
 ghost use lib.ListN.{length};
-ghost use Rattle.driver.specs.Play.{stands};
+ghost use Rattle.driver.specs.Play.{resumable};
 ghost use Rattle.steps.specs.Listed.{Ended, Listed};
 ghost use Rattle.steps.specs.Input.{ReadInto};
+use driver::Checkpoint;
 use driver::Progress;
-use driver::Standing;
 use libc::EINTR;
 use libc::STDIN_FILENO;
 use libc::STDOUT_FILENO;
@@ -56,15 +56,15 @@ fn read_input(buf: &mut [u8]) -> Input
     Input::Read(done)
 }
 
-// Writes the listing of a journal from a standing on: all of it, or false where standard output does not take it.
+// Writes the listing of a journal from a checkpoint on: all of it, or false where standard output does not take it.
 fn play_on(
     journal: &[u8],
-    from: Standing,
+    from: Checkpoint,
     private: &mut [u8],
     shared: &mut [u8],
     out: &mut [u8],
 ) -> bool
-    requires { ⌜ (stands (length (now journal)) from ≡ true) × (246 ≤ length (now out)) ⌝ }
+    requires { ⌜ (resumable (length (now journal)) from ≡ true) × (246 ≤ length (now out)) ⌝ }
     ensures { λ r. ⌜ Ended (now (journal .entry)) from (now («private» .entry)) (now (shared .entry)) r ⌝ }
 {
     let mut there = from;
@@ -77,13 +77,13 @@ fn play_on(
         }
         match progress {
             Progress::More => {
-                there = played.standing;
+                there = played.checkpoint;
                 continue;
             }
-            Progress::Done => {
+            Progress::Finished => {
                 return true;
             }
-            // From where a run stands, and with room, neither is answered.
+            // From a checkpoint of a run, and with room, neither is answered.
             Progress::Short => {
                 return true;
             }
@@ -110,8 +110,8 @@ fn list(journal: &[u8]) -> bool
     }
     match progress {
         Progress::More => {
-            let standing = played.standing;
-            let state = standing.state;
+            let checkpoint = played.checkpoint;
+            let state = checkpoint.state;
             let opening = state.opening;
             let cores = opening.cores;
             let lines = opening.lines;
@@ -120,13 +120,13 @@ fn list(journal: &[u8]) -> bool
             let m = (2 * lines + cores) * width;
             play_on(
                 journal,
-                standing,
+                checkpoint,
                 &mut private[0..n],
                 &mut shared[0..m],
                 &mut out,
             )
         }
-        Progress::Done => true,
+        Progress::Finished => true,
         // With room, neither is answered.
         Progress::Short => true,
         Progress::Unfit => true,

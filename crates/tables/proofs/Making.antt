@@ -9,7 +9,7 @@ use native.Mathlib.Decide.{ℕ-discrete}
 use borrow.Author.Tests.{le-leb, lt-ltb, ne-eqb}
 use Rattle.protocol.specs.Pick.{pick}
 use Rattle.protocol.specs.Limits.{mostCores, mostLines}
-use Rattle.protocol.specs.Buffers.{Bytes, part, copyStart, Placed, movedPrivate, movedShared}
+use Rattle.protocol.specs.Buffers.{Bytes, part, copyStart, copyBytes, Placed, movedPrivate, movedShared}
 use Rattle.protocol.specs.About.{about, namedLine}
 use Rattle.protocol.specs.Machine.{Machine, coreAt, lineAt, piecesAt, theCore, theLine, coreOf, lineOf}
 use Rattle.protocol.specs.Refusals.{machineRefusal, callRefusal}
@@ -45,6 +45,17 @@ span-inside (Done d) start width top h = omega arith
 span-inside (Commit c t (Load l)) start width top h = h
 span-inside (Commit c t (Store l)) start width top h = h
 span-inside (Commit c t Fence) start width top h = omega arith
+
+-- a commit's bytes are the line's
+span-bytes :
+    (a : Answer) (p : Bytes) (start width : ℕ)
+    → meaning a (part p (spanOf a start width .start) (spanOf a start width .count)) ≡ meaning a (part p start width)
+unfolding meaning
+span-bytes (Refused n) p start width = refl
+span-bytes (Done d) p start width = refl
+span-bytes (Commit c t (Load l)) p start width = refl
+span-bytes (Commit c t (Store l)) p start width = refl
+span-bytes (Commit c t Fence) p start width = refl
 
 -- where nothing moves, the buffers stay whether the places fit or not
 same-either : {x y : Bytes} (t : Bool) → x ≡ pick t y y → x ≡ y
@@ -155,3 +166,16 @@ module _ (m : Machine) (call : Call) (given : Bytes) (n : ℕ) (e : n ≡ inputR
         go : Dec (n ≡ 0) → spanOf (made .answer) start (o .width) .start + spanOf (made .answer) start (o .width) .count ≤ length (m .private)
         go (yes z) = rw (started z) (span-inside (made .answer) _ _ _ (rw (fit z .nPrivate) (copy-ends (there z))))
         go (no h) = rw (refused-effect h) (omega arith)
+
+    -- before the move they are the copy's
+    pub is-shown :
+        meaning (made .answer) (part (m .private) (spanOf (made .answer) start (o .width) .start) (spanOf (made .answer) start (o .width) .count))
+        ≡ meaning (made .answer) (copyBytes o (m .private) c l)
+    unfolding meaning
+    is-shown = go (ℕ-discrete n 0)
+      where
+        go : Dec (n ≡ 0) →
+            meaning (made .answer) (part (m .private) (spanOf (made .answer) start (o .width) .start) (spanOf (made .answer) start (o .width) .count))
+            ≡ meaning (made .answer) (copyBytes o (m .private) c l)
+        go (yes z) = rw (started z) (span-bytes (made .answer) (m .private) (copyStart o c l) (o .width))
+        go (no h) = rw (refused-effect h)

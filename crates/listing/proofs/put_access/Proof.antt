@@ -4,11 +4,8 @@ use mathlib.Core.Path.{refl, _∙_, ap}
 use mathlib.Core.List.{List, _++_}
 use native.Mathlib.Omega.{arith}
 use borrow.Author.Needs.{needs}
-use Rattle.spelling.specs.Decimal.{decimal}
-use Rattle.spelling.specs.Hex.{hex}
-use Rattle.spelling.specs.Text.{text}
-use Rattle.listing.proofs.Laws.{first, more, four, put-same}
-use Rattle.listing.proofs.put_access.Statement.{statement}
+use Rattle.spelling.specs.{Decimal.decimal, Hex.hex, Text.text}
+use Rattle.listing.proofs.{Laws.first, Laws.more, Laws.four, Laws.put-same, put_access.Statement.statement}
 use Rattle.listing.proofs.put_access.Tie as tie
 
 returns : tie.Need-returns
@@ -29,18 +26,5 @@ pub put-access-spec : {M : Type 1} → statement M
 put-access-spec =
     tie.close
     (tie.spec
-    (λ c. refl)
-    (λ c κs. omega arith)
-    (λ c. refl)
-    (λ c κs. omega arith)
-    (λ c. refl)
-    (λ c κs. omega arith)
-    (λ c κs. omega arith)
-    (λ c. refl)
-    (λ c κs. omega arith)
-    (λ c. omega arith)
-    (λ c. omega arith)
-    (λ c. omega arith)
-    (λ c κs. search needs)
-    (λ c. c .before .out .given)
-    returns)
+    (λ c. refl) (λ c κs. omega arith) (λ c. refl) (λ c κs. omega arith) (λ c. refl) (λ c κs. omega arith) (λ c κs. omega arith) (λ c. refl)
+    (λ c κs. omega arith) (λ c. omega arith) (λ c. omega arith) (λ c. omega arith) (λ c κs. search needs) (λ c. c .before .out .given) returns)

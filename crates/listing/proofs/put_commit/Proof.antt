@@ -3,8 +3,7 @@ use mathlib.Core.Path.{refl}
 use native.Mathlib.Omega.{arith}
 use borrow.Author.Needs.{needs}
 use Rattle.spelling.specs.Text.{text}
-use Rattle.listing.proofs.Laws.{put-same, access-text, fence-text}
-use Rattle.listing.proofs.put_commit.Statement.{statement}
+use Rattle.listing.proofs.{Laws.put-same, Laws.access-text, Laws.fence-text, put_commit.Statement.statement}
 use Rattle.listing.proofs.put_commit.Tie as tie
 
 returns : tie.Need-returns
@@ -20,20 +19,6 @@ pub put-commit-spec : {M : Type 1} → statement M
 put-commit-spec =
     tie.close
     (tie.spec
-    (λ c. search needs)
-    (λ c. refl)
-    (λ c κs. omega arith)
-    (λ c. search needs)
-    (λ c. refl)
-    (λ c κs. omega arith)
-    (λ c. search needs)
-    (λ c. refl)
-    (λ c. refl)
-    (λ c. refl)
-    (λ c κs. omega arith)
-    (λ c. c .before .out .given)
-    returns
-    (λ c. c .before .out2 .given)
-    returns-2
-    (λ c. c .before .out3 .given)
-    returns-3)
+    (λ c. search needs) (λ c. refl) (λ c κs. omega arith) (λ c. search needs) (λ c. refl) (λ c κs. omega arith) (λ c. search needs) (λ c. refl)
+    (λ c. refl) (λ c. refl) (λ c κs. omega arith) (λ c. c .before .out .given) returns (λ c. c .before .out2 .given) returns-2
+    (λ c. c .before .out3 .given) returns-3)

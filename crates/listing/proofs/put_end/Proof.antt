@@ -10,12 +10,4 @@ unfolding endText
 returns c = c .before .before .put-three .ensures
 
 pub put-end-spec : {M : Type 1} → statement M
-put-end-spec =
-    tie.close
-    (tie.spec
-    (λ c. refl)
-    (λ c. refl)
-    (λ c. refl)
-    (λ c κs. omega arith)
-    (λ c. c .before .out .given)
-    returns)
+put-end-spec = tie.close (tie.spec (λ c. refl) (λ c. refl) (λ c. refl) (λ c κs. omega arith) (λ c. c .before .out .given) returns)

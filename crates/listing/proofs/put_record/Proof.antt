@@ -21,17 +21,5 @@ pub put-record-spec : {M : Type 1} → statement M
 put-record-spec =
     tie.close
     (tie.spec
-    (λ c. search needs)
-    (λ c. search needs)
-    (λ c κs. search needs)
-    (λ c. search needs)
-    (λ c κs. search needs)
-    (λ c. search needs)
-    (λ c. search needs)
-    (λ c κs. search needs)
-    (λ c. c .before .out .given)
-    returns
-    (λ c. c .before .out2 .given)
-    returns-2
-    (λ c. c .before .out3 .given)
-    returns-3)
+    (λ c. search needs) (λ c. search needs) (λ c κs. search needs) (λ c. search needs) (λ c κs. search needs) (λ c. search needs) (λ c. search needs)
+    (λ c κs. search needs) (λ c. c .before .out .given) returns (λ c. c .before .out2 .given) returns-2 (λ c. c .before .out3 .given) returns-3)

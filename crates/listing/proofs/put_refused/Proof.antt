@@ -3,8 +3,7 @@ use mathlib.Core.Path.{refl, _∙_}
 use mathlib.Core.List.{append-assoc}
 use native.Mathlib.Omega.{arith}
 use borrow.Author.Needs.{needs}
-use Rattle.listing.proofs.Laws.{first, more, put-same}
-use Rattle.listing.proofs.put_refused.Statement.{statement}
+use Rattle.listing.proofs.{Laws.first, Laws.more, Laws.put-same, put_refused.Statement.statement}
 use Rattle.listing.proofs.put_refused.Tie as tie
 
 returns : tie.Need-returns
@@ -18,15 +17,5 @@ pub put-refused-spec : {M : Type 1} → statement M
 put-refused-spec =
     tie.close
     (tie.spec
-    (λ c. refl)
-    (λ c κs. omega arith)
-    (λ c. refl)
-    (λ c κs. omega arith)
-    (λ c. refl)
-    (λ c κs. omega arith)
-    (λ c. omega arith)
-    (λ c. omega arith)
-    (λ c. omega arith)
-    (λ c κs. search needs)
-    (λ c. c .before .out .given)
-    returns)
+    (λ c. refl) (λ c κs. omega arith) (λ c. refl) (λ c κs. omega arith) (λ c. refl) (λ c κs. omega arith) (λ c. omega arith) (λ c. omega arith)
+    (λ c. omega arith) (λ c κs. search needs) (λ c. c .before .out .given) returns)

@@ -2,8 +2,7 @@
 use mathlib.Core.Path.{refl}
 use native.Mathlib.Omega.{arith}
 use borrow.Author.Needs.{needs}
-use Rattle.listing.proofs.Laws.{data-short, data-put}
-use Rattle.listing.proofs.put_with_data.Statement.{statement}
+use Rattle.listing.proofs.{Laws.data-short, Laws.data-put, put_with_data.Statement.statement}
 use Rattle.listing.proofs.put_with_data.Tie as tie
 
 returns : tie.Need-returns
@@ -26,18 +25,5 @@ pub put-with-data-spec : {M : Type 1} → statement M
 put-with-data-spec =
     tie.close
     (tie.spec
-    returns
-    (λ c. omega arith)
-    returns-2
-    (λ c. omega arith)
-    (λ c. omega arith)
-    returns-3
-    (λ c. search needs)
-    (λ c. search needs)
-    (λ c. search needs)
-    (λ c κs. search needs)
-    (λ c κs. search needs)
-    (λ c. refl)
-    (λ c κs. search needs)
-    (λ c. search needs)
-    returns-4)
+    returns (λ c. omega arith) returns-2 (λ c. omega arith) (λ c. omega arith) returns-3 (λ c. search needs) (λ c. search needs) (λ c. search needs)
+    (λ c κs. search needs) (λ c κs. search needs) (λ c. refl) (λ c κs. search needs) (λ c. search needs) returns-4)

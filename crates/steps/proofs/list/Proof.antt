@@ -3,49 +3,22 @@ use native.Mathlib.Omega.{arith}
 use Rattle.protocol.proofs.Places.{Inside, inside, copies-most, private-most, rows-most, shared-most}
 use Rattle.driver.proofs.Starting.{start-fits}
 use Rattle.steps.specs.Listed.{part}
-use Rattle.steps.proofs.Coming.{list-done, list-more, list-stands, list-short, list-unfit, part-zeros}
+use Rattle.steps.proofs.Calling.{list-finished, list-more, list-resumable, list-short, list-unfit, part-zeros}
 use borrow.Author.Needs.{needs}
 use Rattle.steps.proofs.list.Statement.{statement}
 use Rattle.steps.proofs.list.Tie as tie
 
 -- the sizes of the engine that was opened
-sizes : (c : tie.After-opening) → Inside (c .before .before .before .before .before .before .before .before .before .before .start .result .standing .state .opening)
+sizes : (c : tie.After-opening) → Inside (c .before .before .before .before .before .before .before .before .before .before .start .result .checkpoint .state .opening)
 sizes c = inside _ (start-fits (c .before .before .before .before .before .before .before .before .before .before .start .ensures) (c .before .before .before .enum-told .given .1))
 
-returns : tie.Need-returns
-returns c = part
-
-mul-n : tie.Need-mul-n
-mul-n c = let a = copies-most (sizes c) in omega arith
-
-mul-n-2 : tie.Need-mul-n-2
-mul-n-2 c = let a = private-most (sizes c) in omega arith
-
-mul-m : tie.Need-mul-m
-mul-m c = omega (arith, sizes c .mostLines)
-
-add-m : tie.Need-add-m
-add-m c = let a = rows-most (sizes c) in omega arith
-
-mul-m-2 : tie.Need-mul-m-2
-mul-m-2 c = let a = shared-most (sizes c) in omega arith
-
-part-private-end : tie.Need-part-private-end
-part-private-end c = private-most (sizes c)
-
-part-shared-end : tie.Need-part-shared-end
-part-shared-end c = shared-most (sizes (c .before))
-
 play-on-requires : tie.Need-play-on-requires
-play-on-requires c κs = (list-stands (c .before .before .before .before .before .before .before .before .before .before .before .before .before .start .ensures) (omega (arith, c .before .before .before .before .before .before .before .before .before .before .before .before .out2 .given)) (c .before .before .before .before .before .before .enum-told .given .1), omega (arith, c .before .before .before .before .before .before .before .before .before .before .before .before .out2 .given))
+play-on-requires c κs = (list-resumable (c .before .before .before .before .before .before .before .before .before .before .before .before .before .start .ensures) (omega (arith, c .before .before .before .before .before .before .before .before .before .before .before .before .out2 .given)) (c .before .before .before .before .before .before .enum-told .given .1), omega (arith, c .before .before .before .before .before .before .before .before .before .before .before .before .out2 .given))
 
 returns-2 : tie.Need-returns-2
 returns-2 c =
     let a = sizes (c .before .before .before .before .before .before .before) in
     list-more (c .before .before .before .before .before .before .before .before .before .before .before .before .before .before .before .before .before .start .ensures) (c .before .before .before .before .before .before .before .before .before .before .enum-told .given .1) (part-zeros _ 65536 (private-most a)) (part-zeros _ 9216 (shared-most a)) (c .before .before .before .play-on .ensures)
-
-returns-3 : tie.Need-returns-3
-returns-3 c = list-done (c .before .before .before .before .before .before .before .start .ensures) (c .enum-told2 .given .1)
 
 returns-4 : tie.Need-returns-4
 returns-4 c = absurd (list-short (c .before .before .before .before .before .before .before .start .ensures) (omega (arith, c .before .before .before .before .before .before .out2 .given)) (c .enum-told3 .given .1))
@@ -57,31 +30,9 @@ pub list-spec : {M : Type 1} → statement M
 list-spec =
     tie.close
     (tie.spec
-    (λ c. search needs)
-    (λ c κs. search needs)
-    (λ c. search needs)
-    (λ c. search needs)
-    (λ c. search needs)
-    (λ c κs. search needs)
-    returns
-    (λ c. search needs)
-    mul-n
-    mul-n-2
-    mul-m
-    add-m
-    mul-m-2
-    (λ c. search needs)
-    (λ c. search needs)
-    part-private-end
-    (λ c. search needs)
-    (λ c. search needs)
-    part-shared-end
-    (λ c. search needs)
-    play-on-requires
-    (λ c. search needs)
-    (λ c. search needs)
-    (λ c. search needs)
-    returns-2
-    returns-3
-    returns-4
-    returns-5)
+    (λ c. search needs) (λ c κs. search needs) (λ c. search needs) (λ c. search needs) (λ c. search needs) (λ c κs. search needs) (λ c. part)
+    (λ c. search needs) (λ c. let a = copies-most (sizes c) in omega arith) (λ c. let a = private-most (sizes c) in omega arith)
+    (λ c. omega (arith, sizes c .mostLines)) (λ c. let a = rows-most (sizes c) in omega arith) (λ c. let a = shared-most (sizes c) in omega arith)
+    (λ c. search needs) (λ c. search needs) (λ c. private-most (sizes c)) (λ c. search needs) (λ c. search needs)
+    (λ c. shared-most (sizes (c .before))) (λ c. search needs) play-on-requires (λ c. search needs) (λ c. search needs) (λ c. search needs) returns-2
+    (λ c. list-finished (c .before .before .before .before .before .before .before .start .ensures) (c .enum-told2 .given .1)) returns-4 returns-5)

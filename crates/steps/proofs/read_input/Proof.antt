@@ -42,69 +42,15 @@ within c =
     let m = mid-len (turn c .loop .done) (length (filled c)) (filled c) (omega arith) in
     omega (arith, before c, c .count .ensures .0 .0, m)
 
-loop-holds : tie.Need-loop-holds Inv-loop μ-loop
-loop-holds c = (refl, omega arith)
-
-add-done : tie.Need-add-done Inv-loop μ-loop
-add-done c = omega (arith, within (c .before), long (c .before))
-
-loop-less : tie.Need-loop-less Inv-loop μ-loop
-loop-less c = omega (arith, within (c .before), same (c .before), c .if1 .taken)
-
-loop-again : tie.Need-loop-again Inv-loop μ-loop
-loop-again c = (long (c .before), within (c .before))
-
-same-length : tie.Need-same-length Inv-loop μ-loop
-same-length c = long (c .before .before)
-
-returns : tie.Need-returns Inv-loop μ-loop
-returns c = counts _ _ (before (c .before .before))
-
-same-length-2 : tie.Need-same-length-2 Inv-loop μ-loop
-same-length-2 c = long (c .before .before .before .before)
-
-same-length-3 : tie.Need-same-length-3 Inv-loop μ-loop
-same-length-3 c = long (c .before .before .before .before .before)
-
-loop-less-2 : tie.Need-loop-less-2 Inv-loop μ-loop
-loop-less-2 c = omega (arith, same (c .before .before .before .before .before), c .if4 .left)
-
-loop-again-2 : tie.Need-loop-again-2 Inv-loop μ-loop
-loop-again-2 c = (long (c .before .before .before .before .before), before (c .before .before .before .before .before))
-
-same-length-4 : tie.Need-same-length-4 Inv-loop μ-loop
-same-length-4 c = c .before .loop .inv .0
-
-returns-4 : tie.Need-returns-4 Inv-loop μ-loop
-returns-4 c = counts _ _ (c .before .loop .inv .1)
-
 pub read-input-spec : {M : Type 1} → statement M
 read-input-spec =
     tie.close
     (tie.spec
-    Inv-loop
-    μ-loop
-    loop-holds
-    (λ c. search needs)
-    (λ c. search needs)
-    (λ c. search needs)
-    (λ c κs. search needs)
-    (λ c. search needs)
-    (λ c. search needs)
-    (λ c. search needs)
-    (λ c κs. search needs)
-    add-done
-    loop-less
-    loop-again
-    same-length
-    returns
-    (λ c κs. search needs)
-    same-length-2
-    (λ c. tt)
-    same-length-3
-    (λ c. tt)
-    (λ c. search needs)
-    loop-less-2
-    loop-again-2
-    same-length-4
-    returns-4)
+    Inv-loop μ-loop (λ c. (refl, omega arith)) (λ c. search needs) (λ c. search needs) (λ c. search needs) (λ c κs. search needs) (λ c. search needs)
+    (λ c. search needs) (λ c. search needs) (λ c κs. search needs) (λ c. omega (arith, within (c .before), long (c .before)))
+    (λ c. omega (arith, within (c .before), same (c .before), c .if1 .taken)) (λ c. (long (c .before), within (c .before)))
+    (λ c. long (c .before .before)) (λ c. counts _ _ (before (c .before .before))) (λ c κs. search needs)
+    (λ c. long (c .before .before .before .before)) (λ c. tt) (λ c. long (c .before .before .before .before .before)) (λ c. tt) (λ c. search needs)
+    (λ c. omega (arith, same (c .before .before .before .before .before), c .if4 .left))
+    (λ c. (long (c .before .before .before .before .before), before (c .before .before .before .before .before))) (λ c. c .before .loop .inv .0)
+    (λ c. counts _ _ (c .before .loop .inv .1)))

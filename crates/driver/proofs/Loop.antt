@@ -1,0 +1,272 @@
+-- The driver's loop: what holds at its head, that a step keeps it, and what it gives where the loop is left.
+use Prim.Native.Nat.{ℕ, _+_, _-_, _≤_}
+use mathlib.Core.Path.{_≡_, refl, sym, _∙_, ap}
+use mathlib.Core.Bool.{Bool, true, false}
+use mathlib.Core.List.{List, [], _∷_, _++_}
+use native.Mathlib.Omega.{arith}
+use lib.Dec.{eqb, leb}
+use lib.ListN.{length, take, drop}
+use lib.Seq.{length-take-le, drop-drop}
+use borrow.Author.Tests.{leb-true, eqb-false}
+use Rattle.protocol.specs.{Pick.fails, Limits.mostCores, Limits.mostLines, Buffers.Bytes, About.about, About.namedLine, Refusals.machineRefusal}
+use Rattle.protocol.specs.Machine.{Machine, machine, coreAt, lineAt, piecesAt, theCore, theLine, written, applied}
+use Rattle.protocol.specs.{Step.Reply, Step.meaning, Step.actBytes, Step.Outcome, Step.accepted, Step.step, Run.Given, Run.place, Run.run}
+use Rattle.protocol.specs.Counts.{countsOf, plus}
+use Rattle.protocol.specs.declared.{Opening.Opening as Sizes, State.State, Call.Call, About.About, Counts.Counts, Effect.Effect}
+use Rattle.spelling.specs.{Over.PutAt, declared.Put.Put, declared.Put.the-variants.End as PutEnd, declared.Put.the-variants.Short as NoRoom}
+use Rattle.refusals.specs.Input.{inputRefusal}
+use Rattle.buffers.specs.Moves.{Moves}
+use Rattle.protocol.proofs.{Tests.both-true, Keep.still}
+use Rattle.listing.specs.Record.{recordText}
+use Rattle.tables.specs.Found.{Found, effectWith}
+use Rattle.tables.proofs.Making.{Finds, made, is-step, is-moved, is-inside}
+use Rattle.driver.specs.Listing.{Ending, EndsAt, lines, lastLines}
+use Rattle.driver.specs.Play.{runFrom, few, resumable, Leads, Piece, aStep, theEnd, finished, more, Plays}
+use Rattle.driver.specs.Pieces.{endingOf, Numbered, StepDue, DueAt, aStep as isStep, theEnd as isEnd, shown, Shows, answerLine, checkpointAt, playedBy}
+use Rattle.driver.specs.declared.{Checkpoint.Checkpoint, Played.Played, Last.Last, Due.Due}
+use Rattle.driver.specs.declared.Due.the-variants.{Step, Last as AtLast}
+use Rattle.driver.proofs.{Counting.one-step, Counting.same-counts, Counting.few-one, Counting.few-later, Counting.few-sum, Stepping.replied}
+use Rattle.driver.proofs.Running.{given, leads-none, leads-more, lines-more}
+use Rattle.driver.proofs.Putting.{Written, put-written, put-short}
+
+-- at the loop's head: the steps gs were made from one checkpoint to the other, and their lines are written
+pub record Reached (j : Bytes) (from : Checkpoint) (p₀ q₀ old : Bytes) (o : Sizes) (base : ℕ) (p q out : Bytes) (there : Checkpoint) (used : ℕ) : Type 0 where
+  pub start : resumable (length j) from ≡ true
+  pub named : there .form ≡ 0 → ⊥
+  pub inside : there .at ≤ length j
+  pub few : few (there .counts) (there .at) ≡ true
+  pub opening : there .state .opening ≡ o
+  pub based : base ≡ machineRefusal (machine (there .state) p q)
+  pub gs : List Given
+  pub leads : Leads j from p₀ q₀ gs there p q
+  pub text : take used out ≡ lines (runFrom from p₀ q₀ gs .records)
+  pub size : length out ≡ length old
+  pub within : used ≤ length out
+  pub beyond : drop used out ≡ drop used old
+
+-- ---- the loop begins
+
+-- what a checkpoint of a journal of n bytes says
+pub record Resumes (n : ℕ) (s : Checkpoint) : Type 0 where
+  pub named : s .form ≡ 0 → ⊥
+  pub inside : s .at ≤ n
+  pub few : few (s .counts) (s .at) ≡ true
+
+unnamed : (b : Bool) → fails b ≡ true → b ≡ false
+unnamed true e = sym e
+unnamed false e = refl
+
+pub resumes : (n : ℕ) (s : Checkpoint) → resumable n s ≡ true → Resumes n s
+resumes n s e =
+    let a = both-true (fails (eqb (s .form) 0)) _ e in
+    let b = both-true (leb (s .at) n) _ (a .1) in
+    record { named = eqb-false _ 0 (unnamed _ (a .0)); inside = leb-true _ _ (b .0); few = b .1 }
+
+pub reached-start :
+    (j : Bytes) (s : Checkpoint) (p q old : Bytes) (base : ℕ) → resumable (length j) s ≡ true → base ≡ machineRefusal (machine (s .state) p q)
+    → Reached j s p q old (s .state .opening) base p q old s 0
+unfolding run lines
+reached-start j s p q old base e b =
+    let r = resumes (length j) s e in
+    record {
+      start = e;
+      named = r .named;
+      inside = r .inside;
+      few = r .few;
+      opening = refl;
+      based = b;
+      gs = [];
+      leads = leads-none j s p q;
+      text = refl;
+      size = refl;
+      within = omega arith;
+      beyond = refl;
+    }
+
+-- the output past a text that was put
+past : (old out : Bytes) (used e n : ℕ) → drop used out ≡ drop used old → e ≡ used + n → drop e out ≡ drop e old
+past old out used e n h x = rw x (sym (drop-drop n used out) ∙ ap (drop n) h ∙ drop-drop n used old)
+
+module _ {j : Bytes} {from : Checkpoint} {p₀ q₀ old : Bytes} {o : Sizes} {base : ℕ} {p q out : Bytes} {there : Checkpoint} {used : ℕ} (g : Reached j from p₀ q₀ old o base p q out there used) where
+  -- the counts leave room for more
+  pub room-for : (n : ℕ) → length j ≤ n → few (there .counts) n ≡ true
+  room-for n h = few-later (there .counts) (there .at) n (g .few) (omega (arith, g .inside))
+
+  -- ---- the loop is left
+
+  -- no room for the next piece
+  pub no-room :
+      (t out' : Bytes) (put : Put) (r : Played) → Piece j there p q t → PutAt out used t out' put → put ≡ NoRoom → r ≡ playedBy NoRoom used there
+      → Plays j from p₀ q₀ old p q out' r
+  no-room t out' put r x w z e =
+      let h = put-short w z in
+      let i = g .within in
+      rw (e, h .1)
+      (record { size = g .size; within = g .within; beyond = g .beyond; tells = more (g .start) (g .leads) (g .text) x (omega (arith, h .0)) })
+
+  -- the last lines are put, or there is no room for them
+  pub finish :
+      (e : Ending) (out' : Bytes) (put : Put) (r : Played) → EndsAt j (there .form) (there .at) e → PutAt out used (lastLines (there .counts) e) out' put
+      → r ≡ playedBy put used there → Plays j from p₀ q₀ old p q out' r
+  finish e out' (PutEnd k) r x w f =
+      let v = put-written w refl in
+      rw f
+      (record {
+        size = v .size ∙ g .size;
+        within = omega (arith, v .room, v .end, v .size);
+        beyond = v .beyond ∙ past old out used k _ (g .beyond) (v .end);
+        tells = finished (g .start) (g .leads) x (v .before ∙ ap (λ (l : Bytes). l ++ lastLines (there .counts) e) (g .text));
+      })
+  finish e out' NoRoom r x w f = no-room _ out' NoRoom r (theEnd x) w refl f
+
+  -- ---- a step
+
+  module _ {buf : Bytes} {call : Call} {n count next : ℕ} (x : StepDue j (there .at) (there .form) base o buf call n count next) where
+    abbrev bs : Bytes
+    bs = take count buf
+
+    abbrev m : Machine
+    m = machine (there .state) p q
+
+    abbrev reply : Reply
+    reply = step m call bs .reply
+
+    input : n ≡ inputRefusal m call (length bs)
+    input = rw (length-take-le count buf (x .bytes .fits), ← g .based, g .opening) (x .number)
+
+    -- a step more, whose line was put
+    stepped :
+        (s' : State) (p' q' out' : Bytes) (e : ℕ) (k : Counts) → machine s' p' q' ≡ step m call bs .machine → s' .opening ≡ o → k ≡ plus (there .counts) (countsOf call reply)
+        → Written out used (recordText (place (there .counts .steps + 1)) reply) out' e
+        → Reached j from p₀ q₀ old o base p' q' out' (checkpointAt next (there .form) k s') e
+    stepped s' p' q' out' e k em eo ek v =
+        record {
+          start = g .start;
+          named = g .named;
+          inside = x .inside;
+          few = rw ek (few-sum (there .counts) (countsOf call reply) (there .at) 1 next (g .few) (few-one call reply) (omega (arith, x .forward)));
+          opening = eo;
+          based = rw em (g .based ∙ still m call bs);
+          gs = g .gs ++ (given call bs ∷ []);
+          leads = leads-more (g .leads) call bs (checkpointAt next (there .form) k s') p' q' (x .line) (x .bytes .spelt) refl em ek;
+          text = v .before ∙ rw (g .text) (sym (lines-more (g .leads) call bs));
+          size = v .size ∙ g .size;
+          within = omega (arith, v .room, v .end, v .size);
+          beyond = v .beyond ∙ past old out used e _ (g .beyond) (v .end);
+        }
+
+-- ---- a step, from what its parts ensure
+
+pub step-due :
+    {j : Bytes} {at form base : ℕ} {o : Sizes} {buf : Bytes} {u : Due} {call : Call} {n count next : ℕ} → DueAt j at form base o buf u
+    → u ≡ Step call n count next → StepDue j at form base o buf call n count next
+step-due {j} {at} {form} {base} {o} {buf} {call = call} {n} {count} {next} (isStep {call = call'} {n = n'} {count = count'} {next = next'} x) e =
+    let ec : call' ≡ call = cc in
+    let en : n' ≡ n = cc in
+    let ek : count' ≡ count = cc in
+    let ex : next' ≡ next = cc in
+    rw (← ec, ← en, ← ek, ← ex) x
+step-due (isEnd x h) e = absurd (let z : _≡_ {A = ℕ} 0 1 = cc in omega arith)
+
+pub end-due :
+    {j : Bytes} {at form base : ℕ} {o : Sizes} {buf : Bytes} {u : Due} {w : Last} → DueAt j at form base o buf u → u ≡ AtLast w
+    → EndsAt j form at (endingOf w) × Numbered w
+end-due (isStep x) e = absurd (let z : _≡_ {A = ℕ} 0 1 = cc in omega arith)
+end-due {j} {at} {form} {w = w} (isEnd {w = w'} x h) e = let ew : w' ≡ w = cc in rw (← ew) (x, h)
+
+-- a step that is due: the indices v, c and l where the call finds its core and its line, its effect d there, and the counts k with its answer
+pub record Made (j : Bytes) (from : Checkpoint) (p₀ q₀ old : Bytes) : Type 0 where
+  pub o : Sizes
+  pub base : ℕ
+  pub p : Bytes
+  pub q : Bytes
+  pub out : Bytes
+  pub there : Checkpoint
+  pub used : ℕ
+  pub buf : Bytes
+  pub call : Call
+  pub n : ℕ
+  pub count : ℕ
+  pub next : ℕ
+  pub w : About
+  pub v : ℕ
+  pub c : ℕ
+  pub l : ℕ
+  pub d : Effect
+  pub k : Counts
+  pub reached : Reached j from p₀ q₀ old o base p q out there used
+  pub due : StepDue j (there .at) (there .form) base o buf call n count next
+  pub about : w ≡ about call
+  pub named : Found (namedLine (w .line)) (o .lines) mostLines v
+  pub core : Found (theCore (w .core) (lineAt (there .state) v .manager)) (o .cores) mostCores c
+  pub line : Found (theLine (w .line) (coreAt (there .state) c .slot)) (o .lines) mostLines l
+  pub effect : d ≡ effectWith n call (piecesAt (there .state) c l) o
+  pub counts : k ≡ plus (there .counts) (countsOf call (meaning (d .answer) []))
+
+module _ {j : Bytes} {from : Checkpoint} {p₀ q₀ old : Bytes} (s : Made j from p₀ q₀ old) where
+  abbrev given-bytes : Bytes
+  given-bytes = take (s .count) (s .buf)
+
+  abbrev here : Machine
+  here = machine (s .there .state) (s .p) (s .q)
+
+  abbrev outcome : Outcome
+  outcome = step here (s .call) given-bytes
+
+  number-is : s .n ≡ inputRefusal here (s .call) (length given-bytes)
+  number-is = input (s .reached) (s .due)
+
+  finds : Finds here (s .call) (s .v) (s .c) (s .l)
+  finds =
+      let o = s .reached .opening in
+      let w = s .about in
+      record { named = rw (o, ← w) (s .named .is); core = rw (o, ← w) (s .core .is); line = rw (o, ← w) (s .line .is) }
+
+  effect-is : s .d ≡ made here (s .call) given-bytes (s .n) number-is (s .v) (s .c) (s .l) finds
+  effect-is = rw (s .reached .opening) (s .effect)
+
+  -- the bytes beside the answer lie in the private buffer
+  pub shows : Shows (s .d .answer) (s .o) (s .c) (s .l) (length (s .p))
+  shows = rw (effect-is, ← s .reached .opening) (is-inside here (s .call) given-bytes (s .n) number-is (s .v) (s .c) (s .l) finds _ refl)
+
+  -- the line that is put is the reply's; the bytes are lent as the part of the buffer from 0 on
+  abbrev line-put : Bytes
+  line-put = answerLine (s .k .steps) (s .w .act) (s .d .answer) (take (s .count - 0) (s .buf)) (s .o) (s .p) (s .c) (s .l)
+
+  reply-is :
+      meaning (s .d .answer) (actBytes (s .w .act) (take (s .count - 0) (s .buf)) (shown (s .d .answer) (s .o) (s .p) (s .c) (s .l)))
+      ≡ outcome .reply
+  reply-is =
+      let z : s .count - 0 ≡ s .count = omega arith in
+      rw (z, effect-is, s .about, ← s .reached .opening) (replied here (s .call) given-bytes (s .n) number-is (s .v) (s .c) (s .l) finds)
+
+  counts-are : s .k ≡ plus (s .there .counts) (countsOf (s .call) (outcome .reply))
+  counts-are = s .counts ∙ ap (plus (s .there .counts)) (same-counts (s .call) (s .d .answer) [] _ ∙ ap (countsOf (s .call)) reply-is)
+
+  place-is : s .k .steps ≡ s .there .counts .steps + 1
+  place-is = ap (λ (x : Counts). x .steps) counts-are ∙ ap (λ (i : ℕ). s .there .counts .steps + i) (one-step (s .call) (outcome .reply))
+
+  -- there is no room for it
+  pub step-short :
+      (out' : Bytes) (put : Put) (r : Played) → PutAt (s .out) (s .used) line-put out' put → put ≡ NoRoom
+      → r ≡ playedBy NoRoom (s .used) (s .there) → Plays j from p₀ q₀ old (s .p) (s .q) out' r
+  step-short out' put r y z e = no-room (s .reached) _ out' put r (aStep (s .due .line) (s .due .bytes .spelt)) (rw (place-is, reply-is) at y) z e
+
+  machine-is :
+      (p' q' : Bytes) → Moves (s .d .moves) (s .o) (s .c) (s .l) (take (s .count - 0) (s .buf)) (s .p) (s .q) p' q'
+      → machine (written (s .there .state) (s .c) (s .l) (s .d)) p' q' ≡ outcome .machine
+  unfolding accepted applied
+  machine-is p' q' b =
+      let z : s .count - 0 ≡ s .count = omega arith in
+      let i = is-moved here (s .call) given-bytes (s .n) number-is (s .v) (s .c) (s .l) finds p' q' (rw (z, effect-is, ← s .reached .opening) at b) in
+      rw (effect-is, i .0, i .1) (sym (ap (λ (x : Outcome). x .machine) (is-step here (s .call) given-bytes (s .n) number-is (s .v) (s .c) (s .l) finds)))
+
+  -- it was put, and the effect is written back
+  pub step-made :
+      (p' q' out' : Bytes) (put : Put) (e : ℕ) → PutAt (s .out) (s .used) line-put out' put → put ≡ PutEnd e
+      → Moves (s .d .moves) (s .o) (s .c) (s .l) (take (s .count - 0) (s .buf)) (s .p) (s .q) p' q'
+      → Reached j from p₀ q₀ old (s .o) (s .base) p' q' out'
+      (checkpointAt (s .next) (s .there .form) (s .k) (written (s .there .state) (s .c) (s .l) (s .d))) e
+  step-made p' q' out' put e y z b =
+      stepped (s .reached) (s .due) (written (s .there .state) (s .c) (s .l) (s .d)) p' q' out' e (s .k) (machine-is p' q' b) (s .reached .opening)
+      counts-are (put-written (rw (place-is, reply-is) at y) z)

@@ -1,0 +1,281 @@
+// The parts of the driver's loop, which goes through the journal line by line. A function that has a
+// `requires` says what the loop knows where it calls it.
+ghost use mathlib.Core.Path.{_≡_};
+ghost use mathlib.Core.Bool.{true};
+ghost use mathlib.Core.List.{[]};
+ghost use Prim.Native.Nat.{_-_, _≤_, _<_};
+ghost use lib.ListN.{length};
+ghost use Rattle.protocol.specs.{Buffers.part, Refusals.callRefusal, Refusals.orElse, Run.place, Counts.countsOf, Counts.plus};
+ghost use Rattle.protocol.specs.Step.{done, meaning};
+ghost use Rattle.spelling.specs.Over.{PutAt};
+ghost use Rattle.listing.specs.Record.{recordText};
+ghost use Rattle.driver.specs.Listing.{stopLines, lastLines, notOpened};
+ghost use Rattle.driver.specs.Play.{few, unopened};
+ghost use Rattle.driver.specs.Pieces.{isStore, Digits, Decodes, DueAt, answerLine, Shows};
+ghost use Rattle.driver.specs.Pieces.{endingOf, Numbered, checkpointAt, playedBy, Puts, refusedBy, openedBy};
+use super::Checkpoint;
+use super::Due;
+use super::Last;
+use super::Played;
+use super::Progress;
+use journal::Next;
+use protocol::Act;
+use protocol::Answer;
+use protocol::Call;
+use protocol::Counts;
+use protocol::Name;
+use protocol::Opening;
+use protocol::Place;
+use protocol::State;
+use spelling::Decoded;
+use spelling::Put;
+
+// The first of 1 to 6 that applies, or 0 where none does; `base` is 1, 2 or 0.
+fn number_of(base: u8, call: Call, opening: Opening, count: usize) -> u8
+    ensures { λ r. ⌜ r ≡ orElse base (callRefusal call opening count) ⌝ }
+{
+    if base != 0 {
+        return base;
+    }
+    refusals::call_refusal(call, opening, count)
+}
+
+// The bytes given to a step, to the start of a buffer, from its digits in the journal: how many there
+// are.
+fn decode(buf: &mut [u8], journal: &[u8], start: usize, end: usize) -> usize
+    requires { ⌜ Digits (now journal) start end × (100 ≤ length (now buf)) ⌝ }
+    ensures { λ r. ⌜ Decodes (part (now (journal .entry)) start (end - start)) (now (buf .exit)) r ⌝ }
+{
+    if start == end {
+        return 0;
+    }
+    match spelling::decode(buf, &journal[start..end]) {
+        Decoded::Bytes(n) => n,
+        Decoded::NoRoom => 0,
+        Decoded::Wrong => 0,
+    }
+}
+
+// What is due at a place of a journal whose first line was read; a step's bytes are put to the start of
+// a buffer.
+pub(crate) fn due(
+    journal: &[u8],
+    at: usize,
+    form: u32,
+    base: u8,
+    opening: Opening,
+    buf: &mut [u8; 128],
+) -> Due
+    requires { ⌜ (form ≡ 0 → ⊥) ⌝ }
+    ensures { λ r. ⌜ DueAt (now (journal .entry)) at form base opening (now (buf .exit)) r ⌝ }
+{
+    match journal::step_at(journal, at, form) {
+        // No line after the first opens an engine.
+        Next::Opening { .. } => Due::Last(Last::End),
+        Next::End => Due::Last(Last::End),
+        Next::Refused(n) => Due::Last(Last::Refused(n)),
+        Next::Step {
+            call,
+            start,
+            end,
+            next,
+        } => {
+            let count = decode(buf, journal, start, end);
+            let number = number_of(base, call, opening, count);
+            Due::Step {
+                call,
+                number,
+                count,
+                next,
+            }
+        }
+    }
+}
+
+// The counts with so many more.
+fn plus(counts: Counts, more: Counts) -> Counts
+    requires { ⌜ (few counts 9223372036854775807 ≡ true) × (few more 1 ≡ true) ⌝ }
+    ensures { λ r. ⌜ r ≡ plus counts more ⌝ }
+{
+    Counts {
+        steps: counts.steps + more.steps,
+        commits: counts.commits + more.commits,
+        refusals: counts.refusals + more.refusals,
+    }
+}
+
+// The counts with a call and its answer.
+pub(crate) fn met(counts: Counts, call: Call, answer: Answer) -> Counts
+    requires { ⌜ few counts 9223372036854775807 ≡ true ⌝ }
+    ensures { λ r. ⌜ r ≡ plus counts (countsOf call (meaning answer [])) ⌝ }
+{
+    plus(counts, Counts::of(call, answer))
+}
+
+// Whether a call stores.
+fn is_store(act: Act) -> bool
+    ensures { λ r. ⌜ r ≡ isStore act ⌝ }
+{
+    match act {
+        Act::Load => false,
+        Act::Store => true,
+        Act::Fence => false,
+        Act::Advance(_) => false,
+        Act::Transfer => false,
+    }
+}
+
+// The line of a call's answer at place n, for core c and line l: a store's bytes are those given, a load's those of the copy.
+pub(crate) fn put_answer(
+    out: &mut [u8],
+    at: usize,
+    n: u64,
+    act: Act,
+    answer: Answer,
+    given: &[u8],
+    private: &[u8],
+    opening: Opening,
+    c: usize,
+    l: usize,
+) -> Put
+    requires { ⌜ Shows answer opening c l (length (now «private»)) ⌝ }
+    ensures { λ r. ⌜ PutAt (now (out .entry)) at (answerLine n act answer (now (given .entry)) opening (now («private» .entry)) c l) (now (out .exit)) r ⌝ }
+{
+    if is_store(act) {
+        return listing::put_record(out, at, Place(n), answer, given);
+    }
+    let copy = buffers::copy_start(opening, c, l);
+    let span = tables::span_of(answer, copy, opening.width);
+    let start = span.start;
+    let end = start + span.count;
+    listing::put_record(out, at, Place(n), answer, &private[start..end])
+}
+
+// The last lines of a run that a refused line ends, where they fit; `counts` has that line, whose place is
+// the last.
+fn put_stop(out: &mut [u8], at: usize, number: u32, counts: Counts) -> Put
+    requires { ⌜ number < 256 ⌝ }
+    ensures { λ r. ⌜ PutAt (now (out .entry)) at (stopLines counts number) (now (out .exit)) r ⌝ }
+{
+    let mut text = [0u8; 256];
+    let nothing = [0u8; 1];
+    let n = number as u8;
+    let place = counts.steps;
+    match listing::put_record(
+        &mut text,
+        0,
+        Place(place),
+        Answer::Refused(n),
+        &nothing[0..0],
+    ) {
+        Put::Short => Put::Short,
+        Put::End(e) => match listing::put_end(&mut text, e, counts) {
+            Put::Short => Put::Short,
+            Put::End(e) => spelling::put_text(out, at, &text[0..e]),
+        },
+    }
+}
+
+// The last lines of a run, where they fit, after what was counted.
+pub(crate) fn put_last(out: &mut [u8], at: usize, last: Last, counts: Counts) -> Put
+    requires { ⌜ (few counts 9223372036854775807 ≡ true) × Numbered last ⌝ }
+    ensures { λ r. ⌜ PutAt (now (out .entry)) at (lastLines counts (endingOf last)) (now (out .exit)) r ⌝ }
+{
+    match last {
+        Last::End => listing::put_end(out, at, counts),
+        Last::Refused(n) => {
+            let line = Counts {
+                steps: 1,
+                commits: 0,
+                refusals: 1,
+            };
+            put_stop(out, at, n, plus(counts, line))
+        }
+    }
+}
+
+// A checkpoint, from its parts.
+fn checkpoint(at: usize, form: u32, counts: Counts, state: State) -> Checkpoint
+    ensures { λ r. ⌜ r ≡ checkpointAt at form counts state ⌝ }
+{
+    Checkpoint {
+        at,
+        form,
+        counts,
+        state,
+    }
+}
+
+// How far a call came whose next piece was put, or had no room.
+pub(crate) fn played(
+    put: Put,
+    used: usize,
+    at: usize,
+    form: u32,
+    counts: Counts,
+    state: State,
+) -> Played
+    ensures { λ r. ⌜ r ≡ playedBy put used (checkpointAt at form counts state) ⌝ }
+{
+    match put {
+        Put::End(e) => Played {
+            progress: Progress::Finished,
+            written: e,
+            checkpoint: checkpoint(at, form, counts, state),
+        },
+        Put::Short => Played {
+            progress: Progress::More,
+            written: used,
+            checkpoint: checkpoint(at, form, counts, state),
+        },
+    }
+}
+
+// How far a call came that opened no engine.
+fn unopened(progress: Progress, written: usize) -> Played
+    ensures { λ r. ⌜ r ≡ record { progress = progress; written = written; checkpoint = unopened } ⌝ }
+{
+    let smallest = Opening::smallest();
+    let state = State::fresh(smallest);
+    let none = Counts::NONE;
+    Played {
+        progress,
+        written,
+        checkpoint: checkpoint(0, 0, none, state),
+    }
+}
+
+// The listing of a journal that opens no engine, where it fits.
+pub(crate) fn refuse(out: &mut [u8], number: u32) -> Played
+    requires { ⌜ number < 256 ⌝ }
+    ensures { λ r. ⌜ Puts (notOpened number) refusedBy (now (out .entry)) (now (out .exit)) r ⌝ }
+{
+    let line = Counts {
+        steps: 0,
+        commits: 0,
+        refusals: 1,
+    };
+    match put_stop(out, 0, number, line) {
+        Put::End(e) => unopened(Progress::Finished, e),
+        Put::Short => unopened(Progress::Short, 0),
+    }
+}
+
+// The line of an opening, where it fits, after which the run goes on at a place of the journal.
+pub(crate) fn open(out: &mut [u8], at: usize, form: u32, opening: Opening) -> Played
+    ensures { λ r. ⌜ Puts (recordText (place 0) (done Name.Open)) (openedBy at form opening) (now (out .entry)) (now (out .exit)) r ⌝ }
+{
+    let nothing = [0u8; 1];
+    match listing::put_record(out, 0, Place(0), Answer::Done(Name::Open), &nothing[0..0]) {
+        Put::End(e) => {
+            let state = State::fresh(opening);
+            let none = Counts::NONE;
+            Played {
+                progress: Progress::More,
+                written: e,
+                checkpoint: checkpoint(at, form, none, state),
+            }
+        }
+        Put::Short => unopened(Progress::Short, 0),
+    }
+}
