@@ -2,11 +2,12 @@
 use Prim.Native.Nat.{ℕ, _+_, _≤_, _<_}
 use mathlib.Core.{Path._≡_, Bool.Bool, Bool.true, Bool.false, List.List, List._∷_, List._++_}
 use lib.ListN.{length, drop}
+use denote.Ref.{now}
 use Rattle.spelling.specs.Bytes.{Without}
 use Rattle.grammar.specs.{Table.rowsOf, Line.LineOf}
 use Rattle.grammar.specs.declared.Line.{Line}
 use Rattle.grammar.specs.declared.Line.the-variants.{Opening as OpeningLine, Step as StepLine, Refused as RefusedLine}
-use Rattle.journal.specs.declared.{Next.Next, Read.Read, Reader.Reader}
+use Rattle.journal.specs.declared.{Next.Next, Read.Read, Reader.Reader, Step.Step as Reading}
 use Rattle.journal.specs.declared.Next.the-variants.{Opening, Step, End, Refused}
 
 -- a line's answer, where the line is at a place of the journal and the next one at `next`
@@ -64,3 +65,7 @@ pub record ReadOf (journal : List ℕ) (at form : ℕ) (r : Read) : Type 0 where
 -- the reader after an answer: the same bytes at the same place in memory, and the place and the form after it
 abbrev pub readerAfter : Reader → Next → Reader
 readerAfter r n = record { journal = r .journal; at = placeAfter (r .at) n; form = formAfter (r .form) n }
+
+-- what a reader returns: what is where it is, and the reader after it
+abbrev pub StepOf : Reader → Reading → Type 0
+StepOf r s = NextOf (now (r .journal)) (r .at) (r .form) (s .next) × (s .reader ≡ readerAfter r (s .next))

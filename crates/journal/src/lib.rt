@@ -5,7 +5,7 @@
 // it together, and nobody else can set its place, so no byte is passed over. A refusal, or the end, leaves the reader where it is:
 // asking again gives the same answer.
 ghost use mathlib.Core.Path.{_≡_};
-ghost use Rattle.journal.specs.Journal.{NextOf, placeAfter, formAfter, ReadOf, readerAfter};
+ghost use Rattle.journal.specs.Journal.{NextOf, placeAfter, formAfter, ReadOf, StepOf};
 use grammar::Line;
 use protocol::Call;
 use protocol::Opening;
@@ -134,7 +134,7 @@ impl<'a> Reader<'a> {
 
     // What is where the reader is, and the reader after it, over the same bytes.
     pub fn next(self) -> Step<'a>
-        ensures { λ s. ⌜ (NextOf (now (self .entry .journal)) (self .entry .at) (self .entry .form) (s .next)) × (s .reader ≡ readerAfter (self .entry) (s .next)) ⌝ }
+        ensures { λ s. ⌜ StepOf (self .entry) s ⌝ }
     {
         let r = read_at(self.journal, self.at, self.form);
         Step {

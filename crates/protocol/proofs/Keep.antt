@@ -73,9 +73,8 @@ row-kept {m} {call} given {d} f k q w =
       opening = f .opening;
       owners = every-set (λ (x : Line). ownerFits (o .cores) (x .manager)) (m .state .line) (o .lines) l (d .line) (f .owners) (e .owner);
       slots = every-set (λ (x : Core). slotFits (o .lines) (x .slot)) (m .state .core) (o .cores) c (d .core) (f .slots) (e .slot);
-      nPrivate =
-          length-movedPrivate o (m .private) (m .shared) c l given (f .nPrivate) (f .nShared) (q .core) (q .line) (d .moves) (e .bytes) ∙ f .nPrivate;
-      nShared = length-movedShared o (m .private) (m .shared) c l given (f .nPrivate) (f .nShared) (q .core) (q .line) (d .moves) ∙ f .nShared;
+      nPrivate = length-movedPrivate m c l given f q (d .moves) (e .bytes) ∙ f .nPrivate;
+      nShared = length-movedShared m c l given f q (d .moves) ∙ f .nShared;
     }
 
 -- neither 1 nor 2 refuses a machine that fits

@@ -3,11 +3,12 @@ use Prim.Native.Nat.{ℕ, _+_, _*_, _≤_, _<_}
 use mathlib.Core.Path.{_≡_, refl}
 use native.Mathlib.Omega.{arith}
 use lib.ListN.{length}
-use Rattle.protocol.specs.Buffers.{Bytes, part, splice, privateLength, sharedLength, copyBytes, managerBytes, writebackBytes, answerBytes}
-use Rattle.protocol.specs.Buffers.{movedPrivate, movedShared}
+use Rattle.protocol.specs.Buffers.{Bytes, Placed, part, splice, copyBytes, managerBytes, writebackBytes, answerBytes, movedPrivate, movedShared}
 use Rattle.protocol.specs.declared.{Opening.Opening, Move.Move}
 use Rattle.protocol.specs.declared.Move.the-variants.{Still, Store as MoveStore, Answer as MoveAnswer, Receive as MoveReceive}
 use Rattle.protocol.specs.declared.Move.the-variants.{Writeback as MoveWriteback, Take as MoveTake}
+use Rattle.protocol.specs.Machine.{Machine}
+use Rattle.protocol.proofs.Refusals.{Fit}
 use Rattle.protocol.proofs.Bytes.{row-le, row-other, length-part, length-splice, part-same, grid-row, grid-column}
 
 -- the bytes that move are a line: those given to a store, n of them, are as many as the width; the others lie in the buffers
@@ -19,8 +20,36 @@ Sized o n MoveReceive = Unit {0}
 Sized o n MoveWriteback = Unit {0}
 Sized o n MoveTake = Unit {0}
 
--- the bytes at the four spots that a move for core c and line l may touch; p and q are the private and the shared buffer
-module _ (o : Opening) (p q : Bytes) (c l : ℕ) (given : Bytes) where
+-- the move leaves the answer to the core
+abbrev pub AnswerStays : Move → Type 0
+AnswerStays Still = Unit {0}
+AnswerStays MoveStore = Unit {0}
+AnswerStays MoveAnswer = ⊥
+AnswerStays MoveReceive = Unit {0}
+AnswerStays MoveWriteback = Unit {0}
+AnswerStays MoveTake = Unit {0}
+
+-- the move for core c and line l writes row j of the shared buffer
+abbrev WritesShared : Opening → ℕ → ℕ → Move → ℕ → Type 0
+WritesShared o c l Still j = ⊥
+WritesShared o c l MoveStore j = ⊥
+WritesShared o c l MoveAnswer j = j ≡ 2 * o .lines + c
+WritesShared o c l MoveReceive j = ⊥
+WritesShared o c l MoveWriteback j = j ≡ o .lines + l
+WritesShared o c l MoveTake j = j ≡ l
+
+-- a move for core c and line l, with the bytes given to a store
+module _ (m : Machine) (c l : ℕ) (given : Bytes) where
+  abbrev o : Opening
+  o = m .state .opening
+
+  abbrev p : Bytes
+  p = m .private
+
+  abbrev q : Bytes
+  q = m .shared
+
+  -- the bytes at the four spots that it may touch
   abbrev pub managerAfter : Move → Bytes
   managerAfter Still = managerBytes o q l
   managerAfter MoveStore = managerBytes o q l
@@ -53,34 +82,22 @@ module _ (o : Opening) (p q : Bytes) (c l : ℕ) (given : Bytes) where
   answerAfter MoveWriteback = answerBytes o q c
   answerAfter MoveTake = answerBytes o q c
 
-  -- the move writes row j of the shared buffer
-  abbrev WritesShared : Move → ℕ → Type 0
-  WritesShared Still j = ⊥
-  WritesShared MoveStore j = ⊥
-  WritesShared MoveAnswer j = j ≡ 2 * o .lines + c
-  WritesShared MoveReceive j = ⊥
-  WritesShared MoveWriteback j = j ≡ o .lines + l
-  WritesShared MoveTake j = j ≡ l
+  module _ (f : Fit m) (at : Placed o c l) where
+    abbrev hc : c < o .cores
+    hc = at .core
 
-  -- the move leaves the answer to the core
-  abbrev pub AnswerStays : Move → Type 0
-  AnswerStays Still = Unit {0}
-  AnswerStays MoveStore = Unit {0}
-  AnswerStays MoveAnswer = ⊥
-  AnswerStays MoveReceive = Unit {0}
-  AnswerStays MoveWriteback = Unit {0}
-  AnswerStays MoveTake = Unit {0}
+    abbrev hl : l < o .lines
+    hl = at .line
 
-  module _ (hp : length p ≡ privateLength o) (hq : length q ≡ sharedLength o) (hc : c < o .cores) (hl : l < o .lines) where
     -- a row of the shared buffer, and a copy's row of the private one, lie inside
     pub shared-in : (j : ℕ) → j < 2 * o .lines + o .cores → j * o .width + o .width ≤ length q
-    shared-in j h = omega (arith, hq, row-le (o .width) j (2 * o .lines + o .cores) h)
+    shared-in j h = omega (arith, f .nShared, row-le (o .width) j (2 * o .lines + o .cores) h)
 
     pub cell-in : c * o .lines + l < o .cores * o .lines
     cell-in = omega (arith, row-le (o .lines) c (o .cores) hc)
 
     pub private-in : (c * o .lines + l) * o .width + o .width ≤ length p
-    private-in = omega (arith, hp, row-le (o .width) (c * o .lines + l) (o .cores * o .lines) cell-in)
+    private-in = omega (arith, f .nPrivate, row-le (o .width) (c * o .lines + l) (o .cores * o .lines) cell-in)
 
     pub length-row : (j : ℕ) → j < 2 * o .lines + o .cores → length (part q (j * o .width) (o .width)) ≡ o .width
     length-row j h = length-part q (j * o .width) (o .width) (shared-in j h)
@@ -89,7 +106,7 @@ module _ (o : Opening) (p q : Bytes) (c l : ℕ) (given : Bytes) where
     length-copy = length-part p ((c * o .lines + l) * o .width) (o .width) private-in
 
     -- a row that the move does not write
-    pub shared-other : (v : Move) (j : ℕ) → (WritesShared v j → ⊥) → part (movedShared v o c l p q) (j * o .width) (o .width) ≡ part q (j * o .width) (o .width)
+    pub shared-other : (v : Move) (j : ℕ) → (WritesShared o c l v j → ⊥) → part (movedShared v o c l p q) (j * o .width) (o .width) ≡ part q (j * o .width) (o .width)
     unfolding movedShared
     shared-other Still j n = refl
     shared-other MoveStore j n = refl
@@ -165,7 +182,7 @@ module _ (o : Opening) (p q : Bytes) (c l : ℕ) (given : Bytes) where
     pub manager-other : (v : Move) (l′ : ℕ) → l′ < o .lines → (l′ ≡ l → ⊥) → managerBytes o (movedShared v o c l p q) l′ ≡ managerBytes o q l′
     manager-other v l′ h n = shared-other v l′ (go v)
       where
-        go : (v : Move) → WritesShared v l′ → ⊥
+        go : (v : Move) → WritesShared o c l v l′ → ⊥
         go Still e = e
         go MoveStore e = e
         go MoveAnswer e = omega arith
@@ -176,7 +193,7 @@ module _ (o : Opening) (p q : Bytes) (c l : ℕ) (given : Bytes) where
     pub writeback-other : (v : Move) (l′ : ℕ) → l′ < o .lines → (l′ ≡ l → ⊥) → writebackBytes o (movedShared v o c l p q) l′ ≡ writebackBytes o q l′
     writeback-other v l′ h n = shared-other v (o .lines + l′) (go v)
       where
-        go : (v : Move) → WritesShared v (o .lines + l′) → ⊥
+        go : (v : Move) → WritesShared o c l v (o .lines + l′) → ⊥
         go Still e = e
         go MoveStore e = e
         go MoveAnswer e = omega arith
@@ -187,7 +204,7 @@ module _ (o : Opening) (p q : Bytes) (c l : ℕ) (given : Bytes) where
     pub answer-other : (v : Move) (c′ : ℕ) → (c′ ≡ c → AnswerStays v) → answerBytes o (movedShared v o c l p q) c′ ≡ answerBytes o q c′
     answer-other v c′ n = shared-other v (2 * o .lines + c′) (go v n)
       where
-        go : (v : Move) → (c′ ≡ c → AnswerStays v) → WritesShared v (2 * o .lines + c′) → ⊥
+        go : (v : Move) → (c′ ≡ c → AnswerStays v) → WritesShared o c l v (2 * o .lines + c′) → ⊥
         go Still f e = e
         go MoveStore f e = e
         go MoveAnswer f e = f (omega arith)

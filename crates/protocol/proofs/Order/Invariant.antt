@@ -107,12 +107,12 @@ module _ {z : Value} {H : List (Commit Bytes)} {m : Machine} (I : Inv z H m) (f 
           (all-map (λ x k i. clock-up (x .op) (x .ts .0) (coreAt (m .state) c .clocks) (d .core .clocks) a (k i)) (I .clocks c))
       go (no n) = rw (core-off (I .arrays) q d c′ n) (I .clocks c′)
 
-  pairs-applied : SlotStep m c l given d → Beside l (d .core .slot) (d .copy) → (c′ l′ : ℕ) → l′ < o .lines
+  pairs-applied : SlotStep m c l d → Beside l (d .core .slot) (d .copy) → (c′ l′ : ℕ) → l′ < o .lines
       → Beside l′ (coreAt (m′ .state) c′ .slot) (copyAt (m′ .state) c′ l′)
   unfolding applied
   pairs-applied st pr c′ l′ h = go (ℕ-discrete c′ c) (ℕ-discrete l′ l) st
     where
-      go : Dec (c′ ≡ c) → Dec (l′ ≡ l) → SlotStep m c l given d → Beside l′ (coreAt (m′ .state) c′ .slot) (copyAt (m′ .state) c′ l′)
+      go : Dec (c′ ≡ c) → Dec (l′ ≡ l) → SlotStep m c l d → Beside l′ (coreAt (m′ .state) c′ .slot) (copyAt (m′ .state) c′ l′)
       go (yes e) (yes i) t = rw (e, i, core-at (I .arrays) q d, copy-at (I .arrays) q d) pr
       go (yes e) (no n) (inl t) =
           rw (e, core-at (I .arrays) q d, copy-off (I .arrays) q d c l′ h (λ _ i. n i), t .0) (I .pairs c l′ h)
@@ -121,7 +121,7 @@ module _ {z : Value} {H : List (Commit Bytes)} {m : Machine} (I : Inv z H m) (f 
       go (no n) i t = rw (core-off (I .arrays) q d c′ n, copy-off (I .arrays) q d c′ l′ h (λ e _. n e)) (I .pairs c′ l′ h)
 
   -- the invariant after the step, for a log H′ that may have one commit more
-  pub inv-applied : {g′ : Newest LineCell Value} (H′ : List (Commit Bytes)) → SlotStep m c l given d → Beside l (d .core .slot) (d .copy)
+  pub inv-applied : {g′ : Newest LineCell Value} (H′ : List (Commit Bytes)) → SlotStep m c l d → Beside l (d .core .slot) (d .copy)
       → ((c′ : ℕ) → Within H′ m′ c′)
       → ((l′ : ℕ) (g : Newest LineCell Value) → (l′ ≡ l → ⊥) → LineOf z l′ H (look m l′) g → LineOf z l′ H′ (look m l′) g)
       → LineOf z l H′ (look m′ l) g′ → Inv z H′ m′
@@ -142,10 +142,10 @@ module _ {z : Value} {H : List (Commit Bytes)} {m : Machine} (I : Inv z H m) (f 
   -- what the row leaves at the four spots of core c and line l agrees: the manager's, the writeback's, the copy's, the slot's
   abbrev pub Leaves : List (Commit Bytes) → Newest LineCell Value → Type 0
   Leaves H′ g′ =
-      SpotOf z l H′ g′ atManager (viewManager (d .line .manager) (managerAfter o (m .private) (m .shared) c l given (d .moves)))
-      × SpotOf z l H′ g′ atWriteback (viewWriteback (d .line .writeback) (writebackAfter o (m .private) (m .shared) c l given (d .moves)))
-      × SpotOf z l H′ g′ (atCopy c) (viewCopy c (d .copy) (copyAfter o (m .private) (m .shared) c l given (d .moves)))
-      × SpotOf z l H′ g′ (atSlot c) (viewSlot l (d .core .slot) (answerAfter o (m .private) (m .shared) c l given (d .moves)))
+      SpotOf z l H′ g′ atManager (viewManager (d .line .manager) (managerAfter m c l given (d .moves)))
+      × SpotOf z l H′ g′ atWriteback (viewWriteback (d .line .writeback) (writebackAfter m c l given (d .moves)))
+      × SpotOf z l H′ g′ (atCopy c) (viewCopy c (d .copy) (copyAfter m c l given (d .moves)))
+      × SpotOf z l H′ g′ (atSlot c) (viewSlot l (d .core .slot) (answerAfter m c l given (d .moves)))
 
   -- line l itself, spot by spot: these four, and the other cores' as they were
   pub line-applied : {H′ : List (Commit Bytes)} {g′ : Newest LineCell Value} → VersionOf z l H′ g′

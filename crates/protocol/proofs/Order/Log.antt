@@ -99,23 +99,6 @@ last-cons e n (inl w) =
     (w .0, there (w .1), w .2, w .3, λ s′ m y q k. ⊎-elim (λ i. absurd (n y (rw i at q) (rw i at k))) (λ m′. w .4 s′ m′ y q k) (in-cons m))
 last-cons e n (inr w) = inr (λ s m y q k. ⊎-elim (λ i. n y (rw i at q) (rw i at k)) (λ m′. w .0 s m′ y q k) (in-cons m), w .1)
 
--- each write is made at or after the timestamps of the writes made before it
-pub data Rising {A X : Type 0} (Wr : Commit A → X → Type 0) : List (Commit A) → Type 0 where
-  rising-nil : Rising Wr []
-  rising-cons : {e : Commit A} {H : List (Commit A)} → All (λ a. Earlier a e) H
-      → ((x : X) → Wr e x → All (λ a. (y : X) → Wr a y → a .ts .0 ≤ e .ts .0) H) → Rising Wr H → Rising Wr (e ∷ H)
-
--- the newest write of a rising log is the last in the sorted order
-walk-last : {A X : Type 0} {z : X} {Wr : Commit A → X → Type 0} {P Q : Commit A → Type 0} (K : Commit A → Type 0) {H : List (Commit A)} {x : X}
-    → Rising Wr H → ((e : Commit A) → In e H → P e → K e → ⊥) → ((e : Commit A) → In e H → Q e → K e)
-    → Last z Wr P Q H x → LastWrite H Wr K z x
-walk-last K ok f g (fresh q) = inr (λ s m. absurd (in-nil m), q)
-walk-last K (rising-cons o u r) f g (found {e = e} w q) =
-    inl
-    (e, here refl, w, g e (here refl) q, λ s m y v k. ⊎-elim (λ i. inl i) (λ m′. inr (before-of s e (all-at (u _ w) m′ y v) (all-at o m′))) (in-cons m))
-walk-last K (rising-cons o u r) f g (past {e = e} p t) =
-    last-cons e (λ y q k. f e (here refl) (p y q) k) (walk-last K r (λ s m. f s (there m)) (λ s m. g s (there m)) t)
-
 -- what the model asks of two commits of one core
 abbrev Ordered : {A : Type 0} → (Op A → Op A → Type 0) → Commit A → Commit A → Type 0
 Ordered Keeps a b = a .core ≡ b .core → Earlier a b → Keeps (a .op) (b .op) → Before a b
@@ -135,15 +118,27 @@ module _ {A C X : Type 0} (Keeps : Op A → Op A → Type 0) (Reads Writes : C �
   log-order start a b m n = absurd (in-nil m)
   log-order (step {e = e} o ok log) a b m n = order-cons a b e o ok (log-order log a b) (in-cons m) (in-cons n)
 
-  log-rising : (i : C) {H : List (Commit A)} → Lawful Keeps Reads Writes z H → Rising (Writes i) H
-  log-rising i start = rising-nil
-  log-rising i (step {e = e} o ok log) = rising-cons {e = e} o (λ x w. all-map (λ a f y v. f y (inr v)) (ok .above i x w)) (log-rising i log)
+  -- the newest write of the log is the last in the sorted order
+  walk-last : {P Q : Commit A → Type 0} (i : C) (K : Commit A → Type 0) {H : List (Commit A)} {x : X} → Lawful Keeps Reads Writes z H
+      → ((e : Commit A) → In e H → P e → K e → ⊥) → ((e : Commit A) → In e H → Q e → K e) → Last z (Writes i) P Q H x → LastWrite H (Writes i) K z x
+  walk-last i K log f g (fresh q) = inr (λ s m. absurd (in-nil m), q)
+  walk-last i K (step o ok log) f g (found {e = e} w q) =
+      inl (
+        e,
+        here refl,
+        w,
+        g e (here refl) q,
+        λ s m y v k.
+            ⊎-elim (λ j. inl j) (λ m′. inr (before-of s e (all-at (ok .above i _ w) m′ y (inr v)) (all-at o m′))) (in-cons m),
+      )
+  walk-last i K (step o ok log) f g (past {e = e} p t) =
+      last-cons e (λ y q k. f e (here refl) (p y q) k) (walk-last i K log (λ s m. f s (there m)) (λ s m. g s (there m)) t)
 
   -- a load's own clause, when it is made
   reads-new : {H : List (Commit A)} (e : Commit A) → All (λ a. Earlier a e) H → Extends Keeps Reads Writes z e H → Lawful Keeps Reads Writes z H
       → (i : C) (x : X) → Reads i e x → LastWrite H (Writes i) (MaySee e) z x
   reads-new {H} e o ok log i x q =
-      walk-last (MaySee e) (log-rising i log) (λ s m p k. hidden s (all-at o m) p k) (λ s m p. seen s (all-at o m) p) (ok .sees i x q)
+      walk-last i (MaySee e) log (λ s m p k. hidden s (all-at o m) p k) (λ s m p. seen s (all-at o m) p) (ok .sees i x q)
     where
       hidden : (s : Commit A) → Earlier s e → (e .ts .0 < s .ts .0) × (s .core ≡ e .core → ⊥) → MaySee e s → ⊥
       hidden s p h (inl (inl k)) = omega arith

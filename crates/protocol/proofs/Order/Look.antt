@@ -1,6 +1,6 @@
 -- The spots of a line read off the machine, and what a step's effect on one core and one line makes of them.
 use Prim.Native.Nat.{ℕ, _<_}
-use mathlib.Core.Path.{_≡_, refl, _∙_, ap}
+use mathlib.Core.Path.{_≡_, refl, _∙_, ap, ap₂}
 use mathlib.Core.Logic.{_⊎_, inl, inr}
 use mathlib.Core.Bool.{Bool, true, false}
 use native.Mathlib.Decide.{ℕ-discrete}
@@ -102,16 +102,12 @@ view-none l (Answered g i w r) b n = go (ℕ-discrete i l)
     go (yes p) = absurd (n p)
     go (no p) = refl
 
--- a function of two arguments at equal arguments
-ap-two : {A B C : Type 0} (f : A → B → C) {a a′ : A} {b b′ : B} → a ≡ a′ → b ≡ b′ → f a b ≡ f a′ b′
-ap-two f p q = cc
-
 -- ---- a step's effect on core c and line l
 
 -- the core's slot stays, or speaks of no other line than l after the step
-abbrev pub SlotStep : Machine → ℕ → ℕ → Bytes → Effect → Type 0
-SlotStep m c l given d =
-    ((d .core .slot ≡ coreAt (m .state) c .slot) × AnswerStays (m .state .opening) (m .private) (m .shared) c l given (d .moves))
+abbrev pub SlotStep : Machine → ℕ → ℕ → Effect → Type 0
+SlotStep m c l d =
+    ((d .core .slot ≡ coreAt (m .state) c .slot) × AnswerStays (d .moves))
     ⊎ ((l′ : ℕ) → SpeaksOf l′ (d .core .slot) → l′ ≡ l)
 
 module _ {m : Machine} (ar : Arrays (m .state)) (f : Fit m) {c l : ℕ} (q : Placed (m .state .opening) c l) (given : Bytes) (d : Effect)
@@ -123,61 +119,51 @@ module _ {m : Machine} (ar : Arrays (m .state)) (f : Fit m) {c l : ℕ} (q : Pla
   m′ = applied m c l given d
 
   -- the four spots of core c and line l
-  pub look-manager : look m′ l atManager ≡ viewManager (d .line .manager) (managerAfter o (m .private) (m .shared) c l given (d .moves))
+  pub look-manager : look m′ l atManager ≡ viewManager (d .line .manager) (managerAfter m c l given (d .moves))
   unfolding look applied
-  look-manager =
-      ap-two (λ (v : Line). viewManager (v .manager)) (line-at ar q d)
-      (manager-after o (m .private) (m .shared) c l given (f .nPrivate) (f .nShared) (q .core) (q .line) (d .moves))
+  look-manager = ap₂ (λ (v : Line). viewManager (v .manager)) (line-at ar q d) (manager-after m c l given f q (d .moves))
 
-  pub look-writeback : look m′ l atWriteback ≡ viewWriteback (d .line .writeback) (writebackAfter o (m .private) (m .shared) c l given (d .moves))
+  pub look-writeback : look m′ l atWriteback ≡ viewWriteback (d .line .writeback) (writebackAfter m c l given (d .moves))
   unfolding look applied
-  look-writeback =
-      ap-two (λ (v : Line). viewWriteback (v .writeback)) (line-at ar q d)
-      (writeback-after o (m .private) (m .shared) c l given (f .nPrivate) (f .nShared) (q .core) (q .line) (d .moves))
+  look-writeback = ap₂ (λ (v : Line). viewWriteback (v .writeback)) (line-at ar q d) (writeback-after m c l given f q (d .moves))
 
-  pub look-copy : look m′ l (atCopy c) ≡ viewCopy c (d .copy) (copyAfter o (m .private) (m .shared) c l given (d .moves))
+  pub look-copy : look m′ l (atCopy c) ≡ viewCopy c (d .copy) (copyAfter m c l given (d .moves))
   unfolding look applied
-  look-copy =
-      ap-two (viewCopy c) (copy-at ar q d)
-      (copy-after o (m .private) (m .shared) c l given (f .nPrivate) (f .nShared) (q .core) (q .line) (d .moves) hg)
+  look-copy = ap₂ (viewCopy c) (copy-at ar q d) (copy-after m c l given f q (d .moves) hg)
 
-  pub look-slot : look m′ l (atSlot c) ≡ viewSlot l (d .core .slot) (answerAfter o (m .private) (m .shared) c l given (d .moves))
+  pub look-slot : look m′ l (atSlot c) ≡ viewSlot l (d .core .slot) (answerAfter m c l given (d .moves))
   unfolding look applied
-  look-slot =
-      ap-two (λ (v : Core). viewSlot l (v .slot)) (core-at ar q d)
-      (answer-after o (m .private) (m .shared) c l given (f .nPrivate) (f .nShared) (q .core) (q .line) (d .moves))
+  look-slot = ap₂ (λ (v : Core). viewSlot l (v .slot)) (core-at ar q d) (answer-after m c l given f q (d .moves))
 
   -- the spots of other cores on any line
   pub copy-spot-off : (c′ l′ : ℕ) → l′ < o .lines → (c′ ≡ c → l′ ≡ l → ⊥) → look m′ l′ (atCopy c′) ≡ look m l′ (atCopy c′)
   unfolding look applied
-  copy-spot-off c′ l′ h n =
-      ap-two (viewCopy c′) (copy-off ar q d c′ l′ h n)
-      (private-other o (m .private) (m .shared) c l given (f .nPrivate) (f .nShared) (q .core) (q .line) (d .moves) hg c′ l′ h n)
+  copy-spot-off c′ l′ h n = ap₂ (viewCopy c′) (copy-off ar q d c′ l′ h n) (private-other m c l given f q (d .moves) hg c′ l′ h n)
 
   pub slot-spot-off : (c′ l′ : ℕ) → (c′ ≡ c → ⊥) → look m′ l′ (atSlot c′) ≡ look m l′ (atSlot c′)
   unfolding look applied
   slot-spot-off c′ l′ n =
-      ap-two (λ (v : Core). viewSlot l′ (v .slot)) (core-off ar q d c′ n)
-      (answer-other o (m .private) (m .shared) c l given (f .nPrivate) (f .nShared) (q .core) (q .line) (d .moves) c′ (λ e. absurd (n e)))
+      ap₂ (λ (v : Core). viewSlot l′ (v .slot)) (core-off ar q d c′ n)
+      (answer-other m c l given f q (d .moves) c′ (λ e. absurd (n e)))
 
   -- every spot of another line
-  pub line-spots-off : SlotStep m c l given d → (l′ : ℕ) → l′ < o .lines → (l′ ≡ l → ⊥) → (Y : Spot)
+  pub line-spots-off : SlotStep m c l d → (l′ : ℕ) → l′ < o .lines → (l′ ≡ l → ⊥) → (Y : Spot)
       → (look m′ l′ Y ≡ look m l′ Y) ⊎ (look m′ l′ Y ≡ nothing)
   unfolding look applied
   line-spots-off st l′ h n atManager =
-      inl (ap-two (λ (v : Line). viewManager (v .manager)) (line-off ar q d l′ n)
-      (manager-other o (m .private) (m .shared) c l given (f .nPrivate) (f .nShared) (q .core) (q .line) (d .moves) l′ h n))
+      inl (ap₂ (λ (v : Line). viewManager (v .manager)) (line-off ar q d l′ n)
+      (manager-other m c l given f q (d .moves) l′ h n))
   line-spots-off st l′ h n atWriteback =
-      inl (ap-two (λ (v : Line). viewWriteback (v .writeback)) (line-off ar q d l′ n)
-      (writeback-other o (m .private) (m .shared) c l given (f .nPrivate) (f .nShared) (q .core) (q .line) (d .moves) l′ h n))
+      inl (ap₂ (λ (v : Line). viewWriteback (v .writeback)) (line-off ar q d l′ n)
+      (writeback-other m c l given f q (d .moves) l′ h n))
   line-spots-off st l′ h n (atCopy c′) = inl (copy-spot-off c′ l′ h (λ _ e. n e))
   line-spots-off st l′ h n (atSlot c′) = go (ℕ-discrete c′ c) st
     where
-      go : Dec (c′ ≡ c) → SlotStep m c l given d → (look m′ l′ (atSlot c′) ≡ look m l′ (atSlot c′)) ⊎ (look m′ l′ (atSlot c′) ≡ nothing)
+      go : Dec (c′ ≡ c) → SlotStep m c l d → (look m′ l′ (atSlot c′) ≡ look m l′ (atSlot c′)) ⊎ (look m′ l′ (atSlot c′) ≡ nothing)
       go (no i) t = inl (slot-spot-off c′ l′ i)
       go (yes i) (inl t) =
-          inl (rw i (ap-two (viewSlot l′) (ap (λ (v : Core). v .slot) (core-at ar q d) ∙ t .0)
-          (answer-other o (m .private) (m .shared) c l given (f .nPrivate) (f .nShared) (q .core) (q .line) (d .moves) c (λ _. t .1))))
+          inl (rw i (ap₂ (viewSlot l′) (ap (λ (v : Core). v .slot) (core-at ar q d) ∙ t .0)
+          (answer-other m c l given f q (d .moves) c (λ _. t .1))))
       go (yes i) (inr t) =
-          inr (rw i (ap-two (λ (v : Core). viewSlot l′ (v .slot)) (core-at ar q d) refl
+          inr (rw i (ap₂ (λ (v : Core). viewSlot l′ (v .slot)) (core-at ar q d) refl
           ∙ view-none l′ (d .core .slot) (answerBytes o (movedShared (d .moves) o c l (m .private) (m .shared)) c) (λ e. n (t l′ e))))

@@ -41,8 +41,8 @@ use Rattle.protocol.proofs.Cases.{yields, takes, Case, refuses, makes, 
 use Rattle.protocol.proofs.Keep.{EffectFits, made-fits}
 use Rattle.protocol.proofs.Order.Log.{more, all-map, Touches, Reading, Extends}
 use Rattle.protocol.proofs.Order.Versions.{Spot, atManager, atWriteback, atCopy, atSlot, kind, HeldBy, Elsewhere, not-here, mine, newest}
-use Rattle.protocol.proofs.Order.Versions.{Newest, version, Stands, here, carry, goes-to, quiet, write-version, write-marks, write-past}
-use Rattle.protocol.proofs.Order.Versions.{Written, marks-stay, MarksAgree, lease-of, lease-renewed, reads-snapshot, reads-newest, reads-mine}
+use Rattle.protocol.proofs.Order.Versions.{Newest, version, IsAt, here, carry, goes-to, quiet, write-version, write-marks, write-past, Written}
+use Rattle.protocol.proofs.Order.Versions.{marks-stay, MarksAgree, lease-of, lease-renewed, reads-snapshot, reads-newest, reads-mine}
 use Rattle.protocol.proofs.Order.Look.{LineCell, Value, cells, marks, look, viewCopy, viewManager, viewWriteback, granted, view-at, view-none}
 use Rattle.protocol.proofs.Order.Look.{SpeaksOf, SlotStep}
 use Rattle.protocol.proofs.Order.Rows.{read-within, lease-grows, read-after, read-clocked, read-version, shared-version, shared-within}
@@ -168,7 +168,7 @@ module _ (z : Value) (p : ℕ) {H : List (Commit Bytes)} (given : Bytes) {m : Ma
   owner-silent e = rw e at pair
 
   -- ---- the invariant after a row that commits nothing, and after one that commits
-  module _ {d : Effect} (e : Fitting d) (st : SlotStep m c l given d) (pr : Beside l (d .core .slot) (d .copy))
+  module _ {d : Effect} (e : Fitting d) (st : SlotStep m c l d) (pr : Beside l (d .core .slot) (d .copy))
       (a : Onward (k .clocks) (d .core .clocks)) where
     keeps : {g′ : Newest LineCell Value} → LineOf z l H (look (next d) l) g′ → Inv z H (next d)
     keeps this = inv-applied I f q given d (e .bytes) H st pr (clocks-applied I f q given d (e .bytes) a) (λ l′ g n k. k) this
@@ -199,7 +199,7 @@ module _ (z : Value) (p : ℕ) {H : List (Commit Bytes)} (given : Bytes) {m : Ma
 
     -- it goes from Z, one of the four spots, to S, or stays there: its lease grows to r′, and leases are handed out up to t. What is at spots of
     -- another kind than Z may stay
-    goes : {Z : Spot} {w r : ℕ} {x : LineCell → Value} → Stands g Z w r x → (Elsewhere c Z → ⊥) → (S : Spot) (r′ t : ℕ)
+    goes : {Z : Spot} {w r : ℕ} {x : LineCell → Value} → IsAt g Z w r x → (Elsewhere c Z → ⊥) → (S : Spot) (r′ t : ℕ)
         → r ≤ r′ → g .leased ≤ t → t ≤ r′
         → (VersionOf z l H (version S w r′ t x)
         → ((Y : Spot) → eqb (kind Z) (kind Y) ≡ false → SpotOf z l H (version S w r′ t x) Y (look m l Y))
@@ -221,7 +221,7 @@ module _ (z : Value) (p : ℕ) {H : List (Commit Bytes)} (given : Bytes) {m : Ma
   -- a load by core c at t of the copy's bytes extends the log if they are those to be read, and keeps the invariant if t is within the lease
   -- that the newest version has after it
   loads : {g′ : Newest LineCell Value} {d : Effect} → Fitting d → (t : Stamp) → k .clocks .lts .0 ≤ t .0
-      → ((i : LineCell) → Reading z (Writes l i) c (t .0) H (cells bytes i)) → SlotStep m c l given d → Beside l (d .core .slot) (d .copy)
+      → ((i : LineCell) → Reading z (Writes l i) c (t .0) H (cells bytes i)) → SlotStep m c l d → Beside l (d .core .slot) (d .copy)
       → Onward (k .clocks) (d .core .clocks) → t .0 ≤ d .core .clocks .lts .0 → t .0 ≤ g′ .r
       → LineOf z l H (look (next d) l) g′ → Good z p H (Load c l) given (commit c t (load l bytes)) (next d)
   loads fit t h s st pr a ck w this = (
@@ -326,7 +326,7 @@ module _ (z : Value) (p : ℕ) {H : List (Commit Bytes)} (given : Bytes) {m : Ma
       x : Commit Bytes
       x = commitBy p c t (store l given)
 
-      v : Stands g (atCopy c) (w .0) (r .0) (cells bytes)
+      v : IsAt g (atCopy c) (w .0) (r .0) (cells bytes)
       v = at-copy (CopyOwned b w r) e .0
 
       h₁ : g .leased < t .0
@@ -421,7 +421,7 @@ module _ (z : Value) (p : ℕ) {H : List (Commit Bytes)} (given : Bytes) {m : Ma
       keeps fit (inr (λ l′ n. absurd n)) (λ n. absurd n) (omega arith) (as-was fit (at atManager, at atWriteback, at (atCopy c), tt))
   row-good (yields {d = b} {w = w} {r = r} e i h) fit = go (lineAt (m .state) l .recall)
     where
-      v : Stands g (atCopy c) (w .0) (r .0) (cells bytes)
+      v : IsAt g (atCopy c) (w .0) (r .0) (cells bytes)
       v = at-copy (CopyOwned b w r) e .0
 
       yields-to : (u : Copy) (t : ℕ) → g .leased ≤ t → t ≤ r .0

@@ -63,13 +63,13 @@ abbrev pub version : {C X : Type 0} → Spot → ℕ → ℕ → ℕ → (C → 
 version S w r t x = record { spot = S; w = w; r = r; leased = t; x = x }
 
 -- the newest version is at S with these values
-pub record Stands {C X : Type 0} (g : Newest C X) (S : Spot) (w r : ℕ) (x : C → X) : Type 0 where
+pub record IsAt {C X : Type 0} (g : Newest C X) (S : Spot) (w r : ℕ) (x : C → X) : Type 0 where
   pub isSpot : g .spot ≡ S
   pub isW : g .w ≡ w
   pub isR : g .r ≡ r
   pub isX : (i : C) → g .x i ≡ x i
 
-pub here : {C X : Type 0} {S : Spot} {w r t : ℕ} {x : C → X} → Stands (version S w r t x) S w r x
+pub here : {C X : Type 0} {S : Spot} {w r t : ℕ} {x : C → X} → IsAt (version S w r t x) S w r x
 here = record { isSpot = refl; isW = refl; isR = refl; isX = λ i. refl }
 
 -- ---- the invariant of one line
@@ -92,7 +92,7 @@ module _ {A C X : Type 0} (z : X) (Wr : C → Commit A → X → Type 0) (Tch : 
   ContentAgrees H g S nothing = Unit {0}
   ContentAgrees H g S (snapshot w r x) = HeldBy S (λ c. Lease H g c w r x)
   ContentAgrees H g S (renewal w r) = HeldBy S (λ c. (x : C → X) × Lease H g c w r x)
-  ContentAgrees H g S (newest m w r x) = Stands g S w r x × MarksAgree H g x m
+  ContentAgrees H g S (newest m w r x) = IsAt g S w r x × MarksAgree H g x m
 
   -- no lease and no access is beyond the newest version's own lease, and its values are the newest writes
   pub record VersionAgrees (H : List (Commit A)) (g : Newest C X) : Type 0 where
@@ -108,7 +108,7 @@ module _ {A C X : Type 0} (z : X) (Wr : C → Commit A → X → Type 0) (Tch : 
   -- what keeps every lease and the newest version keeps what is at a spot
   content-map : (H H′ : List (Commit A)) (g g′ : Newest C X) (S : Spot) (v : Content C X)
       → ((c : ℕ) → HeldBy S (λ b. b ≡ c) → (w r : ℕ) (x : C → X) → Lease H g c w r x → Lease H′ g′ c w r x)
-      → ((m : C → Mark) (w r : ℕ) (x : C → X) → Stands g S w r x → MarksAgree H g x m → Stands g′ S w r x × MarksAgree H′ g′ x m)
+      → ((m : C → Mark) (w r : ℕ) (x : C → X) → IsAt g S w r x → MarksAgree H g x m → IsAt g′ S w r x × MarksAgree H′ g′ x m)
       → ContentAgrees H g S v → ContentAgrees H′ g′ S v
   content-map H H′ g g′ S nothing f n k = tt
   content-map H H′ g g′ (atCopy c) (snapshot w r x) f n k = f c refl w r x k
@@ -129,7 +129,7 @@ module _ {A C X : Type 0} (z : X) (Wr : C → Commit A → X → Type 0) (Tch : 
   thin I M′ f = record { version = I .version; spots = λ Y. ⊎-elim (λ q. rw q (I .spots Y)) (λ q. rw q tt) (f Y) }
 
   -- the newest version goes to S, or stays there: its lease may grow, and leases be handed out up to its own
-  pub goes-to : {H : List (Commit A)} {g : Newest C X} {Z : Spot} {w r : ℕ} {x : C → X} → VersionAgrees H g → Stands g Z w r x
+  pub goes-to : {H : List (Commit A)} {g : Newest C X} {Z : Spot} {w r : ℕ} {x : C → X} → VersionAgrees H g → IsAt g Z w r x
       → (S : Spot) (r′ t : ℕ) → r ≤ r′ → g .leased ≤ t → t ≤ r′ → VersionAgrees H (version S w r′ t x)
   goes-to ok i S r′ t h₁ h₂ h₃ = record {
     wr = omega (arith, ok .wr, i .isW, i .isR);
