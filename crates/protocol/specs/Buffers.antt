@@ -1,7 +1,8 @@
 -- The two lent buffers: where each line of bytes lies, and what a move of one line makes of them.
 use Prim.Native.Nat.{ℕ, _+_, _*_, _≤_, _<_}
-use mathlib.Core.List.{List, _++_}
-use lib.ListN.{length, take, drop}
+use mathlib.Core.List.{List}
+use lib.ListN.{take, drop}
+use Rattle.spelling.specs.Over.{over}
 use Rattle.protocol.specs.Limits.{mostCores, mostLines, mostWidth}
 use Rattle.protocol.specs.declared.Opening.{Opening}
 use Rattle.protocol.specs.declared.Move.{Move}
@@ -13,10 +14,6 @@ Bytes = List ℕ
 -- the n bytes from a
 abbrev pub part : Bytes → ℕ → ℕ → Bytes
 part xs a n = take n (drop a xs)
-
--- xs with ys in place of the bytes from a
-unfoldable pub splice : Bytes → ℕ → Bytes → Bytes
-splice xs a ys = take a xs ++ (ys ++ drop (length ys) (drop a xs))
 
 -- "Private buffer, length cores × lines × width"
 abbrev pub privateLength : Opening → ℕ
@@ -67,9 +64,9 @@ answerBytes o shared c = part shared (answerStart o c) (o .width)
 -- core c and line l; `given` are the bytes given to a store
 unfoldable pub movedPrivate : Move → Opening → ℕ → ℕ → Bytes → Bytes → Bytes → Bytes
 movedPrivate Still o c l given private shared = private
-movedPrivate Store o c l given private shared = splice private (copyStart o c l) given
+movedPrivate Store o c l given private shared = over private (copyStart o c l) given
 movedPrivate Answer o c l given private shared = private
-movedPrivate Receive o c l given private shared = splice private (copyStart o c l) (answerBytes o shared c)
+movedPrivate Receive o c l given private shared = over private (copyStart o c l) (answerBytes o shared c)
 movedPrivate Writeback o c l given private shared = private
 movedPrivate Take o c l given private shared = private
 
@@ -77,7 +74,7 @@ movedPrivate Take o c l given private shared = private
 unfoldable pub movedShared : Move → Opening → ℕ → ℕ → Bytes → Bytes → Bytes
 movedShared Still o c l private shared = shared
 movedShared Store o c l private shared = shared
-movedShared Answer o c l private shared = splice shared (answerStart o c) (managerBytes o shared l)
+movedShared Answer o c l private shared = over shared (answerStart o c) (managerBytes o shared l)
 movedShared Receive o c l private shared = shared
-movedShared Writeback o c l private shared = splice shared (writebackStart o l) (copyBytes o private c l)
-movedShared Take o c l private shared = splice shared (managerStart o l) (writebackBytes o shared l)
+movedShared Writeback o c l private shared = over shared (writebackStart o l) (copyBytes o private c l)
+movedShared Take o c l private shared = over shared (managerStart o l) (writebackBytes o shared l)

@@ -2,7 +2,7 @@
 use mathlib.Core.Path.{refl}
 use Rattle.protocol.specs.Pick.{every, first}
 use Rattle.protocol.specs.Limits.{openingFits}
-use Rattle.protocol.specs.Buffers.{splice, movedPrivate, movedShared}
+use Rattle.protocol.specs.Buffers.{movedPrivate, movedShared}
 use Rattle.protocol.specs.Machine.{applied}
 use Rattle.protocol.specs.Refusals.{openRefusal, ownersFit, slotsFit, stateFits, buffersFit, machineRefusal, callRules, callRefusal, stateRules}
 use Rattle.protocol.specs.Refusals.{stateRefusal, refusal}
@@ -33,7 +33,7 @@ unfolding serveLoad serveAsked serveTable receiveRenew receiveGrant receiveTable
 flightTables = tt
 
 unfoldable pub calling : Unit {0}
-unfolding refusing coreTables flightTables tableOf splice movedPrivate movedShared applied meaning accepted step shown
+unfolding refusing coreTables flightTables tableOf movedPrivate movedShared applied meaning accepted step shown
 calling = tt
 
 -- ---- the theorems

@@ -18,7 +18,7 @@ use Rattle.protocol.specs.Step.{refused, meaning, Outcome, commitBytes, accepte
 use Rattle.protocol.specs.declared.{Opening.Opening, Call.Call, Effect.Effect}
 use Rattle.protocol.specs.declared.Answer.the-variants.{Refused}
 use Rattle.protocol.specs.declared.Move.the-variants.{Still}
-use Rattle.protocol.proofs.Bytes.{part-same}
+use Rattle.spelling.proofs.OverLaws.{over-part}
 use Rattle.protocol.specs.About.{about}
 use Rattle.protocol.proofs.Places.{copy-ends}
 use Rattle.protocol.proofs.Refusals.{or-none, Fit, named, store-width, placed}
@@ -85,7 +85,7 @@ module _ {o : Opening} {c l : ℕ} {given p q : Bytes} {k : Pieces} where
   row-sound n h (asks-store e i) = record { fits = refl; bytes = refl }
   row-sound n h (writes e i) =
       let b = store-width o (length given) n in
-      record { fits = eq-eqb _ _ b; bytes = rw (part-same p (copyStart o c l) given (rw b h) (o .width) b) }
+      record { fits = eq-eqb _ _ b; bytes = rw (over-part p (copyStart o c l) given (rw b h) (o .width) b) }
   row-sound n h fences = record { fits = refl; bytes = refl }
   row-sound n h (advances e) = record { fits = refl; bytes = refl }
   row-sound n h (evicts-shared e) = record { fits = refl; bytes = refl }
