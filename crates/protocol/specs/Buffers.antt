@@ -1,6 +1,7 @@
 -- The two lent buffers: where each line of bytes lies, and what a move of one line makes of them.
 use Prim.Native.Nat.{ℕ, _+_, _*_, _≤_, _<_}
-use mathlib.Core.List.{List}
+use mathlib.Core.{Bool.Bool, Bool.true, List.List}
+use lib.Dec.{eqb}
 use lib.ListN.{take, drop}
 use Rattle.spelling.specs.Over.{over}
 use Rattle.protocol.specs.Limits.{mostCores, mostLines, mostWidth}
@@ -59,6 +60,15 @@ writebackBytes o shared l = part shared (writebackStart o l) (o .width)
 
 abbrev pub answerBytes : Opening → Bytes → ℕ → Bytes
 answerBytes o shared c = part shared (answerStart o c) (o .width)
+
+-- n bytes are one line's, if the move is a store's; no other move looks at them
+abbrev pub givenFits : Move → ℕ → ℕ → Bool
+givenFits Still width n = true
+givenFits Store width n = eqb n width
+givenFits Answer width n = true
+givenFits Receive width n = true
+givenFits Writeback width n = true
+givenFits Take width n = true
 
 -- "Every step that moves a line writes only that line's place in the buffer; all other bytes stay": the private buffer after a move for
 -- core c and line l; `given` are the bytes given to a store

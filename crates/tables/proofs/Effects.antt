@@ -9,7 +9,7 @@ use lib.Seq.{set-getD}
 use borrow.Author.Tests.{lt-ltb, eq-eqb, ne-eqb}
 use Rattle.protocol.specs.Pick.{pick}
 use Rattle.protocol.specs.Fresh.{freshCore, freshCell, freshLine}
-use Rattle.protocol.specs.Buffers.{Bytes, part, copyStart, copyBytes, Placed, movedPrivate, movedShared}
+use Rattle.protocol.specs.Buffers.{Bytes, part, copyStart, copyBytes, Placed, givenFits, movedPrivate, movedShared}
 use Rattle.protocol.specs.Machine.{Machine, machine, coreAt, copyAt, lineAt, Pieces, piecesAt, coreOf, lineOf, applied}
 use Rattle.protocol.specs.Refusals.{wrongCount, buffersFit, machineRefusal, callRefusal, stateRefusal, refusal, orElse}
 use Rattle.protocol.specs.Tables.{row, loadOwned, storeTable, fenceTable, advanceTable, evictTable, serveLoad, serveAsked, receiveRenew, receiveGrant}
@@ -26,7 +26,7 @@ use Rattle.protocol.proofs.Cases.{Row, asks-load, reads-shared, reads-dirty, re
 use Rattle.protocol.proofs.Cases.{evicts-owned, recalls, renews, shares, grants, gets-share, gets-own, gets-renewal, drops-none, drops-owned, yields}
 use Rattle.protocol.proofs.Cases.{takes, piecesOf, effect-case}
 use Rattle.refusals.specs.Input.{inputRefusal}
-use Rattle.buffers.specs.Moves.{givenFits, moveFits}
+use Rattle.buffers.specs.Moves.{moveFits}
 use Rattle.tables.specs.Spans.{spanOf}
 
 -- ---- step
