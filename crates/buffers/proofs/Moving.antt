@@ -6,14 +6,13 @@ use lib.Dec.{eqb}
 use lib.ListN.{length}
 use borrow.Author.Tests.{eqb-true}
 use Rattle.protocol.specs.Limits.{openingFits}
-use Rattle.protocol.specs.Buffers.{Bytes, privateLength, sharedLength, copyStart, managerStart, writebackStart, answerStart, Placed, movedPrivate, movedShared}
+use Rattle.protocol.specs.Buffers.{Bytes, privateLength, sharedLength, copyStart, managerStart, writebackStart, answerStart, Placed, givenFits, movedPrivate, movedShared}
 use Rattle.protocol.specs.Refusals.{buffersFit}
 use Rattle.protocol.specs.declared.Opening.{Opening}
 use Rattle.protocol.specs.declared.Move.{Move}
 use Rattle.protocol.specs.declared.Move.the-variants.{Still, Store, Answer, Receive, Writeback, Take}
 use Rattle.refusals.specs.Input.{lengthsFit}
-use Rattle.buffers.specs.Moves.{placeFits}
-use Rattle.buffers.specs.Moves.{givenFits, moveFits, Moves}
+use Rattle.buffers.specs.Moves.{placeFits, moveFits, Moves}
 use Rattle.protocol.proofs.Tests.{both-true}
 use Rattle.protocol.proofs.Places.{copy-ends, manager-ends, writeback-ends, answer-ends}
 use Rattle.buffers.proofs.Laws.{place-placed}

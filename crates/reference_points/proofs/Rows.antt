@@ -1,6 +1,6 @@
 -- The rows hold: antt computes what `step` gives on each machine, and both sides are the same.
 use mathlib.Core.Path.{refl}
-use Rattle.protocol.specs.{Pick.every, Pick.first, Limits.openingFits, Buffers.splice, Buffers.movedPrivate, Buffers.movedShared, Machine.applied}
+use Rattle.protocol.specs.{Pick.every, Pick.first, Limits.openingFits, Buffers.movedPrivate, Buffers.movedShared, Machine.applied}
 use Rattle.protocol.specs.Refusals.{openRefusal, ownersFit, slotsFit, stateFits, buffersFit, machineRefusal, callRules, callRefusal, stateRules}
 use Rattle.protocol.specs.{Refusals.stateRefusal, Refusals.refusal, Step.meaning, Step.accepted, Step.step, Step.shown}
 use Rattle.protocol.specs.Tables.{loadOwned, loadTable, storeTable, fenceTable, advanceTable, evictTable, serveLoad, serveAsked, serveTable}
@@ -28,7 +28,7 @@ unfolding serveLoad serveAsked serveTable receiveRenew receiveGrant receiveTable
 flightTables = tt
 
 unfoldable pub calling : Unit {0}
-unfolding refusing coreTables flightTables tableOf splice movedPrivate movedShared applied meaning accepted step shown
+unfolding refusing coreTables flightTables tableOf movedPrivate movedShared applied meaning accepted step shown
 calling = tt
 
 -- ---- the theorems

@@ -72,7 +72,7 @@ decoded-one-theorem s old =
 hex-printed : HexPrinted
 hex-printed bs old new r some bytes h x =
     let e = decoded-same (hex bs) old new (over old 0 bs) r (Bytes (length bs)) x (decoded bs (record { some = some; bytes = bytes; same = refl }) (omega (arith, h)) refl) in
-    (e .0, ap (take (length bs)) (e .1) ∙ over-part old 0 bs (omega (arith, h)))
+    (e .0, ap (take (length bs)) (e .1) ∙ over-part old 0 bs (omega (arith, h)) (length bs) refl)
 
 hex-decoded : HexDecoded
 hex-decoded s old new n x = by refl x
@@ -80,7 +80,7 @@ hex-decoded s old new n x = by refl x
     by : {r : Decoded} → r ≡ Bytes n → DecodedOf s old new r → hex (take n new) ≡ s
     by e (decoded bs p l w) =
         let m : n ≡ length bs = cc in
-        ap hex (ap₂ (λ (k : ℕ) (x : List ℕ). take k x) m w ∙ over-part old 0 bs (omega (arith, l))) ∙ sym (p .same)
+        ap hex (ap₂ (λ (k : ℕ) (x : List ℕ). take k x) m w ∙ over-part old 0 bs (omega (arith, l)) (length bs) refl) ∙ sym (p .same)
     by e (noRoom bs p l w) = absurd (let z : _≡_ {A = ℕ} 0 1 = cc in omega arith)
     by e (noData x w) = absurd (let z : _≡_ {A = ℕ} 0 1 = cc in omega arith)
 

@@ -9,7 +9,7 @@ use lib.Seq.{set-getD}
 use borrow.Author.Tests.{lt-ltb, eq-eqb, ne-eqb}
 use Rattle.protocol.specs.Pick.{pick}
 use Rattle.protocol.specs.Fresh.{freshCore, freshCell, freshLine}
-use Rattle.protocol.specs.Buffers.{Bytes, part, copyStart, copyBytes, Placed, movedPrivate, movedShared}
+use Rattle.protocol.specs.Buffers.{Bytes, part, copyStart, copyBytes, Placed, givenFits, movedPrivate, movedShared}
 use Rattle.protocol.specs.Machine.{Machine, machine, coreAt, copyAt, lineAt, Pieces, piecesAt, coreOf, lineOf, applied}
 use Rattle.protocol.specs.Refusals.{wrongCount, buffersFit, machineRefusal, callRefusal, stateRefusal, refusal, orElse}
 use Rattle.protocol.specs.Tables.{row, loadOwned, storeTable, fenceTable, advanceTable, evictTable, serveLoad, serveAsked, receiveRenew, receiveGrant}
@@ -18,7 +18,7 @@ use Rattle.protocol.specs.Step.{refused, meaning, Outcome, commitBytes, accepte
 use Rattle.protocol.specs.declared.{Opening.Opening, Call.Call, Effect.Effect}
 use Rattle.protocol.specs.declared.Answer.the-variants.{Refused}
 use Rattle.protocol.specs.declared.Move.the-variants.{Still}
-use Rattle.protocol.proofs.Bytes.{part-same}
+use Rattle.spelling.proofs.OverLaws.{over-part}
 use Rattle.protocol.specs.About.{about}
 use Rattle.protocol.proofs.Places.{copy-ends}
 use Rattle.protocol.proofs.Refusals.{or-none, Fit, named, store-width, placed}
@@ -26,7 +26,7 @@ use Rattle.protocol.proofs.Cases.{Row, asks-load, reads-shared, reads-dirty, re
 use Rattle.protocol.proofs.Cases.{evicts-owned, recalls, renews, shares, grants, gets-share, gets-own, gets-renewal, drops-none, drops-owned, yields}
 use Rattle.protocol.proofs.Cases.{takes, piecesOf, effect-case}
 use Rattle.refusals.specs.Input.{inputRefusal}
-use Rattle.buffers.specs.Moves.{givenFits, moveFits}
+use Rattle.buffers.specs.Moves.{moveFits}
 use Rattle.tables.specs.Spans.{spanOf}
 
 -- ---- step
@@ -85,7 +85,7 @@ module _ {o : Opening} {c l : ℕ} {given p q : Bytes} {k : Pieces} where
   row-sound n h (asks-store e i) = record { fits = refl; bytes = refl }
   row-sound n h (writes e i) =
       let b = store-width o (length given) n in
-      record { fits = eq-eqb _ _ b; bytes = rw (part-same p (copyStart o c l) given (rw b h) (o .width) b) }
+      record { fits = eq-eqb _ _ b; bytes = rw (over-part p (copyStart o c l) given (rw b h) (o .width) b) }
   row-sound n h fences = record { fits = refl; bytes = refl }
   row-sound n h (advances e) = record { fits = refl; bytes = refl }
   row-sound n h (evicts-shared e) = record { fits = refl; bytes = refl }

@@ -1,13 +1,13 @@
 -- The invariant of the machine and the log of commits, and that a step's effect on one core and one line keeps it, if it keeps that
 -- line's part.
 use Prim.Native.Nat.{ℕ, _≤_, _<_}
-use mathlib.Core.Path.{_≡_}
+use mathlib.Core.{Path._≡_, Bool.true}
 use mathlib.Core.Logic.{inl, inr}
 use mathlib.Core.List.{List}
 use native.Mathlib.Omega.{arith}
 use native.Mathlib.Decide.{ℕ-discrete}
 use lib.ListN.{length}
-use Rattle.protocol.specs.Buffers.{Bytes, Placed}
+use Rattle.protocol.specs.Buffers.{Bytes, Placed, givenFits}
 use Rattle.protocol.specs.Machine.{Machine, coreAt, copyAt, applied}
 use Rattle.protocol.specs.Step.{Op, load, store, fence}
 use Rattle.protocol.specs.Run.{Commit}
@@ -17,7 +17,7 @@ use Rattle.protocol.specs.declared.Copy.the-variants.{None as NoCopy, Sh
 use Rattle.protocol.specs.declared.Held.the-variants.{Version}
 use Rattle.protocol.specs.declared.Grant.the-variants.{Share as GrantShare, Renew as GrantRenew, Own as GrantOwn}
 use Rattle.protocol.specs.declared.Slot.the-variants.{Empty, Asked, Answered}
-use Rattle.protocol.proofs.Moves.{Sized, managerAfter, writebackAfter, copyAfter, answerAfter}
+use Rattle.protocol.proofs.Moves.{managerAfter, writebackAfter, copyAfter, answerAfter}
 use Rattle.protocol.proofs.Refusals.{Fit}
 use Rattle.protocol.proofs.Written.{Arrays, core-at, core-off, copy-at, copy-off, arrays-written}
 use Rattle.protocol.proofs.Order.Log.{All, all-map, Touches}
@@ -90,7 +90,7 @@ clock-up fence t k k′ p h = omega (arith, p .0)
 -- ---- a step's effect d on core c and line l
 
 module _ {z : Value} {H : List (Commit Bytes)} {m : Machine} (I : Inv z H m) (f : Fit m) {c l : ℕ} (q : Placed (m .state .opening) c l)
-    (given : Bytes) (d : Effect) (hg : Sized (m .state .opening) (length given) (d .moves)) where
+    (given : Bytes) (d : Effect) (hg : givenFits (d .moves) (m .state .opening .width) (length given) ≡ true) where
   abbrev o : Opening
   o = m .state .opening
 

@@ -5,7 +5,7 @@ use mathlib.Core.Logic.{_⊎_, inl, inr}
 use mathlib.Core.Bool.{Bool, true, false}
 use native.Mathlib.Decide.{ℕ-discrete}
 use lib.ListN.{length}
-use Rattle.protocol.specs.Buffers.{Bytes, Placed, copyBytes, managerBytes, writebackBytes, answerBytes, movedShared}
+use Rattle.protocol.specs.Buffers.{Bytes, Placed, copyBytes, managerBytes, writebackBytes, answerBytes, givenFits, movedShared}
 use Rattle.protocol.specs.Machine.{Machine, coreAt, copyAt, lineAt, applied}
 use Rattle.protocol.specs.declared.{Stamp.Stamp, Copy.Copy, Grant.Grant, Slot.Slot, Core.Core, Manager.Manager, Writeback.Writeback, Line.Line}
 use Rattle.protocol.specs.declared.{Opening.Opening, Effect.Effect}
@@ -14,7 +14,7 @@ use Rattle.protocol.specs.declared.Grant.the-variants.{Share as GrantSha
 use Rattle.protocol.specs.declared.Slot.the-variants.{Empty, Asked, Answered}
 use Rattle.protocol.specs.declared.Manager.the-variants.{Shared, Owned}
 use Rattle.protocol.specs.declared.Writeback.the-variants.{None as NoWriteback, Flight}
-use Rattle.protocol.proofs.Moves.{managerAfter, writebackAfter, copyAfter, answerAfter, AnswerStays, Sized, manager-after, writeback-after}
+use Rattle.protocol.proofs.Moves.{managerAfter, writebackAfter, copyAfter, answerAfter, AnswerStays, manager-after, writeback-after}
 use Rattle.protocol.proofs.Moves.{copy-after, answer-after, manager-other, writeback-other, answer-other, private-other}
 use Rattle.protocol.proofs.Refusals.{Fit}
 use Rattle.protocol.proofs.Written.{Arrays, core-at, core-off, line-at, line-off, copy-at, copy-off}
@@ -111,7 +111,7 @@ SlotStep m c l d =
     ⊎ ((l′ : ℕ) → SpeaksOf l′ (d .core .slot) → l′ ≡ l)
 
 module _ {m : Machine} (ar : Arrays (m .state)) (f : Fit m) {c l : ℕ} (q : Placed (m .state .opening) c l) (given : Bytes) (d : Effect)
-    (hg : Sized (m .state .opening) (length given) (d .moves)) where
+    (hg : givenFits (d .moves) (m .state .opening .width) (length given) ≡ true) where
   abbrev o : Opening
   o = m .state .opening
 

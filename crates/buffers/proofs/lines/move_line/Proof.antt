@@ -1,6 +1,6 @@
 -- The part of the source is put into its place.
 use mathlib.Core.Path.{ap, _∙_}
-use Rattle.protocol.specs.Buffers.{splice}
+use Rattle.spelling.specs.Over.{over}
 use Rattle.buffers.proofs.Laws.{part-to}
 use borrow.Author.Needs.{needs}
 use Rattle.buffers.proofs.lines.move_line.Statement.{statement}
@@ -16,4 +16,4 @@ move-line-spec =
     (λ c. search needs)
     (λ c κs. search needs)
     (λ c. search needs)
-    (λ c. let a = c .before .before .before .before .before .before .before .args in c .before .before .put-line .ensures ∙ ap (splice (a .dst .now) (a .at)) (part-to (a .src .now) (a .from) (a .n))))
+    (λ c. let a = c .before .before .before .before .before .before .before .args in c .before .before .put-line .ensures ∙ ap (over (a .dst .now) (a .at)) (part-to (a .src .now) (a .from) (a .n))))

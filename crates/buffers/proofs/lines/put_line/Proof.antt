@@ -1,13 +1,12 @@
 -- The part that was lent holds the source; what is before and after it stays.
 use native.Mathlib.Nat.{add-sub-cancel-left}
-use Rattle.protocol.specs.Buffers.{splice}
+use lib.Seq.{drop-drop}
 use borrow.Author.Needs.{needs}
 use Rattle.buffers.proofs.lines.put_line.Statement.{statement}
 use Rattle.buffers.proofs.lines.put_line.Tie as tie
 
 returns : tie.Need-returns
-unfolding splice
-returns c = rw (add-sub-cancel-left, c .before .before .copy-line .ensures)
+returns c = rw (add-sub-cancel-left, drop-drop, c .before .before .copy-line .ensures)
 
 pub put-line-spec : {M : Type 1} → statement M
 put-line-spec =
