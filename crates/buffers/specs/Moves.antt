@@ -1,12 +1,10 @@
 -- Moving one line of bytes between its places, for every opening, core, line and buffer.
 use Prim.Native.Nat.{ℕ}
-use mathlib.Core.Path.{_≡_}
-use mathlib.Core.Bool.{Bool}
-use lib.Dec.{ltb}
-use lib.ListN.{length}
+use mathlib.Core.{Path._≡_, Bool.Bool}
+use lib.{Dec.ltb, ListN.length}
 use denote.Ref.{RefT, now}
-use Rattle.protocol.specs.{Pick.pick, Pick.both, Limits.openingFits, Buffers.Bytes, Buffers.givenFits, Buffers.movedPrivate, Buffers.movedShared}
-use Rattle.protocol.specs.declared.{Opening.Opening, Move.Move}
+use Rattle.protocol.specs.{Pick.{pick, both}, Limits.openingFits, Buffers.{Bytes, givenFits, movedPrivate, movedShared}, declared.Opening.Opening}
+use Rattle.protocol.specs.declared.Move.{Move}
 use Rattle.refusals.specs.Input.{lengthsFit}
 
 -- the opening lies inside the limits, and core c and line l are there

@@ -1,14 +1,9 @@
 -- Laws of parts of a buffer: a part of a buffer that had another part replaced.
 use Prim.Native.Nat.{ℕ, _+_, _*_, _-_, _≤_, _<_}
-use mathlib.Core.Path.{_≡_, sym, _∙_, ap}
-use mathlib.Core.List.{_++_}
-use native.Mathlib.Omega.{arith}
-use native.Mathlib.Decide.{decLt}
-use native.Mathlib.Nat.{mul-le-mul-right}
-use lib.ListN.{length, replicate, length-take, length-drop, length-replicate, replicate-append-replicate}
-use lib.Seq.{take-at, drop-at}
-use Rattle.spelling.specs.Over.{over}
-use Rattle.spelling.proofs.OverLaws.{part-before, part-after}
+use mathlib.Core.{Path.{_≡_, sym, _∙_, ap}, List._++_}
+use native.Mathlib.{Omega.arith, Decide.decLt, Nat.mul-le-mul-right}
+use lib.{ListN.{length, replicate, length-take, length-drop, length-replicate, replicate-append-replicate}, Seq.{take-at, drop-at}}
+use Rattle.spelling.{specs.Over.over, proofs.OverLaws.{part-before, part-after}}
 use Rattle.protocol.specs.Buffers.{Bytes, part}
 
 -- row i of w bytes ends by the start of row j

@@ -1,21 +1,15 @@
 -- Every step leaves a machine that fits if it got one: the line of its slot, the owner of its line and the bytes that it moves lie inside the
 -- sizes. So what 1 and 2 say of a machine need be found only once.
 use Prim.Native.Nat.{ℕ}
-use mathlib.Core.Path.{_≡_, refl, sym, _∙_}
-use mathlib.Core.Bool.{true, false}
+use mathlib.Core.{Path.{_≡_, refl, sym, _∙_}, Bool.{true, false}}
 use lib.ListN.{length}
 use borrow.Author.Tests.{lt-ltb, eq-eqb}
-use Rattle.protocol.specs.Pick.{first}
-use Rattle.protocol.specs.Buffers.{Bytes, Placed, givenFits}
-use Rattle.protocol.specs.About.{about}
-use Rattle.protocol.specs.Machine.{Machine, Pieces, coreOf, lineOf, applied}
+use Rattle.protocol.specs.{Pick.first, Buffers.{Bytes, Placed, givenFits}, About.about, Machine.{Machine, Pieces, coreOf, lineOf, applied}}
 use Rattle.protocol.specs.Refusals.{ownerFits, slotFits, ownersFit, slotsFit, stateFits, buffersFit, machineRefusal, wrongCount}
 use Rattle.protocol.specs.Tables.{loadOwned, storeTable, fenceTable, advanceTable, evictTable, serveAsked, serveLoad, receiveGrant}
-use Rattle.protocol.specs.Tables.{receiveRenew, yieldTable, takeTable}
-use Rattle.protocol.specs.Step.{step}
-use Rattle.protocol.specs.declared.{Core.Core, Line.Line, Opening.Opening, Call.Call, Effect.Effect}
-use Rattle.protocol.proofs.Scan.{every-set}
-use Rattle.protocol.proofs.Moves.{length-movedPrivate, length-movedShared}
+use Rattle.protocol.specs.{Tables.{receiveRenew, yieldTable, takeTable}, Step.step, declared.{Core.Core, Line.Line, Opening.Opening}}
+use Rattle.protocol.specs.declared.{Call.Call, Effect.Effect}
+use Rattle.protocol.proofs.{Scan.every-set, Moves.{length-movedPrivate, length-movedShared}}
 use Rattle.protocol.proofs.Refusals.{Fit, machine-fit, slot-inside, owner-inside, store-width, named, NotRefused}
 use Rattle.protocol.proofs.Cases.{Row, asks-load, reads-shared, reads-dirty, reads-clean, asks-store, writes, fences, advances, evicts-shared}
 use Rattle.protocol.proofs.Cases.{evicts-owned, recalls, renews, shares, grants, gets-share, gets-own, gets-renewal, drops-none, drops-owned}

@@ -1,18 +1,15 @@
 -- What a move makes of the lines of bytes in the two buffers: the line that it writes, and every other line.
 use Prim.Native.Nat.{ℕ, _+_, _*_, _≤_, _<_}
-use mathlib.Core.{Path._≡_, Path.refl, Bool.true}
+use mathlib.Core.{Path.{_≡_, refl}, Bool.true}
 use native.Mathlib.Omega.{arith}
 use lib.ListN.{length}
 use borrow.Author.Tests.{eqb-true}
-use Rattle.spelling.specs.Over.{over}
-use Rattle.spelling.proofs.OverLaws.{over-length, over-part}
-use Rattle.protocol.specs.Buffers.{Bytes, Placed, part, copyBytes, managerBytes, writebackBytes, answerBytes, givenFits, movedPrivate, movedShared}
-use Rattle.protocol.specs.declared.{Opening.Opening, Move.Move}
-use Rattle.protocol.specs.declared.Move.the-variants.{Still, Store as MoveStore, Answer as MoveAnswer, Receive as MoveReceive}
-use Rattle.protocol.specs.declared.Move.the-variants.{Writeback as MoveWriteback, Take as MoveTake}
-use Rattle.protocol.specs.Machine.{Machine}
-use Rattle.protocol.proofs.Refusals.{Fit}
-use Rattle.protocol.proofs.Bytes.{row-le, row-other, length-part, grid-row, grid-column}
+use Rattle.spelling.{specs.Over.over, proofs.OverLaws.{over-length, over-part}}
+use Rattle.protocol.specs.Buffers.{Bytes, Placed, part, copyBytes, managerBytes, writebackBytes, answerBytes, givenFits, movedPrivate}
+use Rattle.protocol.specs.{Buffers.movedShared, declared.Opening.Opening}
+use Rattle.protocol.specs.declared.Move.{Move, the-variants.{Still, Store as MoveStore, Answer as MoveAnswer, Receive as MoveReceive}}
+use Rattle.protocol.specs.{declared.Move.the-variants.{Writeback as MoveWriteback, Take as MoveTake}, Machine.Machine}
+use Rattle.protocol.proofs.{Refusals.Fit, Bytes.{row-le, row-other, length-part, grid-row, grid-column}}
 
 -- the move leaves the answer to the core
 abbrev pub AnswerStays : Move → Type 0

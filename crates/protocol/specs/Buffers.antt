@@ -1,13 +1,10 @@
 -- The two lent buffers: where each line of bytes lies, and what a move of one line makes of them.
 use Prim.Native.Nat.{ℕ, _+_, _*_, _≤_, _<_}
-use mathlib.Core.{Bool.Bool, Bool.true, List.List}
-use lib.Dec.{eqb}
-use lib.ListN.{take, drop}
+use mathlib.Core.{Bool.{Bool, true}, List.List}
+use lib.{Dec.eqb, ListN.{take, drop}}
 use Rattle.spelling.specs.Over.{over}
-use Rattle.protocol.specs.Limits.{mostCores, mostLines, mostWidth}
-use Rattle.protocol.specs.declared.Opening.{Opening}
-use Rattle.protocol.specs.declared.Move.{Move}
-use Rattle.protocol.specs.declared.Move.the-variants.{Still, Store, Answer, Receive, Writeback, Take}
+use Rattle.protocol.specs.{Limits.{mostCores, mostLines, mostWidth}, declared.Opening.Opening}
+use Rattle.protocol.specs.declared.Move.{Move, the-variants.{Still, Store, Answer, Receive, Writeback, Take}}
 
 abbrev pub Bytes : Type 0
 Bytes = List ℕ

@@ -1,18 +1,14 @@
 -- Laws of text written over a part of a buffer. Assumes nothing.
 use Prim.Native.Nat.{ℕ, zero, suc, _+_, _*_, _/_, _%_, _≤_, _<_, _-_}
-use mathlib.Core.{Path._≡_, Path.refl, Path.sym, Path._∙_, Path.ap, Path.ap₂, Bool.Bool, Bool.true, Bool.false, Bool.cond, Bool.not}
-use mathlib.Core.List.{List, [], _∷_, _++_, append-assoc, append-nil}
+use mathlib.Core.{Path.{_≡_, refl, sym, _∙_, ap, ap₂}, Bool.{Bool, true, false, cond, not}, List.{List, [], _∷_, _++_, append-assoc, append-nil}}
 use native.Mathlib.{Omega.arith, Nat.add-zero, Numerals.add-one}
 use lib.ListN.{length, getD, take, drop, set, length-append, length-take, length-drop, take-append-drop}
-use lib.Seq.{drop-cons, set-at, take-at, drop-at, take-suc, length-take-le, take-append-le, drop-append-le, take-append-seam, drop-append-add, drop-drop}
-use lib.Dec.{ltb, leb}
-use Rattle.spelling.specs.{Over.fits, Over.over, Over.twentyBefore, Over.PutAt, Over.PutBefore, Decimal.decimal, Decimal.decimalUpTo}
-use Rattle.spelling.specs.declared.Put.{Put}
-use Rattle.spelling.specs.declared.Put.the-variants.{End, Short}
+use lib.Seq.{drop-cons, set-at, take-at, drop-at, take-suc, length-take-le, take-append-le, drop-append-le, take-append-seam, drop-append-add}
+use lib.{Seq.drop-drop, Dec.{ltb, leb}}
+use Rattle.spelling.specs.{Over.{fits, over, twentyBefore, PutAt, PutBefore}, Decimal.{decimal, decimalUpTo}}
+use Rattle.spelling.specs.{declared.Put.{Put, the-variants.{End, Short}}, Hex.{hex, digit}}
 use borrow.Author.Tests.{le-leb, lt-leb, leb-true, leb-false, not-true, not-false}
-use Rattle.spelling.specs.Hex.{hex, digit}
-use Rattle.spelling.proofs.DecimalLaws.{widest, decimal-more, decimal-digit, decimal-nonempty}
-use Rattle.spelling.proofs.HexLaws.{hex-length}
+use Rattle.spelling.proofs.{DecimalLaws.{widest, decimal-more, decimal-digit, decimal-nonempty}, HexLaws.hex-length}
 
 pub over-none : (old : List ℕ) (at : ℕ) → old ≡ over old at []
 over-none old at = sym (take-append-drop at old) ∙ ap (λ (k : ℕ). take at old ++ drop k old) (sym (add-zero at))

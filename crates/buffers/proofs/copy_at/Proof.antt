@@ -14,8 +14,5 @@ add-result c = let m = row-most (c .pre) in omega arith
 mul-result-2 : tie.Need-mul-result-2
 mul-result-2 c = let m = copy-most (c .pre) in omega arith
 
-returns : tie.Need-returns
-returns c = search needs
-
 pub copy-at-spec : {M : Type 1} → statement M
-copy-at-spec = tie.close (tie.spec mul-result add-result mul-result-2 returns)
+copy-at-spec = tie.close (tie.spec mul-result add-result mul-result-2 (λ c. search needs))

@@ -8,8 +8,5 @@ use Rattle.buffers.proofs.manager_at.Tie as tie
 mul-result : tie.Need-mul-result
 mul-result c = let m = manager-most (c .pre) in omega arith
 
-returns : tie.Need-returns
-returns c = search needs
-
 pub manager-at-spec : {M : Type 1} → statement M
-manager-at-spec = tie.close (tie.spec mul-result returns)
+manager-at-spec = tie.close (tie.spec mul-result (λ c. search needs))

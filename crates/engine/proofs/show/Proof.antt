@@ -2,10 +2,8 @@
 use mathlib.Core.Path.{sym, _∙_}
 use native.Mathlib.Omega.{arith}
 use borrow.Author.Needs.{needs}
-use Rattle.protocol.specs.Buffers.{Placed}
-use Rattle.protocol.proofs.Places.{indices}
-use Rattle.engine.proofs.Showing.{there, shows-nothing, shows-copy, shows-manager}
-use Rattle.engine.proofs.show.Statement.{statement}
+use Rattle.protocol.{specs.Buffers.Placed, proofs.Places.indices}
+use Rattle.engine.proofs.{Showing.{there, shows-nothing, shows-copy, shows-manager}, show.Statement.statement}
 use Rattle.engine.proofs.show.Tie as tie
 
 -- what `show` is given; `t1` is its state

@@ -2,10 +2,9 @@
 use Prim.Native.Nat.{ℕ}
 use mathlib.Core.Path.{subst₂}
 use native.Mathlib.Omega.{arith}
-use Rattle.grammar.specs.{Line.tooLong, Line.noForm, Table.rowsOf, Scan.fromOf, Scan.toOf, Scan.FoundIn}
-use Rattle.grammar.proofs.Judge.{answer-line, placed, ranged, row-in, no-row}
+use Rattle.grammar.specs.{Line.{tooLong, noForm}, Table.rowsOf, Scan.{fromOf, toOf, FoundIn}}
+use Rattle.grammar.proofs.{Judge.{answer-line, placed, ranged, row-in, no-row}, read_line.Statement.statement}
 use borrow.Author.Needs.{needs}
-use Rattle.grammar.proofs.read_line.Statement.{statement}
 use Rattle.grammar.proofs.read_line.Tie as tie
 
 beyond : tie.Need-returns-2

@@ -1,12 +1,11 @@
 -- `spelling::decode` meets its contract. The invariant: the buffer starts with the first bytes that the data spell. Assumes nothing.
 use Prim.Native.Nat.{ℕ, _≤_, _+_, _*_, _/_, _-_, _<_}
-use mathlib.Core.{Path._≡_, Path.refl, Path._∙_, Path.ap, Path.subst, List.List}
+use mathlib.Core.{Path.{_≡_, refl, _∙_, ap, subst}, List.List}
 use native.Mathlib.Omega.{arith}
-use borrow.Author.{Needs.needs, Tests.not-true, Tests.not-false}
-use lib.{ListN.length, ListN.take, ListN.getD, ListN.length-set, Seq.take-all}
-use Rattle.spelling.specs.{Over.over, Hex.Spells, Hex.IsData, Hex.DataTest, Over.IsNibble, Over.decoded, Over.noRoom, Over.noData}
-use Rattle.spelling.proofs.{HexLaws.spells-length, HexLaws.spells-at, OverLaws.over-none, DecodeLaws.data-more}
-use Rattle.spelling.proofs.decode.Statement.{statement}
+use borrow.Author.{Needs.needs, Tests.{not-true, not-false}}
+use lib.{ListN.{length, take, getD, length-set}, Seq.take-all}
+use Rattle.spelling.specs.{Over.{over, IsNibble, decoded, noRoom, noData}, Hex.{Spells, IsData, DataTest}}
+use Rattle.spelling.proofs.{HexLaws.{spells-length, spells-at}, OverLaws.over-none, DecodeLaws.data-more, decode.Statement.statement}
 use Rattle.spelling.proofs.decode.Tie as tie
 
 abbrev Inv-loop : tie.InvT-loop

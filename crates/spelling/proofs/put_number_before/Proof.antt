@@ -33,9 +33,6 @@ sub-k-2 c = let r = digits-room _ _ _ _ _ _ (c .before .loop .inv) in omega arit
 slice-write-out-2 : tie.Need-slice-write-out-2 Inv-loop μ-loop
 slice-write-out-2 c = let r = digits-room _ _ _ _ _ _ (c .before .loop .inv) in omega (arith, c .before .loop .inv .within)
 
-same-length : tie.Need-same-length Inv-loop μ-loop
-same-length c = simp length-set (digits-room _ _ _ _ _ _ (c .before .loop .inv) .2)
-
 pub put-number-before-spec : {M : Type 1} → statement M
 put-number-before-spec =
     tie.close
@@ -52,5 +49,5 @@ put-number-before-spec =
     sub-k-2
     (λ c. omega arith) (λ c. omega arith)
     slice-write-out-2
-    same-length
+    (λ c. simp length-set (digits-room _ _ _ _ _ _ (c .before .loop .inv) .2))
     (λ c. digits-last _ _ _ _ _ _ (c .before .loop .inv) (omega arith)))

@@ -16,15 +16,6 @@ Inv-loop s first v₀ i₀ v i = (1 ≤ i) × (i ≤ length s) × (v ≤ 4294967
 abbrev μ-loop : tie.MeasureT-loop
 μ-loop s first v₀ i₀ v i = length s - i
 
-returns : tie.Need-returns Inv-loop μ-loop
-returns c (n, h, e) = not-empty _ n h e (omega arith)
-
-returns-2 : tie.Need-returns-2 Inv-loop μ-loop
-returns-2 c (n, h, e) = omega (arith, not-digit _ 0 n h e (omega arith))
-
-returns-3 : tie.Need-returns-3 Inv-loop μ-loop
-returns-3 c (n, h, e) = omega (arith, not-digit _ 0 n h e (omega arith))
-
 loop-holds : tie.Need-loop-holds Inv-loop μ-loop
 loop-holds c =
     let d = first-digit (c .before .before .before .before .before .before .args .s .now) (omega arith) (omega arith, omega arith) in
@@ -58,10 +49,10 @@ read-number-spec =
     (tie.spec
     Inv-loop
     μ-loop
-    returns
+    (λ c (n, h, e). not-empty _ n h e (omega arith))
     (λ c. omega arith)
-    returns-2
-    returns-3
+    (λ c (n, h, e). omega (arith, not-digit _ 0 n h e (omega arith)))
+    (λ c (n, h, e). omega (arith, not-digit _ 0 n h e (omega arith)))
     (λ c κs. search needs)
     loop-holds
     (λ c. omega arith)

@@ -1,9 +1,8 @@
 -- The part of the source is put into its place.
 use mathlib.Core.Path.{ap, _∙_}
 use Rattle.spelling.specs.Over.{over}
-use Rattle.buffers.proofs.Laws.{part-to}
+use Rattle.buffers.proofs.{Laws.part-to, lines.move_line.Statement.statement}
 use borrow.Author.Needs.{needs}
-use Rattle.buffers.proofs.lines.move_line.Statement.{statement}
 use Rattle.buffers.proofs.lines.move_line.Tie as tie
 
 pub move-line-spec : {M : Type 1} → statement M

@@ -5,9 +5,6 @@ use borrow.Author.Needs.{needs}
 use Rattle.buffers.proofs.lines.put_line.Statement.{statement}
 use Rattle.buffers.proofs.lines.put_line.Tie as tie
 
-returns : tie.Need-returns
-returns c = rw (add-sub-cancel-left, drop-drop, c .before .before .copy-line .ensures)
-
 pub put-line-spec : {M : Type 1} → statement M
 put-line-spec =
     tie.close
@@ -18,4 +15,4 @@ put-line-spec =
     (λ c. search needs)
     (λ c κs. search needs)
     (λ c. search needs)
-    returns)
+    (λ c. rw (add-sub-cancel-left, drop-drop, c .before .before .copy-line .ensures)))

@@ -1,16 +1,12 @@
 -- The line of its own holds the part of the buffer, and is put into its place.
 use Prim.Native.Nat.{_-_}
 use mathlib.Core.Path.{_≡_, ap, sym, _∙_}
-use native.Mathlib.Omega.{arith}
-use native.Mathlib.Nat.{sub-zero}
-use lib.ListN.{length, length-append}
-use lib.Seq.{take-at}
+use native.Mathlib.{Omega.arith, Nat.sub-zero}
+use lib.{ListN.{length, length-append}, Seq.take-at}
 use Rattle.spelling.specs.Over.{over}
-use Rattle.protocol.specs.Buffers.{part}
-use Rattle.protocol.proofs.Bytes.{length-part}
-use Rattle.buffers.proofs.Laws.{part-to}
+use Rattle.protocol.{specs.Buffers.part, proofs.Bytes.length-part}
+use Rattle.buffers.proofs.{Laws.part-to, lines.shift_line.Statement.statement}
 use borrow.Author.Needs.{needs}
-use Rattle.buffers.proofs.lines.shift_line.Statement.{statement}
 use Rattle.buffers.proofs.lines.shift_line.Tie as tie
 
 -- the copy made the line of its own the part
