@@ -5,8 +5,5 @@ use Rattle.protocol.proofs.Places.{answer-most}
 use Rattle.buffers.proofs.answer_at.Statement.{statement}
 use Rattle.buffers.proofs.answer_at.Tie as tie
 
-mul-result-2 : tie.Need-mul-result-2
-mul-result-2 c = let m = answer-most (c .pre) in omega arith
-
 pub answer-at-spec : {M : Type 1} → statement M
-answer-at-spec = tie.close (tie.spec (λ c. search needs) (λ c. search needs) mul-result-2 (λ c. search needs))
+answer-at-spec = tie.close (tie.spec (λ c. search needs) (λ c. search needs) (λ c. let m = answer-most (c .pre) in omega arith) (λ c. search needs))

@@ -4,8 +4,5 @@ use Rattle.protocol.proofs.Tests.{was-false, was-true}
 use Rattle.buffers.proofs.{Laws.place-placed, copy_start.Statement.statement}
 use Rattle.buffers.proofs.copy_start.Tie as tie
 
-returns-2 : tie.Need-returns-2
-returns-2 c = rw (was-true (c .before .before .place-fits .ensures) (c .before .if1 .left)) (c .copy-at .ensures)
-
 pub copy-start-spec : {M : Type 1} → statement M
-copy-start-spec = tie.close (tie.spec (λ c κs. search needs) (λ c. rw (was-false (c .before .place-fits .ensures) (c .if1 .taken))) (λ c κs. place-placed _ _ _ (was-true (c .before .place-fits .ensures) (c .if1 .left))) returns-2)
+copy-start-spec = tie.close (tie.spec (λ c κs. search needs) (λ c. rw (was-false (c .before .place-fits .ensures) (c .if1 .taken))) (λ c κs. place-placed _ _ _ (was-true (c .before .place-fits .ensures) (c .if1 .left))) (λ c. rw (was-true (c .before .before .place-fits .ensures) (c .before .if1 .left)) (c .copy-at .ensures)))

@@ -5,8 +5,5 @@ use Rattle.protocol.proofs.Places.{writeback-most}
 use Rattle.buffers.proofs.writeback_at.Statement.{statement}
 use Rattle.buffers.proofs.writeback_at.Tie as tie
 
-mul-result : tie.Need-mul-result
-mul-result c = let m = writeback-most (c .pre) in omega arith
-
 pub writeback-at-spec : {M : Type 1} → statement M
-writeback-at-spec = tie.close (tie.spec (λ c. search needs) mul-result (λ c. search needs))
+writeback-at-spec = tie.close (tie.spec (λ c. search needs) (λ c. let m = writeback-most (c .pre) in omega arith) (λ c. search needs))

@@ -7,9 +7,6 @@ use Rattle.grammar.proofs.{Judge.{answer-line, placed, ranged, row-in, 
 use borrow.Author.Needs.{needs}
 use Rattle.grammar.proofs.read_line.Tie as tie
 
-beyond : tie.Need-returns-2
-beyond c = let a = c .before .before .before .args in noForm (omega arith) (no-row (a .form) (a .line .now) (omega arith))
-
 in-table : tie.Need-find-requires
 in-table c κs =
     let r = ranged (c .before .before .before .before .before .args .form) in
@@ -29,4 +26,4 @@ answered c =
     (subst₂ (λ (m n : ℕ). FoundIn (a .line .now) m n (c .before .find .result)) (c .before .before .before .from-row .ensures) (c .before .before .to-row .ensures) (c .before .find .ensures)))
 
 pub read-line-spec : {M : Type 1} → statement M
-read-line-spec = tie.close (tie.spec (λ c. tooLong (c .if1 .taken)) beyond (λ c κs. search needs) (λ c κs. search needs) in-table is-placed answered)
+read-line-spec = tie.close (tie.spec (λ c. tooLong (c .if1 .taken)) (λ c. let a = c .before .before .before .args in noForm (omega arith) (no-row (a .form) (a .line .now) (omega arith))) (λ c κs. search needs) (λ c κs. search needs) in-table is-placed answered)

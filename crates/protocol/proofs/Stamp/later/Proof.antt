@@ -5,11 +5,5 @@ use borrow.Author.{Needs.needs, Tests.{ltb-true, ltb-false}}
 use Rattle.protocol.proofs.Stamp.later.Statement.{statement}
 use Rattle.protocol.proofs.Stamp.later.Tie as tie
 
-returns : tie.Need-returns
-returns c = rw (max-eq-right (le-of-lt (ltb-true _ _ (sym (c .before .earlier .ensures) ∙ c .if1 .taken))))
-
-returns-2 : tie.Need-returns-2
-returns-2 c = rw (max-eq-left (ltb-false _ _ (sym (c .before .earlier .ensures) ∙ c .if1 .left)))
-
 pub later-spec : {M : Type 1} → statement M
-later-spec = tie.close (tie.spec (λ c κs. search needs) returns returns-2)
+later-spec = tie.close (tie.spec (λ c κs. search needs) (λ c. rw (max-eq-right (le-of-lt (ltb-true _ _ (sym (c .before .earlier .ensures) ∙ c .if1 .taken))))) (λ c. rw (max-eq-left (ltb-false _ _ (sym (c .before .earlier .ensures) ∙ c .if1 .left)))))

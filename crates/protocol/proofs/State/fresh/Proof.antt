@@ -3,8 +3,5 @@ use borrow.Author.Needs.{needs}
 use Rattle.protocol.proofs.State.fresh.Statement.{statement}
 use Rattle.protocol.proofs.State.fresh.Tie as tie
 
-returns : tie.Need-returns
-returns c = rw (c .fresh3 .ensures, c .before .fresh2 .ensures, c .before .before .fresh .ensures)
-
 pub fresh-spec : {M : Type 1} → statement M
-fresh-spec = tie.close (tie.spec (λ c κs. search needs) (λ c κs. search needs) (λ c κs. search needs) returns)
+fresh-spec = tie.close (tie.spec (λ c κs. search needs) (λ c κs. search needs) (λ c κs. search needs) (λ c. rw (c .fresh3 .ensures, c .before .fresh2 .ensures, c .before .before .fresh .ensures)))
