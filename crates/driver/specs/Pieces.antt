@@ -7,7 +7,7 @@ use Rattle.protocol.specs.declared.{Opening.Opening as Sizes, State.State, Call
 use Rattle.protocol.specs.declared.{Act.{Act, the-variants.{Load, Store, Fence, Advance, Transfer}}, Answer.Answer, Counts.Counts}
 use Rattle.spelling.specs.{declared.Put.{Put, the-variants.{End as PutEnd, Short}}, Over.PutAt}
 use Rattle.journal.specs.{Journal.NextOf, declared.Next.the-variants.Step as StepLine}
-use Rattle.buffers.specs.Moves.{placeFits}
+use Rattle.buffers.specs.Moves.{isThere}
 use Rattle.listing.specs.Record.{recordText}
 use Rattle.tables.specs.{Spans.spanOf, declared.Span.Span}
 use Rattle.driver.specs.{Listing.{Ending, ended, stopped, Data, EndsAt}, Play.{firstCheckpoint, unopened}, declared.Checkpoint.Checkpoint}
@@ -66,7 +66,7 @@ isStore Transfer = false
 
 -- where the bytes beside an answer lie in the private buffer, those of a store's commit apart
 abbrev pub shownAt : Answer → Sizes → ℕ → ℕ → Span
-shownAt a o c l = spanOf a (pick (placeFits o c l) (copyStart o c l) 0) (o .width)
+shownAt a o c l = spanOf a (pick (isThere o c l) (copyStart o c l) 0) (o .width)
 
 abbrev pub shown : Answer → Sizes → Bytes → ℕ → ℕ → Bytes
 shown a o p c l = part p (shownAt a o c l .start) (shownAt a o c l .count)
