@@ -1,6 +1,6 @@
 -- A move whose places and lengths fit: each place lies in its buffer, and the buffers after it are those of the definition.
 use Prim.Native.Nat.{ℕ, _+_, _≤_}
-use mathlib.Core.Path.{_≡_, _∙_}
+use mathlib.Core.Path.{_≡_}
 use mathlib.Core.Bool.{true}
 use lib.Dec.{eqb}
 use lib.ListN.{length}
@@ -10,7 +10,7 @@ use Rattle.protocol.specs.Buffers.{Bytes, privateLength, sharedLength, copyStar
 use Rattle.protocol.specs.Refusals.{buffersFit}
 use Rattle.protocol.specs.declared.Opening.{Opening}
 use Rattle.protocol.specs.declared.Move.{Move}
-use Rattle.protocol.specs.declared.Move.the-variants.{Still, Store, Answer, Receive, Writeback, Take}
+use Rattle.protocol.specs.declared.Move.the-variants.{Store}
 use Rattle.refusals.specs.Input.{lengthsFit}
 use Rattle.buffers.specs.Moves.{placeFits, moveFits, Moves}
 use Rattle.protocol.proofs.Tests.{both-true}

@@ -1,4 +1,4 @@
--- Laws of text written over a part of a buffer. Assumes nothing.
+-- Laws of bytes laid over a part of a buffer. Assumes nothing.
 use Prim.Native.Nat.{ℕ, zero, suc, _+_, _*_, _/_, _%_, _≤_, _<_, _-_}
 use mathlib.Core.{Path._≡_, Path.refl, Path.sym, Path._∙_, Path.ap, Path.ap₂, Bool.Bool, Bool.true, Bool.false, Bool.cond, Bool.not}
 use mathlib.Core.List.{List, [], _∷_, _++_, append-assoc, append-nil}
