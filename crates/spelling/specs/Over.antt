@@ -1,4 +1,4 @@
--- Text laid over a part of a buffer that a caller lent. Assumes nothing.
+-- Bytes laid over a part of a buffer that a caller lent: a text, or a line's bytes. Assumes nothing.
 use Prim.Native.Nat.{ℕ, _+_, _-_, _≤_, _<_}
 use mathlib.Core.{Path._≡_, Bool.{Bool, false, cond}, List.{List, _++_}}
 use lib.{Dec.leb, ListN.{length, take, drop}}
@@ -9,7 +9,7 @@ use Rattle.spelling.specs.declared.Decoded.{Decoded, the-variants.{Bytes
 abbrev pub hasRoom : ℕ → ℕ → ℕ → Bool
 hasRoom size at n = leb (at + n) size
 
--- the buffer with the text t at a place, and all else as it was
+-- the buffer with the bytes t at a place, and all else as it was: what a text that is put and a line that moves leave
 abbrev pub over : List ℕ → ℕ → List ℕ → List ℕ
 over old at t = take at old ++ (t ++ drop (at + length t) old)
 
