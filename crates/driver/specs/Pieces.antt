@@ -13,7 +13,7 @@ use Rattle.buffers.specs.Moves.{placeFits}
 use Rattle.listing.specs.Record.{recordText}
 use Rattle.tables.specs.{Spans.spanOf, declared.Span.Span}
 use Rattle.driver.specs.{Listing.Ending, Listing.ended, Listing.stopped, Listing.Data, Listing.EndsAt, Play.firstCheckpoint, Play.unopened}
-use Rattle.driver.specs.declared.{Checkpoint.Checkpoint, Played.Played, Last.Last, Due.Due}
+use Rattle.driver.specs.declared.{Checkpoint.Checkpoint, Progress.Progress, Played.Played, Last.Last, Due.Due}
 use Rattle.driver.specs.declared.Progress.the-variants.{Finished, More, Short as TooShort}
 use Rattle.driver.specs.declared.Last.the-variants.{End, Refused}
 use Rattle.driver.specs.declared.Due.the-variants.{Step, Last as AtLast}
@@ -90,9 +90,16 @@ abbrev pub checkpointAt : ℕ → ℕ → Counts → State → Checkpoint
 checkpointAt at form k s = record { at = at; form = form; counts = k; state = s }
 
 -- the next piece was put, or had no room
+abbrev pub progressBy : Put → Progress
+progressBy (PutEnd e) = Finished
+progressBy Short = More
+
+abbrev pub writtenBy : Put → ℕ → ℕ
+writtenBy (PutEnd e) used = e
+writtenBy Short used = used
+
 abbrev pub playedBy : Put → ℕ → Checkpoint → Played
-playedBy (PutEnd e) used s = record { progress = Finished; written = e; checkpoint = s }
-playedBy Short used s = record { progress = More; written = used; checkpoint = s }
+playedBy put used s = record { progress = progressBy put; written = writtenBy put used; checkpoint = s }
 
 -- the text t was put at the start of the output, or had no room there, and r says how far the call came
 pub record Puts (t : Bytes) (by : Put → Played) (old new : Bytes) (r : Played) : Type 0 where

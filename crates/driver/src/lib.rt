@@ -138,9 +138,7 @@ pub fn play(
     let mut s = from.state;
     let mut used: usize = 0;
     let opening = s.opening;
-    let cores = s.core;
-    let lines = s.line;
-    let base = refusals::machine_refusal(opening, cores, lines, private.len(), shared.len());
+    let base = one_line::base_of(s, private.len(), shared.len());
     loop {
         let mut bytes = [0u8; 128];
         match one_line::due(journal, at, form, base, opening, &mut bytes) {
@@ -172,11 +170,10 @@ pub fn play(
                 let d = tables::effect(number, call, k, copy, line, opening);
                 let answer = d.answer;
                 let met = one_line::met(counts, call, answer);
-                let place = met.steps;
                 match one_line::put_answer(
                     out,
                     used,
-                    place,
+                    met,
                     act,
                     answer,
                     &bytes[0..count],
