@@ -1,16 +1,10 @@
 -- Laws for the proofs here and for callers: a part by its end, places that fit.
 use Prim.Native.Nat.{ℕ, _+_, _-_}
-use mathlib.Core.Path.{_≡_}
-use mathlib.Core.Bool.{true}
+use mathlib.Core.{Path._≡_, Bool.true}
 use native.Mathlib.Nat.{add-sub-cancel-left}
-use lib.Dec.{ltb}
-use lib.ListN.{take, drop}
+use lib.{Dec.ltb, ListN.{take, drop}}
 use borrow.Author.Tests.{lt-ltb, ltb-true}
-use Rattle.protocol.specs.Pick.{pick}
-use Rattle.protocol.specs.Limits.{openingFits}
-use Rattle.protocol.specs.Buffers.{Bytes, part, Placed}
-use Rattle.protocol.specs.declared.Opening.{Opening}
-use Rattle.protocol.proofs.Tests.{both-true}
+use Rattle.protocol.{specs.{Pick.pick, Limits.openingFits, Buffers.{Bytes, part, Placed}, declared.Opening.Opening}, proofs.Tests.both-true}
 use Rattle.protocol.proofs.Places.{inside, placed-at}
 use Rattle.buffers.specs.Moves.{placeFits}
 

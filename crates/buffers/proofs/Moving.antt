@@ -1,21 +1,14 @@
 -- A move whose places and lengths fit: each place lies in its buffer, and the buffers after it are those of the definition.
 use Prim.Native.Nat.{ℕ, _+_, _≤_}
-use mathlib.Core.Path.{_≡_, _∙_}
-use mathlib.Core.Bool.{true}
-use lib.Dec.{eqb}
-use lib.ListN.{length}
+use mathlib.Core.{Path._≡_, Bool.true}
+use lib.{Dec.eqb, ListN.length}
 use borrow.Author.Tests.{eqb-true}
 use Rattle.protocol.specs.Limits.{openingFits}
-use Rattle.protocol.specs.Buffers.{Bytes, privateLength, sharedLength, copyStart, managerStart, writebackStart, answerStart, Placed, movedPrivate, movedShared}
-use Rattle.protocol.specs.Refusals.{buffersFit}
-use Rattle.protocol.specs.declared.Opening.{Opening}
-use Rattle.protocol.specs.declared.Move.{Move}
-use Rattle.protocol.specs.declared.Move.the-variants.{Still, Store, Answer, Receive, Writeback, Take}
+use Rattle.protocol.specs.Buffers.{Bytes, privateLength, sharedLength, copyStart, managerStart, writebackStart, answerStart, Placed, givenFits}
+use Rattle.protocol.specs.{Buffers.{movedPrivate, movedShared}, Refusals.buffersFit, declared.{Opening.Opening, Move.{Move, the-variants.Store}}}
+use Rattle.protocol.proofs.{Tests.both-true, Places.{copy-ends, manager-ends, writeback-ends, answer-ends}}
 use Rattle.refusals.specs.Input.{lengthsFit}
-use Rattle.buffers.specs.Moves.{placeFits}
-use Rattle.buffers.specs.Moves.{givenFits, moveFits, Moves}
-use Rattle.protocol.proofs.Tests.{both-true}
-use Rattle.protocol.proofs.Places.{copy-ends, manager-ends, writeback-ends, answer-ends}
+use Rattle.buffers.specs.Moves.{placeFits, moveFits, Moves}
 use Rattle.buffers.proofs.Laws.{place-placed}
 
 -- lengths np, nq and n of the buffers and of a store's bytes that fit

@@ -1,27 +1,15 @@
 -- Moving one line of bytes between its places, for every opening, core, line and buffer.
 use Prim.Native.Nat.{ℕ}
-use mathlib.Core.Path.{_≡_}
-use mathlib.Core.Bool.{Bool, true}
-use lib.Dec.{ltb, eqb}
-use lib.ListN.{length}
+use mathlib.Core.{Path._≡_, Bool.Bool}
+use lib.{Dec.ltb, ListN.length}
 use denote.Ref.{RefT, now}
-use Rattle.protocol.specs.{Pick.pick, Pick.both, Limits.openingFits, Buffers.Bytes, Buffers.movedPrivate, Buffers.movedShared}
-use Rattle.protocol.specs.declared.{Opening.Opening, Move.Move}
-use Rattle.protocol.specs.declared.Move.the-variants.{Still, Store, Answer, Receive, Writeback, Take}
+use Rattle.protocol.specs.{Pick.{pick, both}, Limits.openingFits, Buffers.{Bytes, givenFits, movedPrivate, movedShared}, declared.Opening.Opening}
+use Rattle.protocol.specs.declared.Move.{Move}
 use Rattle.refusals.specs.Input.{lengthsFit}
 
 -- the opening lies inside the limits, and core c and line l are there
 abbrev pub placeFits : Opening → ℕ → ℕ → Bool
 placeFits o c l = both (openingFits o) (both (ltb c (o .cores)) (ltb l (o .lines)))
-
--- n bytes are one line's, if the move is a store's; no other move looks at them
-abbrev pub givenFits : Move → ℕ → ℕ → Bool
-givenFits Still width n = true
-givenFits Store width n = eqb n width
-givenFits Answer width n = true
-givenFits Receive width n = true
-givenFits Writeback width n = true
-givenFits Take width n = true
 
 -- the places and lengths of a move fit: the core and the line are there, both buffers have their exact lengths, and a store's bytes are one
 -- line's

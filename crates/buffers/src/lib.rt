@@ -5,9 +5,8 @@
 mod lines;
 
 ghost use mathlib.Core.Path.{_≡_};
-ghost use Rattle.protocol.specs.Pick.{pick};
-ghost use Rattle.protocol.specs.Buffers.{copyStart, managerStart, writebackStart, answerStart, Placed};
-ghost use Rattle.buffers.specs.Moves.{placeFits, givenFits, moveFits, Moved};
+ghost use Rattle.protocol.specs.{Pick.pick, Buffers.{copyStart, managerStart, writebackStart, answerStart, Placed, givenFits}};
+ghost use Rattle.buffers.specs.Moves.{placeFits, moveFits, Moved};
 use protocol::Move;
 use protocol::Opening;
 

@@ -6,7 +6,8 @@
 ghost use mathlib.Core.Path.{_≡_};
 ghost use Prim.Native.Nat.{_+_, _≤_};
 ghost use lib.ListN.{length, replicate};
-ghost use Rattle.protocol.specs.{Limits.mostWidth, Buffers.part, Buffers.splice};
+ghost use Rattle.spelling.specs.Over.{over};
+ghost use Rattle.protocol.specs.{Limits.mostWidth, Buffers.part};
 use protocol::Opening;
 
 // Copies src over dst, which is as long.
@@ -24,7 +25,7 @@ fn copy_line(dst: &mut [u8], src: &[u8])
 // Writes src over the bytes of buf from `at`.
 pub(crate) fn put_line(buf: &mut [u8], at: usize, src: &[u8])
     requires { ⌜ at + length (now src) ≤ length (now buf) ⌝ }
-    ensures { λ _. ⌜ now (buf .exit) ≡ splice (now (buf .entry)) at (now (src .entry)) ⌝ }
+    ensures { λ _. ⌜ now (buf .exit) ≡ over (now (buf .entry)) at (now (src .entry)) ⌝ }
 {
     let e = at + src.len();
     copy_line(&mut buf[at..e], src);
@@ -33,7 +34,7 @@ pub(crate) fn put_line(buf: &mut [u8], at: usize, src: &[u8])
 // Copies the n bytes of src from `from` over those of dst from `at`.
 pub(crate) fn move_line(dst: &mut [u8], at: usize, src: &[u8], from: usize, n: usize)
     requires { ⌜ (from + n ≤ length (now src)) × (at + n ≤ length (now dst)) ⌝ }
-    ensures { λ _. ⌜ now (dst .exit) ≡ splice (now (dst .entry)) at (part (now (src .entry)) from n) ⌝ }
+    ensures { λ _. ⌜ now (dst .exit) ≡ over (now (dst .entry)) at (part (now (src .entry)) from n) ⌝ }
 {
     let e = from + n;
     put_line(dst, at, &src[from..e]);
@@ -42,7 +43,7 @@ pub(crate) fn move_line(dst: &mut [u8], at: usize, src: &[u8], from: usize, n: u
 // Copies the n bytes of buf from `from` over those from `to`, by way of a line of its own.
 pub(crate) fn shift_line(buf: &mut [u8], to: usize, from: usize, n: usize)
     requires { ⌜ (n ≤ mostWidth) × (from + n ≤ length (now buf)) × (to + n ≤ length (now buf)) ⌝ }
-    ensures { λ _. ⌜ now (buf .exit) ≡ splice (now (buf .entry)) to (part (now (buf .entry)) from n) ⌝ }
+    ensures { λ _. ⌜ now (buf .exit) ≡ over (now (buf .entry)) to (part (now (buf .entry)) from n) ⌝ }
 {
     let mut line = blank();
     let e = from + n;

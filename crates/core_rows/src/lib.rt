@@ -5,10 +5,7 @@
 // as they are.
 ghost use Prim.Native.Nat.{ℕ};
 ghost use mathlib.Core.Path.{_≡_};
-ghost use Rattle.protocol.specs.Pick.{pick, fails};
-ghost use Rattle.protocol.specs.Refusals.{isEmpty};
-ghost use Rattle.protocol.specs.Machine.{pieces};
-ghost use Rattle.protocol.specs.Tables.{heldOf, asking, refusedRow, effectOf};
+ghost use Rattle.protocol.specs.{Pick.{pick, fails}, Refusals.isEmpty, Machine.pieces, Tables.{heldOf, asking, refusedRow, effectOf}};
 use protocol::Answer;
 use protocol::Call;
 use protocol::Copy;

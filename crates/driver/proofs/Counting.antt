@@ -1,18 +1,11 @@
 -- The counts of a run: the counts of its records one after the other, and how great they can be.
 use Prim.Native.Nat.{ℕ, _+_, _≤_}
-use mathlib.Core.Path.{_≡_, refl, sym, _∙_, ap}
-use mathlib.Core.Bool.{true}
-use mathlib.Core.List.{List, [], _∷_, _++_}
-use native.Mathlib.Nat.{add-assoc, add-zero, zero-add}
-use native.Mathlib.Omega.{arith}
-use lib.Dec.{leb}
-use lib.ListN.{length}
+use mathlib.Core.{Path.{_≡_, refl, sym, _∙_, ap}, Bool.true, List.{List, [], _∷_, _++_}}
+use native.Mathlib.{Nat.{add-assoc, add-zero, zero-add}, Omega.arith}
+use lib.{Dec.leb, ListN.length}
 use borrow.Author.Tests.{leb-true, le-leb}
-use Rattle.protocol.specs.{Buffers.Bytes, Step.Reply, Step.refused, Step.done, Step.commit, Step.meaning, Run.Record}
-use Rattle.protocol.specs.Counts.{nothingMet, countsOf, plus, total}
-use Rattle.protocol.specs.declared.{Call.Call, Answer.Answer, Counts.Counts}
-use Rattle.protocol.specs.declared.Answer.the-variants.{Refused, Done, Commit}
-use Rattle.protocol.proofs.Tests.{both-true}
+use Rattle.protocol.specs.{Buffers.Bytes, Step.{Reply, refused, done, commit, meaning}, Run.Record, Counts.{nothingMet, countsOf, plus, total}}
+use Rattle.protocol.{specs.declared.{Call.Call, Answer.{Answer, the-variants.{Refused, Done, Commit}}, Counts.Counts}, proofs.Tests.both-true}
 use Rattle.driver.specs.Play.{few}
 
 -- ---- sums

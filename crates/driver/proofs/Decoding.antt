@@ -1,17 +1,12 @@
 -- The bytes given to a step, decoded from its digits; and the bytes beside a call's answer.
 use Prim.Native.Nat.{ℕ, _+_, _-_, _≤_}
-use mathlib.Core.Path.{_≡_, refl, sym, _∙_, ap, subst}
-use mathlib.Core.Bool.{true, false}
-use mathlib.Core.List.{[]}
+use mathlib.Core.{Path.{_≡_, refl, sym, _∙_, ap, subst}, Bool.{true, false}, List.[]}
 use native.Mathlib.Omega.{arith}
-use lib.ListN.{length, take, drop, length-drop}
-use lib.Seq.{length-take-le}
-use Rattle.protocol.specs.{Buffers.Bytes, Buffers.part, Step.actBytes, declared.Act.Act}
-use Rattle.protocol.specs.declared.Act.the-variants.{Load, Store, Fence, Advance, Transfer}
-use Rattle.spelling.specs.{Hex.IsData, Over.over, Over.DecodedOf, Over.decoded, Over.noRoom, Over.noData, declared.Decoded.Decoded}
-use Rattle.spelling.specs.declared.Decoded.the-variants.{Bytes as Spelt, Wrong, NoRoom}
-use Rattle.spelling.proofs.HexLaws.{spells-length}
-use Rattle.driver.specs.{Listing.Data, Listing.noData as without, Listing.someData, Pieces.isStore, Pieces.Digits, Pieces.Decodes}
+use lib.{ListN.{length, take, drop, length-drop}, Seq.length-take-le}
+use Rattle.protocol.specs.{Buffers.{Bytes, part}, Step.actBytes, declared.Act.{Act, the-variants.{Load, Store, Fence, Advance, Transfer}}}
+use Rattle.spelling.specs.{Hex.IsData, Over.{over, DecodedOf, decoded, noRoom, noData}}
+use Rattle.spelling.{specs.declared.Decoded.{Decoded, the-variants.{Bytes as Spelt, Wrong, NoRoom}}, proofs.HexLaws.spells-length}
+use Rattle.driver.specs.{Listing.{Data, noData as without, someData}, Pieces.{isStore, Digits, Decodes}}
 use Rattle.driver.proofs.Putting.{over-written}
 
 -- no digits

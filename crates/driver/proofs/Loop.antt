@@ -1,33 +1,26 @@
 -- The driver's loop: what holds at its head, that a step keeps it, and what it gives where the loop is left.
 use Prim.Native.Nat.{ℕ, _+_, _-_, _≤_}
-use mathlib.Core.Path.{_≡_, refl, sym, _∙_, ap}
-use mathlib.Core.Bool.{Bool, true, false}
-use mathlib.Core.List.{List, [], _∷_, _++_}
+use mathlib.Core.{Path.{_≡_, refl, sym, _∙_, ap}, Bool.{Bool, true, false}, List.{List, [], _∷_, _++_}}
 use native.Mathlib.Omega.{arith}
-use lib.Dec.{eqb, leb}
-use lib.ListN.{length, take, drop}
-use lib.Seq.{length-take-le, drop-drop}
+use lib.{Dec.{eqb, leb}, ListN.{length, take, drop}, Seq.{length-take-le, drop-drop}}
 use borrow.Author.Tests.{leb-true, eqb-false}
-use Rattle.protocol.specs.{Pick.fails, Limits.mostCores, Limits.mostLines, Buffers.Bytes, About.about, About.namedLine, Refusals.machineRefusal}
+use Rattle.protocol.specs.{Pick.fails, Limits.{mostCores, mostLines}, Buffers.Bytes, About.{about, namedLine}, Refusals.machineRefusal}
 use Rattle.protocol.specs.Machine.{Machine, machine, coreAt, lineAt, piecesAt, theCore, theLine, written, applied}
-use Rattle.protocol.specs.{Step.Reply, Step.meaning, Step.actBytes, Step.Outcome, Step.accepted, Step.step, Run.Given, Run.place, Run.run}
-use Rattle.protocol.specs.Counts.{countsOf, plus}
+use Rattle.protocol.specs.{Step.{Reply, meaning, actBytes, Outcome, accepted, step}, Run.{Given, place, run}, Counts.{countsOf, plus}}
 use Rattle.protocol.specs.declared.{Opening.Opening as Sizes, State.State, Call.Call, About.About, Counts.Counts, Effect.Effect}
-use Rattle.spelling.specs.{Over.PutAt, declared.Put.Put, declared.Put.the-variants.End as PutEnd, declared.Put.the-variants.Short as NoRoom}
+use Rattle.protocol.proofs.{Tests.both-true, Keep.still}
+use Rattle.spelling.specs.{Over.PutAt, declared.Put.{Put, the-variants.{End as PutEnd, Short as NoRoom}}}
 use Rattle.refusals.specs.Input.{inputRefusal}
 use Rattle.buffers.specs.Moves.{Moves}
-use Rattle.protocol.proofs.{Tests.both-true, Keep.still}
 use Rattle.listing.specs.Record.{recordText}
-use Rattle.tables.specs.Found.{Found, effectWith}
-use Rattle.tables.proofs.Making.{Finds, made, is-step, is-moved, is-inside}
+use Rattle.tables.{specs.Found.{Found, effectWith}, proofs.Making.{Finds, made, is-step, is-moved, is-inside}}
 use Rattle.driver.specs.Listing.{Ending, EndsAt, lines, lastLines}
 use Rattle.driver.specs.Play.{runFrom, few, resumable, Leads, Piece, aStep, theEnd, finished, more, Plays}
-use Rattle.driver.specs.Pieces.{endingOf, Numbered, StepDue, DueAt, aStep as isStep, theEnd as isEnd, shown, Shows, answerLine, checkpointAt, playedBy}
-use Rattle.driver.specs.declared.{Checkpoint.Checkpoint, Played.Played, Last.Last, Due.Due}
-use Rattle.driver.specs.declared.Due.the-variants.{Step, Last as AtLast}
-use Rattle.driver.proofs.{Counting.one-step, Counting.same-counts, Counting.few-one, Counting.few-later, Counting.few-sum, Stepping.replied}
-use Rattle.driver.proofs.Running.{given, leads-none, leads-more, lines-more}
-use Rattle.driver.proofs.Putting.{Written, put-written, put-short}
+use Rattle.driver.specs.Pieces.{endingOf, Numbered, StepDue, DueAt, aStep as isStep, theEnd as isEnd, shown, Shows, answerLine, checkpointAt}
+use Rattle.driver.specs.{Pieces.playedBy, declared.{Checkpoint.Checkpoint, Played.Played, Last.Last}}
+use Rattle.driver.specs.declared.Due.{Due, the-variants.{Step, Last as AtLast}}
+use Rattle.driver.proofs.{Counting.{one-step, same-counts, few-one, few-later, few-sum}, Stepping.replied}
+use Rattle.driver.proofs.{Running.{given, leads-none, leads-more, lines-more}, Putting.{Written, put-written, put-short}}
 
 -- at the loop's head: the steps gs were made from one checkpoint to the other, and their lines are written
 pub record Reached (j : Bytes) (from : Checkpoint) (p₀ q₀ old : Bytes) (o : Sizes) (base : ℕ) (p q out : Bytes) (there : Checkpoint) (used : ℕ) : Type 0 where

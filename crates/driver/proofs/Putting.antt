@@ -1,17 +1,12 @@
 -- A text put at a place of the output: what is written before it and past it.
 use Prim.Native.Nat.{ℕ, _+_, _-_, _≤_, _<_}
-use mathlib.Core.Path.{_≡_, refl, sym, _∙_, ap}
-use mathlib.Core.Bool.{Bool, true, false, cond}
-use mathlib.Core.List.{[], _++_, append-assoc}
+use mathlib.Core.{Path.{_≡_, refl, sym, _∙_, ap}, Bool.{Bool, true, false, cond}, List.{[], _++_, append-assoc}}
 use native.Mathlib.Omega.{arith}
-use lib.ListN.{length, take, drop, length-append, length-take, length-drop}
-use lib.Seq.{drop-at, take-at}
+use lib.{ListN.{length, take, drop, length-append, length-take, length-drop}, Seq.{drop-at, take-at}}
 use borrow.Author.Tests.{leb-true, leb-false}
-use Rattle.protocol.specs.{Buffers.Bytes, Step.refused, Step.meaning, declared.Answer.the-variants.Refused, Run.place}
-use Rattle.protocol.specs.declared.{Place.Place, Counts.Counts}
-use Rattle.spelling.specs.{Over.fits, Over.over, Over.PutAt, declared.Put.Put, declared.Put.the-variants.End, declared.Put.the-variants.Short}
-use Rattle.listing.specs.Record.{recordText, endText}
-use Rattle.listing.proofs.Lengths.{record-length, end-length}
+use Rattle.protocol.specs.{Buffers.Bytes, Step.{refused, meaning}, declared.{Answer.the-variants.Refused, Place.Place, Counts.Counts}, Run.place}
+use Rattle.spelling.specs.{Over.{fits, over, PutAt}, declared.Put.{Put, the-variants.{End, Short}}}
+use Rattle.listing.{specs.Record.{recordText, endText}, proofs.Lengths.{record-length, end-length}}
 use Rattle.driver.specs.Listing.{stopLines}
 
 -- a text that was put: the place after it, the output up to there, and the output past it

@@ -1,25 +1,18 @@
 -- Reading a journal: what is known of the answer at a place.
-use Prim.Native.Nat.{ℕ, zero, suc, _+_, _-_, _≤_, _<_}
-use mathlib.Core.Path.{_≡_, refl, sym, _∙_, ap, ap₂, subst}
-use mathlib.Core.List.{List, [], _∷_, _++_, append-assoc, append-nil}
+use Prim.Native.Nat.{ℕ, suc, _+_, _-_, _≤_, _<_}
+use mathlib.Core.{Path.{_≡_, refl, sym, _∙_, ap, ap₂, subst}, List.{List, [], _∷_, _++_, append-assoc, append-nil}}
 use native.Mathlib.Omega.{arith}
-use lib.ListN.{length, getD, take, drop, length-append, length-drop}
-use lib.Seq.{drop-at, take-at, drop-drop, drop-append-le}
+use lib.{ListN.{length, getD, take, drop, length-append, length-drop}, Seq.{drop-at, take-at, drop-drop, drop-append-le}}
 use Rattle.protocol.specs.Buffers.{Bytes, part}
-use Rattle.spelling.specs.Decimal.{decimal}
-use Rattle.spelling.specs.Hex.{hex}
+use Rattle.spelling.specs.{Decimal.decimal, Hex.hex}
 use Rattle.grammar.specs.Form.{Part, fixed, value, number, pairs, lay, Given as Spelled, spellings, spell}
 use Rattle.grammar.specs.Table.{Numbered, Says, opens as saysOpening, calls, rowsOf, rowAt}
 use Rattle.grammar.specs.Line.{said, Spelt, LineOf, tooLong, noForm, wrongNumber, wrongData, spelt}
-use Rattle.grammar.specs.declared.Line.{Line}
-use Rattle.grammar.specs.declared.Line.the-variants.{Opening as OpeningLine, Step as StepLine, Refused as RefusedLine}
-use Rattle.grammar.proofs.Fit.{Shaped}
+use Rattle.grammar.{specs.declared.Line.{Line, the-variants.{Opening as OpeningLine, Step as StepLine, Refused as RefusedLine}}, proofs.Fit.Shaped}
 use Rattle.grammar.proofs.Forms.{SaysIn, row-says, row-shape}
 use Rattle.journal.specs.Journal.{placed, LineAt, NextOf, tooMuch, empty, ended, unended, aLine as wholeLine}
-use Rattle.journal.specs.declared.Next.{Next}
-use Rattle.journal.specs.declared.Next.the-variants.{Opening, Step, End, Refused}
-use Rattle.driver.specs.Listing.{Data, noData, someData}
-use Rattle.driver.specs.Pieces.{Digits}
+use Rattle.journal.specs.declared.Next.{Next, the-variants.{Opening, Step, End, Refused}}
+use Rattle.driver.specs.{Listing.{Data, noData, someData}, Pieces.Digits}
 
 -- ---- a step's data
 

@@ -1,16 +1,13 @@
 -- The steps of a run one after the other: what one step more adds to the records, the machine and the counts.
 use Prim.Native.Nat.{ℕ, suc, _+_, _-_}
-use mathlib.Core.Path.{_≡_, refl, sym, _∙_, ap}
-use mathlib.Core.List.{List, [], _∷_, _++_, append-assoc, append-nil}
+use mathlib.Core.{Path.{_≡_, refl, sym, _∙_, ap}, List.{List, [], _∷_, _++_, append-assoc, append-nil}}
 use native.Mathlib.Omega.{arith}
 use lib.ListN.{length}
-use Rattle.protocol.specs.{Buffers.Bytes, Buffers.part, Machine.Machine, Machine.machine, Step.Reply, Step.step}
-use Rattle.protocol.specs.{Run.Given, Run.Record, Run.place, Run.run, Counts.countsOf, Counts.plus, Counts.total}
-use Rattle.protocol.specs.declared.{Call.Call, Counts.Counts}
+use Rattle.protocol.specs.{Buffers.{Bytes, part}, Machine.{Machine, machine}, Step.{Reply, step}, Run.{Given, Record, place, run}}
+use Rattle.protocol.specs.{Counts.{countsOf, plus, total}, declared.{Call.Call, Counts.Counts}}
 use Rattle.journal.specs.{Journal.NextOf, declared.Next.the-variants.Step}
 use Rattle.listing.specs.Record.{recordText}
-use Rattle.driver.specs.{Listing.Data, Listing.Between, Listing.noLine, Listing.aLine, Listing.lines, Play.runFrom, Play.Leads}
-use Rattle.driver.specs.declared.Checkpoint.{Checkpoint}
+use Rattle.driver.specs.{Listing.{Data, Between, noLine, aLine, lines}, Play.{runFrom, Leads}, declared.Checkpoint.Checkpoint}
 use Rattle.driver.proofs.Counting.{plus-assoc, plus-none, total-append, total-steps}
 
 -- ---- one list of steps after another

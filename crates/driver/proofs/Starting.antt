@@ -1,16 +1,15 @@
 -- The first line: an engine is opened and its line written, or the whole listing is written, or there is no room.
 use Prim.Native.Nat.{ℕ}
-use mathlib.Core.Path.{_≡_, refl, subst}
-use mathlib.Core.Bool.{Bool, true, false}
+use mathlib.Core.{Path.{_≡_, refl, subst}, Bool.{Bool, true, false}}
 use native.Mathlib.Omega.{arith}
-use Rattle.protocol.specs.{Pick.first, Limits.openingFits, Buffers.Bytes, Refusals.openRefusal, Step.done, Step.openReply, Run.place}
-use Rattle.protocol.specs.{declared.Opening.Opening as Sizes, declared.Name.the-variants.Open}
-use Rattle.spelling.specs.{Over.PutAt, declared.Put.Put, declared.Put.the-variants.End, declared.Put.the-variants.Short}
+use Rattle.protocol.specs.{Pick.first, Limits.openingFits, Buffers.Bytes, Refusals.openRefusal, Step.{done, openReply}, Run.place}
+use Rattle.protocol.specs.declared.{Opening.Opening as Sizes, Name.the-variants.Open}
+use Rattle.spelling.specs.{Over.PutAt, declared.Put.{Put, the-variants.{End, Short}}}
 use Rattle.journal.specs.{Journal.NextOf, declared.Next.the-variants.Opening}
 use Rattle.listing.specs.Record.{recordText}
-use Rattle.driver.specs.{Listing.NotOpened, Listing.outside, Listing.notOpened, Pieces.Puts, Pieces.refusedBy, Pieces.openedBy}
-use Rattle.driver.specs.{Play.Begins, Play.opens, Play.fails, Play.noRoom, Play.noRoomToEnd, Play.Starts, declared.Checkpoint.Checkpoint}
-use Rattle.driver.specs.{declared.Progress.Progress, declared.Progress.the-variants.More, declared.Played.Played}
+use Rattle.driver.specs.{Listing.{NotOpened, outside, notOpened}, Pieces.{Puts, refusedBy, openedBy}}
+use Rattle.driver.specs.{Play.{Begins, opens, fails, noRoom, noRoomToEnd, Starts}, declared.Checkpoint.Checkpoint}
+use Rattle.driver.specs.declared.{Progress.{Progress, the-variants.More}, Played.Played}
 use Rattle.driver.proofs.Putting.{put-written, put-short}
 
 -- what the test of the limits says of 7

@@ -2,10 +2,9 @@
 use Prim.Native.Nat.{ℕ}
 use mathlib.Core.Path.{_≡_, refl, sym, _∙_, ap}
 use lib.ListN.{length, length-replicate}
-use Rattle.protocol.specs.{Buffers.Bytes, About.about, Machine.Machine, Machine.machine, Refusals.stateFits, Refusals.machineRefusal}
-use Rattle.protocol.specs.Step.{meaning, actBytes, Outcome, accepted, step}
-use Rattle.protocol.specs.declared.{State.State, Call.Call, Act.Act, Answer.Answer}
-use Rattle.protocol.specs.declared.Act.the-variants.{Load, Store, Fence, Advance, Transfer}
+use Rattle.protocol.specs.{Buffers.Bytes, About.about, Machine.{Machine, machine}, Refusals.{stateFits, machineRefusal}}
+use Rattle.protocol.specs.{Step.{meaning, actBytes, Outcome, accepted, step}, declared.{State.State, Call.Call}}
+use Rattle.protocol.specs.declared.{Act.{Act, the-variants.{Load, Store, Fence, Advance, Transfer}}, Answer.Answer}
 use Rattle.refusals.specs.Input.{machineWith, inputRefusal}
 use Rattle.tables.proofs.Making.{Finds, made, is-step, is-shown}
 use Rattle.driver.specs.Pieces.{shown}

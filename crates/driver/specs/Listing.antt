@@ -1,13 +1,11 @@
 -- What the listing of a journal is made of: 01, "Journal and driver". The steps that a journal spells, the text of their records, and the
 -- last lines, whose counts are those of the records.
 use Prim.Native.Nat.{ℕ, _-_}
-use mathlib.Core.Path.{_≡_}
-use mathlib.Core.List.{List, [], _∷_, _++_}
-use Rattle.protocol.specs.{Buffers.Bytes, Buffers.part, Refusals.openRefusal, Step.refused, Run.Given, Run.Record, Run.place}
-use Rattle.protocol.specs.{Counts.counts, Counts.plus, declared.Opening.Opening as Sizes, declared.Call.Call, declared.Counts.Counts}
+use mathlib.Core.{Path._≡_, List.{List, [], _∷_, _++_}}
+use Rattle.protocol.specs.{Buffers.{Bytes, part}, Refusals.openRefusal, Step.refused, Run.{Given, Record, place}, Counts.{counts, plus}}
+use Rattle.protocol.specs.declared.{Opening.Opening as Sizes, Call.Call, Counts.Counts}
 use Rattle.spelling.specs.Hex.{Spells}
-use Rattle.journal.specs.Journal.{NextOf}
-use Rattle.journal.specs.declared.Next.the-variants.{Opening, Step, End, Refused}
+use Rattle.journal.specs.{Journal.NextOf, declared.Next.the-variants.{Opening, Step, End, Refused}}
 use Rattle.listing.specs.Record.{recordText, endText}
 
 -- ---- reading

@@ -1,22 +1,18 @@
 -- The parts of the driver's loop: what is due at a place, the bytes of a step, the bytes beside an answer, how far a call came.
 use Prim.Native.Nat.{ℕ, _+_, _-_, _≤_, _<_}
-use mathlib.Core.Path.{_≡_}
-use mathlib.Core.Bool.{Bool, true, false}
+use mathlib.Core.{Path._≡_, Bool.{Bool, true, false}}
 use lib.ListN.{length, take}
-use Rattle.protocol.specs.{Pick.pick, Buffers.Bytes, Buffers.part, Buffers.copyStart, Refusals.callRefusal, Refusals.orElse, Run.place}
-use Rattle.protocol.specs.Step.{meaning, actBytes}
-use Rattle.protocol.specs.declared.{Opening.Opening as Sizes, State.State, Call.Call, Act.Act, Answer.Answer, Counts.Counts}
-use Rattle.protocol.specs.declared.Act.the-variants.{Load, Store, Fence, Advance, Transfer}
-use Rattle.spelling.specs.{declared.Put.Put, declared.Put.the-variants.End as PutEnd, declared.Put.the-variants.Short, Over.PutAt}
+use Rattle.protocol.specs.{Pick.pick, Buffers.{Bytes, part, copyStart}, Refusals.{callRefusal, orElse}, Run.place, Step.{meaning, actBytes}}
+use Rattle.protocol.specs.declared.{Opening.Opening as Sizes, State.State, Call.Call}
+use Rattle.protocol.specs.declared.{Act.{Act, the-variants.{Load, Store, Fence, Advance, Transfer}}, Answer.Answer, Counts.Counts}
+use Rattle.spelling.specs.{declared.Put.{Put, the-variants.{End as PutEnd, Short}}, Over.PutAt}
 use Rattle.journal.specs.{Journal.NextOf, declared.Next.the-variants.Step as StepLine}
 use Rattle.buffers.specs.Moves.{placeFits}
 use Rattle.listing.specs.Record.{recordText}
 use Rattle.tables.specs.{Spans.spanOf, declared.Span.Span}
-use Rattle.driver.specs.{Listing.Ending, Listing.ended, Listing.stopped, Listing.Data, Listing.EndsAt, Play.firstCheckpoint, Play.unopened}
-use Rattle.driver.specs.declared.{Checkpoint.Checkpoint, Progress.Progress, Played.Played, Last.Last, Due.Due}
-use Rattle.driver.specs.declared.Progress.the-variants.{Finished, More, Short as TooShort}
-use Rattle.driver.specs.declared.Last.the-variants.{End, Refused}
-use Rattle.driver.specs.declared.Due.the-variants.{Step, Last as AtLast}
+use Rattle.driver.specs.{Listing.{Ending, ended, stopped, Data, EndsAt}, Play.{firstCheckpoint, unopened}, declared.Checkpoint.Checkpoint}
+use Rattle.driver.specs.declared.{Played.Played, Last.{Last, the-variants.{End, Refused}}, Due.{Due, the-variants.{Step, Last as AtLast}}}
+use Rattle.driver.specs.declared.Progress.{Progress, the-variants.{Finished, More, Short as TooShort}}
 
 -- ---- what is due
 

@@ -1,21 +1,16 @@
 -- What `start` and `play` promise: the checkpoints of a run, the steps that lead from one to another, and what the driver writes in
 -- between.
 use Prim.Native.Nat.{ℕ, _+_, _-_, _≤_, _<_}
-use mathlib.Core.Path.{_≡_}
-use mathlib.Core.Bool.{Bool, true, false}
-use mathlib.Core.List.{List, [], _++_}
-use lib.Dec.{leb, eqb}
-use lib.ListN.{length, take, drop}
+use mathlib.Core.{Path._≡_, Bool.{Bool, true, false}, List.{List, [], _++_}}
+use lib.{Dec.{leb, eqb}, ListN.{length, take, drop}}
 use denote.Ref.{RefT, now}
-use Rattle.protocol.specs.{Pick.both, Pick.fails as untrue, Fresh.freshState, Fresh.smallest, Buffers.Bytes, Buffers.part, Machine.machine}
-use Rattle.protocol.specs.{Refusals.openRefusal, Step.openReply, Step.step, Run.Given, Run.Run, Run.place, Run.run}
-use Rattle.protocol.specs.Counts.{nothingMet, plus, total}
-use Rattle.protocol.specs.declared.{Opening.Opening as Sizes, Call.Call, Counts.Counts}
-use Rattle.journal.specs.{Journal.NextOf, declared.Next.the-variants.Opening, declared.Next.the-variants.Step}
+use Rattle.protocol.specs.{Pick.{both, fails as untrue}, Fresh.{freshState, smallest}, Buffers.{Bytes, part}, Machine.machine, Refusals.openRefusal}
+use Rattle.protocol.specs.{Step.{openReply, step}, Run.{Given, Run, place, run}, Counts.{nothingMet, plus, total}, declared.Opening.Opening as Sizes}
+use Rattle.protocol.specs.declared.{Call.Call, Counts.Counts}
+use Rattle.journal.specs.{Journal.NextOf, declared.Next.the-variants.{Opening, Step}}
 use Rattle.listing.specs.Record.{recordText}
-use Rattle.driver.specs.Listing.{Ending, Data, Between, EndsAt, lines, lastLines, NotOpened, notOpened}
-use Rattle.driver.specs.declared.{Checkpoint.Checkpoint, Progress.Progress, Played.Played}
-use Rattle.driver.specs.declared.Progress.the-variants.{Finished, More, Short, Unfit}
+use Rattle.driver.specs.{Listing.{Ending, Data, Between, EndsAt, lines, lastLines, NotOpened, notOpened}, declared.Checkpoint.Checkpoint}
+use Rattle.driver.specs.declared.{Progress.{Progress, the-variants.{Finished, More, Short, Unfit}}, Played.Played}
 
 -- ---- the checkpoints of a run
 

@@ -1,19 +1,15 @@
 // The parts of the driver's loop, which goes through the journal line by line. A function that has a
 // `requires` says what the loop knows where it calls it.
-ghost use mathlib.Core.Path.{_≡_};
-ghost use mathlib.Core.Bool.{true};
-ghost use mathlib.Core.List.{[]};
+ghost use mathlib.Core.{Path._≡_, Bool.true, List.[]};
 ghost use Prim.Native.Nat.{_-_, _≤_, _<_};
 ghost use lib.ListN.{length};
-ghost use Rattle.protocol.specs.{Buffers.part, Refusals.machineRefusal, Refusals.callRefusal, Refusals.orElse, Run.place, Counts.countsOf, Counts.plus};
-ghost use Rattle.protocol.specs.Step.{done, meaning};
+ghost use Rattle.protocol.specs.{Buffers.part, Refusals.{machineRefusal, callRefusal, orElse}, Run.place, Counts.{countsOf, plus}, Step.{done, meaning}};
 ghost use Rattle.refusals.specs.Input.{machineWith};
 ghost use Rattle.spelling.specs.Over.{PutAt};
 ghost use Rattle.listing.specs.Record.{recordText};
-ghost use Rattle.driver.specs.Listing.{stopLines, lastLines, notOpened};
-ghost use Rattle.driver.specs.Play.{few, firstCheckpoint, unopened};
-ghost use Rattle.driver.specs.Pieces.{isStore, Digits, Decodes, DueAt, answerLine, Shows};
-ghost use Rattle.driver.specs.Pieces.{endingOf, Numbered, checkpointAt, progressBy, writtenBy, playedBy, Puts, refusedBy, openedBy};
+ghost use Rattle.driver.specs.{Listing.{stopLines, lastLines, notOpened}, Play.{few, firstCheckpoint, unopened}};
+ghost use Rattle.driver.specs.Pieces.{isStore, Digits, Decodes, DueAt, answerLine, Shows, endingOf, Numbered, checkpointAt, playedBy, Puts};
+ghost use Rattle.driver.specs.Pieces.{progressBy, writtenBy, refusedBy, openedBy};
 use super::Checkpoint;
 use super::Due;
 use super::Last;

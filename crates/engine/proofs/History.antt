@@ -1,17 +1,11 @@
 -- The calls made on an engine are a run of `step`, so the order theorem holds of them.
 use Prim.Native.Nat.{ℕ, suc}
-use mathlib.Core.Path.{_≡_, refl, sym, _∙_, ap, ap₂}
-use mathlib.Core.Bool.{Bool, true, false}
-use mathlib.Core.List.{List, [], _∷_}
+use mathlib.Core.{Path.{_≡_, refl, sym, _∙_, ap, ap₂}, Bool.{Bool, true, false}, List.{List, [], _∷_}}
 use native.Mathlib.Omega.{arith}
 use lib.Dec.{eqb}
 use borrow.Author.Tests.{eqb-true}
-use Rattle.protocol.specs.Pick.{pick}
-use Rattle.protocol.specs.Machine.{Machine, freshMachine}
-use Rattle.protocol.specs.Refusals.{openRefusal}
-use Rattle.protocol.specs.Step.{Reply, refused, done, meaning}
-use Rattle.protocol.specs.declared.Name.the-variants.{Open}
-use Rattle.protocol.specs.Run.{Given, Record, place, run}
+use Rattle.protocol.specs.{Pick.pick, Machine.{Machine, freshMachine}, Refusals.openRefusal, Step.{Reply, refused, done, meaning}}
+use Rattle.protocol.specs.{declared.Name.the-variants.Open, Run.{Given, Record, place, run}}
 use Rattle.protocol.proofs.Order.Theorem.{open-theorem, order-theorem, sort-theorem}
 use Rattle.engine.specs.History.{Made, MadeFrom, none, next, recordsOf, HistoryTheorem}
 

@@ -3,19 +3,12 @@
 use Prim.Native.Nat.{ℕ}
 use mathlib.Core.Path.{_≡_, refl, ap, _∙_}
 use lib.ListN.{length, set, length-replicate}
-use Rattle.protocol.specs.Pick.{pick}
-use Rattle.protocol.specs.Buffers.{Bytes, copyStart}
-use Rattle.protocol.specs.Machine.{machine, piecesAt, cellOf, applied}
-use Rattle.protocol.specs.Refusals.{stateFits, machineRefusal}
-use Rattle.protocol.specs.Step.{accepted}
-use Rattle.protocol.specs.declared.{State.State, Call.Call}
+use Rattle.protocol.specs.{Pick.pick, Buffers.{Bytes, copyStart}, Machine.{machine, piecesAt, cellOf, applied}, Refusals.{stateFits, machineRefusal}}
+use Rattle.protocol.specs.{Step.accepted, declared.{State.State, Call.Call}}
 use Rattle.refusals.specs.Input.{machineWith, inputRefusal}
 use Rattle.buffers.specs.Moves.{placeFits}
-use Rattle.tables.specs.{declared.Span.Span, Found.effectWith}
-use Rattle.tables.proofs.Making.{Finds, is-step, is-moved, is-reply, is-span}
-use Rattle.engine.specs.declared.{Made.Made, Done.Done}
-use Rattle.engine.specs.Pieces.{MadeBy}
-use Rattle.engine.specs.Calls.{Performs}
+use Rattle.tables.{specs.{declared.Span.Span, Found.effectWith}, proofs.Making.{Finds, is-step, is-moved, is-reply, is-span}}
+use Rattle.engine.specs.{declared.Made.Made, Pieces.MadeBy, Calls.Performs}
 
 module _ (s : State) (p q : Bytes) (call : Call) (given : Bytes) (n : ℕ) (e : n ≡ inputRefusal (machineWith (s .opening) (s .core) (s .line) (length p) (length q)) call (length given)) where
   here : n ≡ inputRefusal (machine s p q) call (length given)

@@ -1,22 +1,15 @@
 -- Which part `show` gives, where a refusal applies and where none does.
 use Prim.Native.Nat.{ℕ, _+_, _-_}
-use mathlib.Core.Path.{_≡_, sym, _∙_}
-use mathlib.Core.Bool.{true, false}
+use mathlib.Core.{Path.{_≡_, sym, _∙_}, Bool.{true, false}}
 use native.Mathlib.Omega.{arith}
 use lib.ListN.{length, length-replicate}
 use borrow.Author.Tests.{ne-eqb}
 use denote.Ref.{RefT, now}
-use Rattle.protocol.specs.Pick.{pick}
-use Rattle.protocol.specs.Buffers.{Bytes, copyStart, managerStart, Placed}
-use Rattle.protocol.specs.Machine.{Machine, machine, copyAt}
-use Rattle.protocol.specs.Refusals.{machineRefusal, stateFits, isHeld}
-use Rattle.protocol.specs.Step.{shown, showRefusal}
-use Rattle.protocol.specs.declared.State.{State}
-use Rattle.protocol.specs.declared.Call.the-variants.{Load}
+use Rattle.protocol.specs.{Pick.pick, Buffers.{Bytes, copyStart, managerStart, Placed}, Machine.{Machine, machine, copyAt}}
+use Rattle.protocol.specs.{Refusals.{machineRefusal, stateFits, isHeld}, Step.{shown, showRefusal}, declared.{State.State, Call.the-variants.Load}}
 use Rattle.protocol.proofs.Refusals.{Fit, or-none, machine-fit, placed}
 use Rattle.refusals.specs.Input.{machineWith, inputRefusal}
-use Rattle.buffers.specs.Moves.{placeFits}
-use Rattle.buffers.proofs.Laws.{placed-place, place-start}
+use Rattle.buffers.{specs.Moves.placeFits, proofs.Laws.{placed-place, place-start}}
 use Rattle.engine.specs.Calls.{PartOf, Shows}
 
 -- the part of so many bytes is the part up to their end

@@ -1,19 +1,13 @@
 -- What `step`, `open`, `show` and `commit_bytes` promise, by equations with the definitions of `protocol`.
 use Prim.Native.Nat.{ℕ, _+_, _-_, min}
-use mathlib.Core.Path.{_≡_}
-use mathlib.Core.List.{[]}
+use mathlib.Core.{Path._≡_, List.[]}
 use lib.ListN.{length}
 use denote.Ref.{RefT, ptr, now}
-use Rattle.protocol.specs.Buffers.{Bytes, part, copyStart}
-use Rattle.protocol.specs.Machine.{Machine, machine, coreOf, lineOf}
-use Rattle.protocol.specs.Step.{meaning, openReply, opened, step, Buffer, inPrivate, inShared, Shown, shown}
-use Rattle.protocol.specs.declared.Opening.{Opening}
-use Rattle.protocol.specs.declared.State.{State}
-use Rattle.protocol.specs.declared.Call.{Call}
-use Rattle.tables.specs.declared.Span.{Span}
+use Rattle.protocol.specs.{Buffers.{Bytes, part, copyStart}, Machine.{Machine, machine, coreOf, lineOf}}
+use Rattle.protocol.specs.{Step.{meaning, openReply, opened, step, Buffer, inPrivate, inShared, Shown, shown}, declared.Opening.Opening}
+use Rattle.protocol.specs.declared.{State.State, Call.Call}
 use Rattle.tables.specs.Spans.{spanOf}
-use Rattle.engine.specs.declared.Opened.{Opened}
-use Rattle.engine.specs.declared.Done.{Done}
+use Rattle.engine.specs.declared.{Opened.Opened, Done.Done}
 
 -- a call on the machine m that returns r and leaves the buffers p and q: answer, commit's bytes, state and both buffers are those of `step`;
 -- `given` are the bytes given to a store

@@ -1,20 +1,12 @@
 -- Demand 3 of the engine's own functions, by what they promise alone: the answer of `open`, zeroed buffers, and calls made one after the other.
 -- The commits are read off what the calls returned.
 use Prim.Native.Nat.{ℕ, suc}
-use mathlib.Core.Path.{_≡_}
-use mathlib.Core.List.{List, [], _∷_}
+use mathlib.Core.{Path._≡_, List.{List, [], _∷_}}
 use lib.ListN.{replicate}
-use Rattle.protocol.specs.Buffers.{Bytes, part, privateLength, sharedLength}
-use Rattle.protocol.specs.Machine.{Machine, machine}
-use Rattle.protocol.specs.Step.{Reply, meaning}
-use Rattle.protocol.specs.Run.{Given, Record, place, Commit, commits}
-use Rattle.protocol.specs.Order.{Before, TSO, StrictTotal}
-use Rattle.protocol.specs.declared.Opening.{Opening}
-use Rattle.protocol.specs.declared.Answer.the-variants.{Done as Named}
-use Rattle.protocol.specs.declared.Name.the-variants.{Open}
-use Rattle.engine.specs.declared.Done.{Done}
-use Rattle.engine.specs.declared.Opened.{Opened}
-use Rattle.engine.specs.Calls.{Opens, Performs}
+use Rattle.protocol.specs.{Buffers.{Bytes, part, privateLength, sharedLength}, Machine.{Machine, machine}, Step.{Reply, meaning}}
+use Rattle.protocol.specs.{Run.{Given, Record, place, Commit, commits}, Order.{Before, TSO, StrictTotal}, declared.Opening.Opening}
+use Rattle.protocol.specs.declared.{Answer.the-variants.Done as Named, Name.the-variants.Open}
+use Rattle.engine.specs.{declared.{Done.Done, Opened.Opened}, Calls.{Opens, Performs}}
 
 -- a call that was made: the call with the bytes given to it, what it returned, and both buffers as it left them
 pub record Made : Type 0 where

@@ -2,15 +2,9 @@
 use Prim.Native.Nat.{ℕ}
 use mathlib.Core.Path.{_≡_}
 use denote.Ref.{RefT, now}
-use Rattle.protocol.specs.Pick.{pick}
-use Rattle.protocol.specs.Buffers.{Bytes, copyStart}
-use Rattle.protocol.specs.Machine.{Pieces}
-use Rattle.protocol.specs.declared.{Opening.Opening, Call.Call, Effect.Effect}
-use Rattle.buffers.specs.Moves.{placeFits}
-use Rattle.buffers.specs.Moves.{Moves}
-use Rattle.tables.specs.declared.Span.{Span}
-use Rattle.tables.specs.Found.{effectWith}
-use Rattle.tables.specs.Spans.{spanOf}
+use Rattle.protocol.specs.{Pick.pick, Buffers.{Bytes, copyStart}, Machine.Pieces, declared.{Opening.Opening, Call.Call, Effect.Effect}}
+use Rattle.buffers.specs.Moves.{placeFits, Moves}
+use Rattle.tables.specs.{Found.effectWith, Spans.spanOf}
 use Rattle.engine.specs.declared.Made.{Made}
 
 -- the buffers p and q become p' and q' by the move of an effect d on core c and line l, and r is what the effect makes of the pieces, with

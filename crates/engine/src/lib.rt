@@ -5,12 +5,9 @@
 // `opened`, `step`, `shown` or `part` of crate `protocol`; of a part that is handed out, its place too.
 // Callers write `d = load(d.state, ..)`, which saves a copy of the state against one by way of a local.
 // `step` saves another copy against the nine.
-ghost use mathlib.Core.Path.{_≡_};
-ghost use mathlib.Core.List.{[]};
-ghost use Rattle.protocol.specs.Machine.{pieces};
-ghost use Rattle.protocol.specs.Refusals.{isHeld};
-ghost use Rattle.engine.specs.Pieces.{OnPieces};
-ghost use Rattle.engine.specs.Calls.{Makes, Opens, Shows, PartOf};
+ghost use mathlib.Core.{Path._≡_, List.[]};
+ghost use Rattle.protocol.specs.{Machine.pieces, Refusals.isHeld};
+ghost use Rattle.engine.specs.{Pieces.OnPieces, Calls.{Makes, Opens, Shows, PartOf}};
 use protocol::Answer;
 use protocol::Call;
 use protocol::Cell;

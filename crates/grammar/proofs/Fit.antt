@@ -1,10 +1,9 @@
 -- Laws of a line that has a form: part by part, each value is the one that is there. Assumes nothing.
 use Prim.Native.Nat.{ℕ, _+_}
-use mathlib.Core.{Path._≡_, Path.refl, Path.sym, Path._∙_, Path.ap, Path.ap₂, List.List, List.[], List._∷_, List._++_, Logic.inl, Logic.inr}
-use lib.{ListN.length, ListN.drop, Seq.drop-append-seam}
+use mathlib.Core.{Path.{_≡_, refl, sym, _∙_, ap, ap₂}, List.{List, [], _∷_, _++_}, Logic.{inl, inr}}
+use lib.{ListN.{length, drop}, Seq.drop-append-seam}
 use Rattle.grammar.specs.Form.{Part, fixed, value, Value, number, pairs, lay, Each, Has}
-use Rattle.spelling.specs.Bytes.{upTo}
-use Rattle.spelling.proofs.Split.{Edge, upTo-split, upTo-clean, upTo-unique}
+use Rattle.spelling.{specs.Bytes.upTo, proofs.Split.{Edge, upTo-split, upTo-clean, upTo-unique}}
 
 -- what follows a value in a form: nothing, or a blank
 abbrev pub Edged : List Part → Type 0

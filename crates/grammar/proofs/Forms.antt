@@ -1,11 +1,11 @@
 -- What is known of the rows of each form of journal: their shape, and what their lines say. Assumes nothing.
 use Prim.Native.Nat.{ℕ, zero, suc, _+_, _<_}
-use mathlib.Core.{Path._≡_, Path.refl, Bool.Bool, Bool.true, Bool.false}
+use mathlib.Core.{Path.{_≡_, refl}, Bool.{Bool, true, false}}
 use native.Mathlib.Omega.{arith}
 use lib.{Dec.ltb, ListN.length}
 use borrow.Author.Tests.{ltb-true}
-use Rattle.grammar.specs.{Table.Numbered, Table.Says, Table.opens, Table.calls, Table.rowsOf, Table.rowAt, Scan.fromOf}
-use Rattle.grammar.proofs.{Fit.Shaped, Rows.entry-at, Rows.both, Rows.every, Rows.every-at, Judge.ranged, Judge.row-in}
+use Rattle.grammar.specs.{Table.{Numbered, Says, opens, calls, rowsOf, rowAt}, Scan.fromOf}
+use Rattle.grammar.proofs.{Fit.Shaped, Rows.{entry-at, both, every, every-at}, Judge.{ranged, row-in}}
 
 pub row-shape : (form k : ℕ) → k < length (rowsOf form) → Shaped (rowAt (rowsOf form) k .form)
 row-shape form k h = let r = ranged form in rw (row-in form k h) (entry-at (fromOf form + k) (omega (arith, r .count, r .order, r .high)) .shape)

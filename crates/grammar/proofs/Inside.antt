@@ -1,13 +1,11 @@
 -- The data of a step line lie in the line, at its end. Assumes nothing.
 use Prim.Native.Nat.{ℕ, _≤_, _-_}
-use mathlib.Core.{Path._≡_, Path.refl, Path.sym, Path.subst, List.List}
+use mathlib.Core.{Path.{_≡_, refl, sym, subst}, List.List}
 use native.Mathlib.Omega.{arith}
 use lib.ListN.{length, getD}
 use Rattle.spelling.specs.Hex.{hex}
-use Rattle.grammar.specs.Table.{Says, opens, calls, Row, rowAt}
-use Rattle.grammar.specs.Line.{said, LineOf, tooLong, noForm, wrongNumber, wrongData, spelt}
-use Rattle.grammar.specs.declared.Line.{Line}
-use Rattle.grammar.specs.declared.Line.the-variants.{Opening, Step, Refused}
+use Rattle.grammar.specs.{Table.{Says, opens, calls, Row, rowAt}, Line.{said, LineOf, tooLong, noForm, wrongNumber, wrongData, spelt}}
+use Rattle.grammar.specs.declared.Line.{Line, the-variants.{Opening, Step, Refused}}
 
 -- where an answer says that data are, in a line of n bytes
 abbrev pub Inside : ℕ → Line → Type 0

@@ -1,19 +1,15 @@
 -- From the row that was found to the answer of the line. Assumes nothing.
 use Prim.Native.Nat.{ℕ, zero, suc, _+_, _≤_, _<_, _-_}
-use mathlib.Core.{Path._≡_, Path.refl, Path.sym, Path._∙_, Path.ap, Path.subst, List.List, List.[], List._∷_, List._++_}
-use mathlib.Core.Logic.{⊎-elim, inl, inr}
+use mathlib.Core.{Path.{_≡_, refl, sym, _∙_, ap, subst}, List.{List, [], _∷_, _++_}, Logic.{⊎-elim, inl, inr}}
 use native.Mathlib.Omega.{arith}
-use lib.{Dec.lit≤, ListN.length, ListN.getD, ListN.take, ListN.drop, ListN.List·getD-append, ListN.List·getD-eq-default}
+use lib.{Dec.lit≤, ListN.{length, getD, take, drop, List·getD-append, List·getD-eq-default}}
 use lib.Seq.{sets, sets-eq, getD-append-add, getD-take, getD-drop}
-use Rattle.spelling.specs.Hex.{hex}
-use Rattle.spelling.proofs.{Lists.le-or-lt, Decide.Told, Decide.same-number}
-use Rattle.grammar.specs.Form.{Part, fixed, value, number, pairs, Has, Given}
-use Rattle.grammar.specs.Table.{Row, rowAt, noRow, rowsOf}
+use Rattle.spelling.{specs.Hex.hex, proofs.{Lists.le-or-lt, Decide.{Told, same-number}}}
+use Rattle.grammar.specs.{Form.{Part, fixed, value, number, pairs, Has, Given}, Table.{Row, rowAt, noRow, rowsOf}}
 use Rattle.grammar.specs.Line.{said, Fits, LineOf, noForm, wrongNumber, wrongData, spelt}
-use Rattle.grammar.specs.Scan.{rowCount, numberCount, formCount, zeros, fromOf, toOf, RowAt, Reads, table, formOf, valuesIn, nothingRead, Fails, FoundIn, nowhere, here, answerOf, Placed}
-use Rattle.grammar.specs.declared.Found.{Found}
-use Rattle.grammar.proofs.Outcome.{Outcome, fails, badNumber, badData, fine, outcome-of, fails-of}
-use Rattle.grammar.proofs.Rows.{lineTag, entry-at, same-tag}
+use Rattle.grammar.specs.Scan.{rowCount, numberCount, formCount, zeros, fromOf, toOf, RowAt, Reads, table, formOf, valuesIn, nothingRead}
+use Rattle.grammar.specs.{Scan.{Fails, FoundIn, nowhere, here, answerOf, Placed}, declared.Found.Found}
+use Rattle.grammar.proofs.{Outcome.{Outcome, fails, badNumber, badData, fine, outcome-of, fails-of}, Rows.{lineTag, entry-at, same-tag}}
 
 -- ---- the numbers that were read, as the row's numbers
 

@@ -1,16 +1,17 @@
 -- Each line has exactly one answer. Assumes nothing.
 use Prim.Native.Nat.{ℕ, zero, suc, _+_, _-_, _≤_, _<_}
-use mathlib.Core.{Path._≡_, Path.refl, Path.subst, List.List, List.[], List._∷_, Logic._⊎_, Logic.inl, Logic.inr}
+use mathlib.Core.{Path.{_≡_, refl, subst}, List.{List, [], _∷_}, Logic.{_⊎_, inl, inr}}
 use native.Mathlib.Omega.{arith}
 use lib.ListN.{length, getD}
-use Rattle.spelling.specs.{Decimal.IsNumber, Hex.IsData, One.One}
-use Rattle.spelling.proofs.{Lists.le-or-lt, Decide.Told, Decide.same-number, Decide.number-told, Decide.data-told, Split.upTo-within}
-use Rattle.grammar.specs.{Form.Part, Form.fixed, Form.value, Form.number, Form.pairs, Form.Has, Table.Row, Table.rowAt, Table.rowsOf}
-use Rattle.grammar.specs.{Line.Fits, Line.LineOf, Line.tooLong, Theorems.OneAnswerTheorem}
-use Rattle.grammar.specs.Scan.{valueAt, rowCount, fromOf, toOf, table, formOf, Reads, right, wrong, ended, longer, same, other, aValue, nothingRead, withNumber, withoutNumber, withData, withoutData, Fails, FoundIn, nowhere, here}
+use Rattle.spelling.{specs.{Decimal.IsNumber, Hex.IsData, One.One}, proofs.{Lists.le-or-lt, Decide.{Told, same-number, number-told, data-told}}}
+use Rattle.spelling.proofs.Split.{upTo-within}
+use Rattle.grammar.specs.{Form.{Part, fixed, value, number, pairs, Has}, Table.{Row, rowAt, rowsOf}, Line.{Fits, LineOf, tooLong}}
+use Rattle.grammar.specs.Theorems.{OneAnswerTheorem}
+use Rattle.grammar.specs.Scan.{valueAt, rowCount, fromOf, toOf, table, formOf, Reads, right, wrong, ended, longer, same, other, aValue}
+use Rattle.grammar.specs.Scan.{nothingRead, withNumber, withoutNumber, withData, withoutData, Fails, FoundIn, nowhere, here}
 use Rattle.grammar.specs.declared.{Line.Line, Values.Values, Found.Found}
-use Rattle.grammar.proofs.{Fit.Shaped, Outcome.fails-of, Rows.letters, Rows.lineTag, Rows.entry-at, Rows.row-told}
-use Rattle.grammar.proofs.{Judge.answer-line, Judge.ranged, Judge.row-in, Unique.same-answer}
+use Rattle.grammar.proofs.{Fit.Shaped, Outcome.fails-of, Rows.{letters, lineTag, entry-at, row-told}, Judge.{answer-line, ranged, row-in}}
+use Rattle.grammar.proofs.Unique.{same-answer}
 
 -- ---- a line is read in some way by each form
 

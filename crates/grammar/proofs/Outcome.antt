@@ -1,14 +1,13 @@
 -- What reading a line against one form shows: that it has not the form, or has it with a wrong number, or with wrong data,
 -- or spells the numbers and data that were read. Assumes nothing.
 use Prim.Native.Nat.{ℕ, _+_, _≤_, _<_}
-use mathlib.Core.{Path._≡_, Path.refl, Path.sym, Path._∙_, Path.ap, Path.ap₂, Path.subst, List.List, List.[], List._∷_, List._++_}
+use mathlib.Core.{Path.{_≡_, refl, sym, _∙_, ap, ap₂, subst}, List.{List, [], _∷_, _++_}}
 use native.Mathlib.{Omega.arith, Numerals.add-one}
-use lib.{ListN.length, ListN.getD, ListN.drop, ListN.length-drop, ListN.drop-of-length-le, Seq.drop-cons, Seq.drop-drop, Seq.sets}
-use Rattle.spelling.specs.{Decimal.decimal, Decimal.greatest, Decimal.IsNumber, Hex.hex}
+use lib.{ListN.{length, getD, drop, length-drop, drop-of-length-le}, Seq.{drop-cons, drop-drop, sets}}
+use Rattle.spelling.{specs.{Decimal.{decimal, greatest, IsNumber}, Hex.hex}, proofs.Split.{upTo-split, upTo-within}}
 use Rattle.grammar.specs.Form.{Part, fixed, value, Value, number, pairs, lay, Each, Has, RightNumber, RightData, Given, spellings, spell}
-use Rattle.grammar.specs.Scan.{Fails, valueAt, NumberRead, DataRead, Reads, right, wrong, ended, longer, same, other, ValueRead, aValue, withNumber, nothingRead}
-use Rattle.grammar.specs.declared.Values.{Values}
-use Rattle.spelling.proofs.Split.{upTo-split, upTo-within}
+use Rattle.grammar.specs.Scan.{Fails, valueAt, NumberRead, DataRead, Reads, right, wrong, ended, longer, same, other, ValueRead, aValue}
+use Rattle.grammar.specs.{Scan.{withNumber, nothingRead}, declared.Values.Values}
 use Rattle.grammar.proofs.Fit.{Shaped, edge-after, shaped-after, ends-here, ends-only, byte-here, byte-only, after, value-here, value-only}
 
 -- the rest of a line, from a place on

@@ -1,15 +1,13 @@
 -- Laws of the table of forms: each row has the shape that reading asks, and a tag of its own.
 -- One test, computed at each row. Assumes nothing.
 use Prim.Native.Nat.{ℕ, zero, suc, _+_, _≤_, _<_, _-_}
-use mathlib.Core.{Path._≡_, Path.refl, Path.sym, Path._∙_, Path.ap, Path.ap₂, Path.subst, Bool.Bool, Bool.true, Bool.false, Bool.cond}
-use mathlib.Core.List.{List, [], _∷_}
-use native.Mathlib.{Omega.arith, Nat.le-of-suc-le-suc, Nat.not-suc-le-zero, Nat.suc-add, Nat.add-suc, Nat.add-zero, Nat.zero-add}
-use lib.{Dec.leb, Dec.eqb, ListN.length, ListN.getD}
+use mathlib.Core.{Path.{_≡_, refl, sym, _∙_, ap, ap₂, subst}, Bool.{Bool, true, false, cond}, List.{List, [], _∷_}}
+use native.Mathlib.{Omega.arith, Nat.{le-of-suc-le-suc, not-suc-le-zero, suc-add, add-suc, add-zero, zero-add}}
+use lib.{Dec.{leb, eqb}, ListN.{length, getD}}
 use borrow.Author.Tests.{leb-true, eqb-true}
-use Rattle.grammar.specs.Form.{Part, fixed, value, number, pairs, Has}
-use Rattle.protocol.specs.declared.Opening.{Opening as Sizes}
-use Rattle.grammar.specs.Table.{Numbered, opens, Row, rowAt}
+use Rattle.grammar.specs.{Form.{Part, fixed, value, number, pairs, Has}, Table.{Numbered, opens, Row, rowAt}}
 use Rattle.grammar.specs.Scan.{stepCount, openingCount, rowCount, numberCount, table, formOf, byteOf, tagOf, rowTag, valuesIn}
+use Rattle.protocol.specs.declared.Opening.{Opening as Sizes}
 use Rattle.grammar.proofs.Fit.{Edged, Shaped, byte-only}
 
 -- ---- the code's table of tags, as the rows of the definitions make it

@@ -1,17 +1,13 @@
 -- A line has one answer. Assumes nothing.
 use Prim.Native.Nat.{ℕ, _≤_, _<_, _-_}
-use mathlib.Core.{Path._≡_, Path.refl, Path.sym, Path._∙_, Path.ap, Path.ap₂, Path.subst, List.List, List.[], List._∷_}
-use mathlib.Core.Logic.{inl, inr}
+use mathlib.Core.{Path.{_≡_, refl, sym, _∙_, ap, ap₂, subst}, List.{List, [], _∷_}, Logic.{inl, inr}}
 use native.Mathlib.Omega.{arith}
 use lib.ListN.{length, getD}
-use Rattle.spelling.specs.{Bytes.All, Bytes.Byte, Decimal.decimal, Decimal.greatest, Hex.hex, Hex.HexDigit, Bytes.upTo}
-use Rattle.spelling.proofs.DecimalLaws.{Digit, decimal-digits, decimal-injective}
-use Rattle.spelling.proofs.HexLaws.{hex-digits, hex-injective}
+use Rattle.spelling.specs.{Bytes.{All, Byte, upTo}, Decimal.{decimal, greatest}, Hex.{hex, HexDigit}}
+use Rattle.spelling.proofs.{DecimalLaws.{Digit, decimal-digits, decimal-injective}, HexLaws.{hex-digits, hex-injective}}
 use Rattle.grammar.specs.Form.{Part, fixed, value, Value, number, pairs, Each, NoBlank, Has, RightNumber, RightData, Given, spellings, spell}
-use Rattle.grammar.specs.Table.{Row, rowAt}
-use Rattle.grammar.specs.Line.{said, Fits, LineOf, tooLong, noForm, wrongNumber, wrongData, spelt}
-use Rattle.grammar.specs.declared.Line.{Line}
-use Rattle.grammar.specs.declared.Line.the-variants.{Refused}
+use Rattle.grammar.specs.{Table.{Row, rowAt}, Line.{said, Fits, LineOf, tooLong, noForm, wrongNumber, wrongData, spelt}}
+use Rattle.grammar.specs.declared.Line.{Line, the-variants.Refused}
 use Rattle.grammar.proofs.Fit.{Shaped, edge-after, shaped-after, byte-only, value-only}
 
 -- ---- the values of a line are determined by its form

@@ -1,13 +1,12 @@
 -- A line read against a form, a text and a value at a time: what holds before each key, and that each key keeps it. Assumes nothing.
 use Prim.Native.Nat.{ℕ, zero, suc, _+_, _/_, _%_, _≤_, _<_, _-_, suc-le-suc}
-use mathlib.Core.{Path._≡_, Path.refl, Path.subst, List.List, List.[], List._∷_, Logic._⊎_, Logic.inl, Logic.inr}
-use native.Mathlib.{Omega.arith, Nat.add-zero, Nat.le-of-suc-le-suc}
+use mathlib.Core.{Path.{_≡_, refl, subst}, List.{List, [], _∷_}, Logic.{_⊎_, inl, inr}}
+use native.Mathlib.{Omega.arith, Nat.{add-zero, le-of-suc-le-suc}}
 use lib.ListN.{length, getD, take, drop}
-use Rattle.spelling.specs.Bytes.{Below}
-use Rattle.spelling.proofs.{Lists.le-or-lt, Decide.Told, Decide.same-number, Split.upTo-within, Split.upTo-part}
+use Rattle.spelling.{specs.Bytes.Below, proofs.{Lists.le-or-lt, Decide.{Told, same-number}, Split.{upTo-within, upTo-part}}}
 use Rattle.grammar.specs.Form.{Part, fixed, value, Value, number, pairs}
-use Rattle.grammar.specs.Scan.{numberCount, valueAt, texted, keyText, keyValue, fieldParts, TextAt, After, there, elsewhere, Filled, ValueRead, Reads, right, wrong, ended, longer, same, other, aValue, nothingRead}
-use Rattle.grammar.specs.declared.Values.{Values}
+use Rattle.grammar.specs.Scan.{numberCount, valueAt, texted, keyText, keyValue, fieldParts, TextAt, After, there, elsewhere, Filled, ValueRead}
+use Rattle.grammar.specs.{Scan.{Reads, right, wrong, ended, longer, same, other, aValue, nothingRead}, declared.Values.Values}
 
 -- ---- a text
 

@@ -1,9 +1,9 @@
 -- A form of the grammar: a line as 01 writes it, where N stands for a number, H for data, and every other byte for itself.
 -- Assumes nothing.
 use Prim.Native.Nat.{ℕ, _+_, _≤_, _<_}
-use mathlib.Core.{Path._≡_, Bool.cond, List.List, List.[], List._∷_, List._++_}
+use mathlib.Core.{Path._≡_, Bool.cond, List.{List, [], _∷_, _++_}}
 use lib.{Dec.eqb, ListN.length}
-use Rattle.spelling.specs.{Bytes.All, Bytes.Byte, Bytes.Without, Decimal.decimal, Decimal.greatest, Decimal.IsNumber, Hex.hex, Hex.IsData}
+use Rattle.spelling.specs.{Bytes.{All, Byte, Without}, Decimal.{decimal, greatest, IsNumber}, Hex.{hex, IsData}}
 
 -- the kinds of value: N, a number, and H, data as hex pairs
 pub data Value : Type 0 where

@@ -3,10 +3,8 @@ use Prim.Native.Nat.{ℕ, _≤_, _<_, _-_}
 use mathlib.Core.{Path._≡_, List.List}
 use lib.ListN.{length, getD}
 use Rattle.spelling.specs.Hex.{hex}
-use Rattle.grammar.specs.Form.{Has, Each, RightNumber, RightData, Given, spell}
-use Rattle.grammar.specs.Table.{Says, opens, calls, Row, rowAt}
-use Rattle.grammar.specs.declared.Line.{Line}
-use Rattle.grammar.specs.declared.Line.the-variants.{Opening, Step, Refused}
+use Rattle.grammar.specs.{Form.{Has, Each, RightNumber, RightData, Given, spell}, Table.{Says, opens, calls, Row, rowAt}}
+use Rattle.grammar.specs.declared.Line.{Line, the-variants.{Opening, Step, Refused}}
 
 -- what a line says, as its answer; data are from start to end
 abbrev pub said : Says → ℕ → ℕ → Line

@@ -1,13 +1,11 @@
 -- How one line is read against one form, key by key: what the private functions promise. The public promises rest on `Line`
 -- alone. Assumes nothing.
 use Prim.Native.Nat.{ℕ, zero, suc, _+_, _*_, _/_, _%_, _≤_, _<_}
-use mathlib.Core.{Path._≡_, Bool.cond, List.List, List.[], List._∷_, List._++_}
-use lib.{Dec.eqb, ListN.length, ListN.drop, ListN.getD, ListN.set}
-use Rattle.spelling.specs.{Bytes.upTo, Bytes.Below, Text.text, Decimal.decimal, Decimal.greatest, Decimal.IsNumber, Hex.IsData}
-use Rattle.grammar.specs.{Form.Part, Form.fixed, Form.value, Form.Value, Form.number, Form.pairs, Form.Has, Line.said}
-use Rattle.grammar.specs.Table.{calls, Row, openings, steps, rowAt}
-use Rattle.grammar.specs.declared.{Line.Line, Values.Values, Found.Found}
-use Rattle.grammar.specs.declared.Line.the-variants.{Refused}
+use mathlib.Core.{Path._≡_, Bool.cond, List.{List, [], _∷_, _++_}}
+use lib.{Dec.eqb, ListN.{length, drop, getD, set}}
+use Rattle.spelling.specs.{Bytes.{upTo, Below}, Text.text, Decimal.{decimal, greatest, IsNumber}, Hex.IsData}
+use Rattle.grammar.specs.{Form.{Part, fixed, value, Value, number, pairs, Has}, Line.said, Table.{calls, Row, openings, steps, rowAt}}
+use Rattle.grammar.specs.declared.{Line.{Line, the-variants.Refused}, Values.Values, Found.Found}
 use Rattle.protocol.specs.declared.Call.{Call}
 
 -- the value that starts at a place of a line: up to the next blank or the end

@@ -1,7 +1,6 @@
 -- Each line has exactly one number. Assumes nothing.
 use mathlib.Core.Path.{refl, _∙_, ap}
-use Rattle.grammar.specs.Line.{numberOf}
-use Rattle.grammar.proofs.OneAnswer.{one-answer-theorem}
+use Rattle.grammar.{specs.Line.numberOf, proofs.OneAnswer.one-answer-theorem}
 use Rattle.host.specs.Verdict.{OneVerdictTheorem}
 
 pub one-verdict-theorem : OneVerdictTheorem

@@ -2,8 +2,7 @@
 use Prim.Native.Nat.{ℕ}
 use mathlib.Core.{Path._≡_, List.List}
 use Rattle.spelling.specs.One.{One}
-use Rattle.grammar.specs.{Table.rowsOf, Line.LineOf, Line.numberOf}
-use Rattle.grammar.specs.declared.Line.{Line}
+use Rattle.grammar.specs.{Table.rowsOf, Line.{LineOf, numberOf}, declared.Line.Line}
 
 -- r is the number of the answer that the bytes s have as a step line of a `fabric=1` journal
 pub record Verdict (s : List ℕ) (r : ℕ) : Type 0 where

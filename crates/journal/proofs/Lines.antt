@@ -1,12 +1,10 @@
 -- Laws of the lines of a journal. Assumes nothing.
 use Prim.Native.Nat.{ℕ, _+_, _≤_, _<_, _-_}
-use mathlib.Core.{Path._≡_, Path.sym, Path._∙_, Path.ap, Path.subst, List.List, List._∷_, List._++_, List.append-nil, Logic.inl, Logic.inr}
+use mathlib.Core.{Path.{_≡_, sym, _∙_, ap, subst}, List.{List, _∷_, _++_, append-nil}, Logic.{inl, inr}}
 use native.Mathlib.{Omega.arith, Numerals.add-one}
-use lib.{ListN.length, ListN.getD, ListN.take, ListN.drop, ListN.length-drop, ListN.drop-of-length-le, Seq.drop-cons, Seq.drop-drop}
-use Rattle.spelling.specs.Bytes.{Without, upTo}
-use Rattle.spelling.proofs.Split.{Edge, upTo-clean, upTo-split, upTo-part}
-use Rattle.grammar.specs.{Table.rowsOf, Line.LineOf}
-use Rattle.grammar.specs.declared.Line.{Line}
+use lib.{ListN.{length, getD, take, drop, length-drop, drop-of-length-le}, Seq.{drop-cons, drop-drop}}
+use Rattle.spelling.{specs.Bytes.{Without, upTo}, proofs.Split.{Edge, upTo-clean, upTo-split, upTo-part}}
+use Rattle.grammar.specs.{Table.rowsOf, Line.LineOf, declared.Line.Line}
 use Rattle.journal.specs.Journal.{placed, LineAt, NextOf, aLine}
 
 -- the line from a place up to a newline at e, or to the end

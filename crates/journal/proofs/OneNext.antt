@@ -1,18 +1,12 @@
 -- At each place of a journal there is exactly one answer. Assumes nothing.
 use Prim.Native.Nat.{ℕ, _+_, _≤_, _<_}
-use mathlib.Core.{Path._≡_, Path.refl, Path.sym, Path._∙_, Path.ap, Path.ap₂, Path.subst, List.List, List.[], List._∷_, List._++_}
-use mathlib.Core.Logic.{_⊎_, inl, inr}
+use mathlib.Core.{Path.{_≡_, refl, sym, _∙_, ap, ap₂, subst}, List.{List, [], _∷_, _++_}, Logic.{_⊎_, inl, inr}}
 use native.Mathlib.Omega.{arith}
 use lib.ListN.{length, drop, length-append, length-drop}
-use Rattle.spelling.specs.Bytes.{Without, upTo}
-use Rattle.spelling.proofs.{Lists.le-or-lt, Decide.Told, Decide.same-number, Split.upTo-unique}
-use Rattle.grammar.specs.{Table.rowsOf, Line.LineOf}
-use Rattle.grammar.specs.declared.Line.{Line}
-use Rattle.grammar.proofs.OneAnswer.{one-answer-theorem}
-use Rattle.journal.specs.Journal.{placed, LineAt, NextOf, tooMuch, empty, ended, unended, aLine}
-use Rattle.journal.specs.Theorems.{OneNextTheorem}
-use Rattle.journal.specs.declared.Next.{Next}
-use Rattle.journal.specs.declared.Next.the-variants.{End, Refused}
+use Rattle.spelling.{specs.Bytes.{Without, upTo}, proofs.{Lists.le-or-lt, Decide.{Told, same-number}, Split.upTo-unique}}
+use Rattle.grammar.{specs.{Table.rowsOf, Line.LineOf, declared.Line.Line}, proofs.OneAnswer.one-answer-theorem}
+use Rattle.journal.specs.{Journal.{placed, LineAt, NextOf, tooMuch, empty, ended, unended, aLine}, Theorems.OneNextTheorem}
+use Rattle.journal.specs.declared.Next.{Next, the-variants.{End, Refused}}
 use Rattle.journal.proofs.Lines.{line-here, none-here}
 
 -- a list that has a byte in it is not without it

@@ -1,17 +1,13 @@
 -- No byte is passed over: however far a journal was read on from its start, the lines that were read, joined, are the bytes up to
 -- the place reached, and at the end they are the journal. Assumes nothing.
 use Prim.Native.Nat.{ℕ, _+_}
-use mathlib.Core.{Path._≡_, Path.refl, Path.sym, Path._∙_, Path.ap, Bool.true, Bool.false}
-use mathlib.Core.List.{List, [], _∷_, _++_, append-assoc}
+use mathlib.Core.{Path.{_≡_, refl, sym, _∙_, ap}, Bool.{true, false}, List.{List, [], _∷_, _++_, append-assoc}}
 use native.Mathlib.Omega.{arith}
-use lib.ListN.{length, take, drop, length-append, length-take, length-drop, take-append-drop}
-use lib.Seq.{take-at, take-all}
+use lib.{ListN.{length, take, drop, length-append, length-take, length-drop, take-append-drop}, Seq.{take-at, take-all}}
 use Rattle.spelling.specs.Bytes.{Without}
-use Rattle.grammar.specs.declared.Line.{Line}
-use Rattle.grammar.specs.declared.Line.the-variants.{Opening as OpeningLine, Step as StepLine, Refused as RefusedLine}
+use Rattle.grammar.specs.declared.Line.{Line, the-variants.{Opening as OpeningLine, Step as StepLine, Refused as RefusedLine}}
 use Rattle.journal.specs.Journal.{placed, LineAt, NextOf, tooMuch, empty, ended, unended, aLine, goesOn, placeAfter}
-use Rattle.journal.specs.Theorems.{Reached, start, on, joined, Lines, Passed, PassedTheorem}
-use Rattle.journal.specs.declared.Next.{Next}
+use Rattle.journal.specs.{Theorems.{Reached, start, on, joined, Lines, Passed, PassedTheorem}, declared.Next.Next}
 
 lines-one-more : (ls : List (List ℕ)) (l : List ℕ) → Lines ls → Without 10 l → Lines (ls ++ (l ∷ []))
 lines-one-more [] l a w = (w, tt)

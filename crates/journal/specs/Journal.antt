@@ -1,14 +1,12 @@
 -- What is at a place of a journal: 01's next line, the end, or a refusal 10 to 14. Assumes nothing.
 use Prim.Native.Nat.{ℕ, _+_, _≤_, _<_}
-use mathlib.Core.{Path._≡_, Bool.Bool, Bool.true, Bool.false, List.List, List._∷_, List._++_}
+use mathlib.Core.{Path._≡_, Bool.{Bool, true, false}, List.{List, _∷_, _++_}}
 use lib.ListN.{length, drop}
 use denote.Ref.{now}
 use Rattle.spelling.specs.Bytes.{Without}
 use Rattle.grammar.specs.{Table.rowsOf, Line.LineOf}
-use Rattle.grammar.specs.declared.Line.{Line}
-use Rattle.grammar.specs.declared.Line.the-variants.{Opening as OpeningLine, Step as StepLine, Refused as RefusedLine}
-use Rattle.journal.specs.declared.{Next.Next, Read.Read, Reader.Reader, Step.Step as Reading}
-use Rattle.journal.specs.declared.Next.the-variants.{Opening, Step, End, Refused}
+use Rattle.grammar.specs.declared.Line.{Line, the-variants.{Opening as OpeningLine, Step as StepLine, Refused as RefusedLine}}
+use Rattle.journal.specs.declared.{Next.{Next, the-variants.{Opening, Step, End, Refused}}, Read.Read, Reader.Reader, Step.Step as Reading}
 
 -- a line's answer, where the line is at a place of the journal and the next one at `next`
 abbrev pub placed : Line → ℕ → ℕ → Next

@@ -1,10 +1,9 @@
 -- What is proved of reading a journal: each place has exactly one answer, and no byte is passed over. Assumes nothing.
 use Prim.Native.Nat.{ℕ, _+_, _≤_}
-use mathlib.Core.{Path._≡_, Bool.true, List.List, List.[], List._∷_, List._++_}
+use mathlib.Core.{Path._≡_, Bool.true, List.{List, [], _∷_, _++_}}
 use lib.ListN.{length, take}
 use Rattle.spelling.specs.{Bytes.Without, One.One}
-use Rattle.journal.specs.Journal.{NextOf, goesOn, placeAfter, formAfter}
-use Rattle.journal.specs.declared.Next.{Next}
+use Rattle.journal.specs.{Journal.{NextOf, goesOn, placeAfter, formAfter}, declared.Next.Next}
 
 -- each place of a journal has exactly one answer
 abbrev pub OneNextTheorem : Type 0

@@ -1,12 +1,10 @@
 -- Reading on comes nearer to the journal's end, and no more lines are read than bytes passed. Assumes nothing.
 use Prim.Native.Nat.{ℕ, _≤_, _<_}
-use mathlib.Core.{Path._≡_, Path.ap, Bool.true, Bool.false, List.List}
+use mathlib.Core.{Path.{_≡_, ap}, Bool.{true, false}, List.List}
 use native.Mathlib.Omega.{arith}
 use lib.ListN.{length, length-append, length-drop}
-use Rattle.grammar.specs.declared.Line.{Line}
-use Rattle.grammar.specs.declared.Line.the-variants.{Opening as OpeningLine, Step as StepLine, Refused as RefusedLine}
-use Rattle.journal.specs.Journal.{placed, LineAt, NextOf, tooMuch, empty, ended, unended, aLine, goesOn, placeAfter}
-use Rattle.journal.specs.Theorems.{Reached, start, on}
+use Rattle.grammar.specs.declared.Line.{Line, the-variants.{Opening as OpeningLine, Step as StepLine, Refused as RefusedLine}}
+use Rattle.journal.specs.{Journal.{placed, LineAt, NextOf, tooMuch, empty, ended, unended, aLine, goesOn, placeAfter}, Theorems.{Reached, start, on}}
 use Rattle.journal.specs.declared.Next.{Next}
 
 stopped : {A : Type 0} → false ≡ true → A

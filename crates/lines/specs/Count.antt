@@ -1,7 +1,7 @@
 -- A whole journal read: how many lines it has up to its end, or up to the first that is refused. Assumes nothing.
 use Prim.Native.Nat.{ℕ}
 use mathlib.Core.{Path._≡_, Bool.false, List.List}
-use Rattle.journal.specs.{Journal.NextOf, Journal.goesOn, Theorems.Reached}
+use Rattle.journal.specs.{Journal.{NextOf, goesOn}, Theorems.Reached}
 use Rattle.lines.specs.declared.LineCount.{LineCount}
 
 -- so many lines were read on from the start, to a place where reading does not go on, and what is there

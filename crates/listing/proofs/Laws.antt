@@ -1,18 +1,14 @@
 -- Laws of a line that is built back to front, and of one text put after another. Assumes nothing.
 use Prim.Native.Nat.{ℕ, _+_, _-_, _*_, _≤_, _<_}
-use mathlib.Core.Path.{_≡_, _∙_, ap, subst}
-use mathlib.Core.List.{List, _++_, append-assoc, append-nil}
+use mathlib.Core.{Path.{_≡_, _∙_, ap, subst}, List.{List, _++_, append-assoc, append-nil}}
 use native.Mathlib.Omega.{arith}
-use lib.ListN.{length, take, drop, length-append, length-drop, drop-of-length-le}
-use lib.Seq.{take-all}
+use lib.{ListN.{length, take, drop, length-append, length-drop, drop-of-length-le}, Seq.take-all}
 use borrow.Author.Tests.{le-leb}
-use Rattle.spelling.specs.{Over.over, Over.PutAt, Over.PutBefore, Decimal.decimal, Hex.hex, Text.text, declared.Put.Put}
-use Rattle.spelling.specs.declared.Put.the-variants.{End, Short}
+use Rattle.spelling.specs.{Over.{over, PutAt, PutBefore}, Decimal.decimal, Hex.hex, Text.text, declared.Put.{Put, the-variants.{End, Short}}}
 use Rattle.spelling.proofs.OverLaws.{over-from, over-length, over-append, before-place, before-laid, before-from, decimal-short, put-done, put-short}
 use Rattle.spelling.proofs.HexLaws.{hex-length}
 use Rattle.protocol.specs.{declared.Name.Name, Step.fence}
-use Rattle.listing.specs.Record.{nameText, doneText, commitText}
-use Rattle.listing.specs.Back.{Room, Field, Tail, names, Named, three, access}
+use Rattle.listing.specs.{Record.{nameText, doneText, commitText}, Back.{Room, Field, Tail, names, Named, three, access}}
 
 -- a text that was put where it fits
 module _ (old : List ℕ) (at : ℕ) (t new : List ℕ) (r : Put) (p : PutAt old at t new r) (h : at + length t ≤ length old) where

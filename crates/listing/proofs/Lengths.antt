@@ -3,10 +3,9 @@ use Prim.Native.Nat.{ℕ, _+_, _*_, _≤_}
 use mathlib.Core.List.{List}
 use native.Mathlib.Omega.{arith}
 use lib.ListN.{length, length-append}
-use Rattle.protocol.specs.{declared.Place.Place, declared.Name.Name, declared.Counts.Counts, declared.Answer.Answer, Step.meaning}
-use Rattle.protocol.specs.declared.Answer.the-variants.{Refused, Done, Commit}
-use Rattle.protocol.specs.declared.Kind.the-variants.{Load, Store, Fence}
-use Rattle.protocol.specs.declared.Name.the-variants.{Open, Ask, Recall, Share, Renew, Own, Drop, Evict, Advance, Yield, Take}
+use Rattle.protocol.specs.declared.{Place.Place, Name.{Name, the-variants.{Open, Ask, Recall, Share, Renew, Own, Drop, Evict, Advance, Yield, Take}}}
+use Rattle.protocol.specs.declared.{Counts.Counts, Answer.{Answer, the-variants.{Refused, Done, Commit}}, Kind.the-variants.{Load, Store, Fence}}
+use Rattle.protocol.specs.Step.{meaning}
 use Rattle.spelling.proofs.{OverLaws.decimal-short, HexLaws.hex-length}
 use Rattle.listing.specs.Record.{nameText, recordText, endText}
 

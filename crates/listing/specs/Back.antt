@@ -1,7 +1,6 @@
 -- A line of text that is built back to front, at the end of a buffer of 128 bytes. What it holds then. Assumes nothing.
 use Prim.Native.Nat.{ℕ, _+_, _-_, _≤_}
-use mathlib.Core.Path.{_≡_}
-use mathlib.Core.List.{List, _++_}
+use mathlib.Core.{Path._≡_, List.{List, _++_}}
 use lib.ListN.{length, take, drop}
 use Rattle.spelling.specs.{Text.text, Decimal.decimal, Hex.hex}
 use Rattle.protocol.specs.declared.Name.{Name}

@@ -1,19 +1,14 @@
 -- Every journal has exactly one listing.
 use Prim.Native.Nat.{ℕ}
-use mathlib.Core.Path.{_≡_, refl, _∙_, ap, ap₂, subst₂}
-use mathlib.Core.List.{List, _++_}
-use mathlib.Core.Logic.{inl, inr}
+use mathlib.Core.{Path.{_≡_, refl, _∙_, ap, ap₂, subst₂}, List.{List, _++_}, Logic.{inl, inr}}
 use native.Mathlib.Omega.{arith}
-use Rattle.protocol.specs.{Buffers.Bytes, Refusals.openRefusal, Machine.freshMachine, Step.openReply, Run.Given, Run.place, Counts.nothingMet}
+use Rattle.protocol.specs.{Buffers.Bytes, Refusals.openRefusal, Machine.freshMachine, Step.openReply, Run.{Given, place}, Counts.nothingMet}
 use Rattle.protocol.specs.declared.Opening.{Opening as Sizes}
 use Rattle.spelling.proofs.Decide.{Told, same-number}
-use Rattle.journal.specs.{Journal.NextOf, declared.Next.Next}
-use Rattle.journal.specs.declared.Next.the-variants.{Opening, Step, End, Refused}
-use Rattle.journal.proofs.OneNext.{one-next-theorem}
+use Rattle.journal.{specs.{Journal.NextOf, declared.Next.{Next, the-variants.{Opening, Step, End, Refused}}}, proofs.OneNext.one-next-theorem}
 use Rattle.listing.specs.Record.{recordText}
-use Rattle.driver.specs.Listing.{Ending, NotOpened, outside, refusedFirst, notOpened}
-use Rattle.driver.proofs.Reading.{known}
-use Rattle.playing.specs.{Listing.Reads, Listing.listingFrom, Listing.Listing, Listing.opens, Listing.fails, Theorems.OneListingTheorem}
+use Rattle.driver.{specs.Listing.{Ending, NotOpened, outside, refusedFirst, notOpened}, proofs.Reading.known}
+use Rattle.playing.specs.{Listing.{Reads, listingFrom, Listing, opens, fails}, Theorems.OneListingTheorem}
 use Rattle.playing.proofs.OneReading.{same-next, reads-same, one-reading-theorem}
 
 -- ---- there is no other

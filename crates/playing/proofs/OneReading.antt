@@ -1,17 +1,13 @@
 -- Every journal reads in exactly one way.
 use Prim.Native.Nat.{ℕ, zero, suc, _+_, _-_, _≤_, _<_}
-use mathlib.Core.Path.{_≡_, refl, sym, _∙_, ap, ap₂, subst}
-use mathlib.Core.List.{List, _∷_, _++_}
+use mathlib.Core.{Path.{_≡_, refl, sym, _∙_, ap, ap₂, subst}, List.{List, _∷_, _++_}}
 use native.Mathlib.Omega.{arith}
 use lib.ListN.{length}
-use Rattle.protocol.specs.{Buffers.Bytes, Buffers.part, Run.Given, declared.Call.Call}
+use Rattle.protocol.specs.{Buffers.{Bytes, part}, Run.Given, declared.Call.Call}
 use Rattle.spelling.proofs.HexLaws.{hex-length, hex-injective}
-use Rattle.journal.specs.{Journal.NextOf, declared.Next.Next}
-use Rattle.journal.specs.declared.Next.the-variants.{Opening, Step, End, Refused}
-use Rattle.journal.proofs.OneNext.{one-next-theorem}
-use Rattle.driver.specs.Listing.{Ending, Data, noData, someData, Between, noLine, aLine, EndsAt, atEnd, atRefusal}
-use Rattle.driver.proofs.Reading.{known}
-use Rattle.playing.specs.{Listing.Reads, Theorems.OneReading, Theorems.OneReadingTheorem}
+use Rattle.journal.{specs.{Journal.NextOf, declared.Next.{Next, the-variants.{Opening, Step, End, Refused}}}, proofs.OneNext.one-next-theorem}
+use Rattle.driver.{specs.Listing.{Ending, Data, noData, someData, Between, noLine, aLine, EndsAt, atEnd, atRefusal}, proofs.Reading.known}
+use Rattle.playing.specs.{Listing.Reads, Theorems.{OneReading, OneReadingTheorem}}
 
 -- ---- at one place
 

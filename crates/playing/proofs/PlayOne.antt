@@ -1,16 +1,13 @@
 -- `play` has one answer. Two runs from one checkpoint that both meet the contract made the same steps: of two that made different ones, the
 -- shorter stopped although the longer, with an output of the same length, had room for the next piece.
 use Prim.Native.Nat.{ℕ, _+_, _≤_, _<_}
-use mathlib.Core.Path.{_≡_, refl, sym, _∙_, ap}
-use mathlib.Core.List.{List, [], _∷_, _++_}
+use mathlib.Core.{Path.{_≡_, refl, sym, _∙_, ap}, List.{List, [], _∷_, _++_}}
 use native.Mathlib.Omega.{arith}
-use lib.ListN.{length, length-append}
-use lib.Seq.{append-snoc}
-use Rattle.protocol.specs.{Buffers.Bytes, Machine.Machine, Machine.machine, Run.Given, Run.Record, Run.run, Counts.plus, Counts.total}
+use lib.{ListN.{length, length-append}, Seq.append-snoc}
+use Rattle.protocol.specs.{Buffers.Bytes, Machine.{Machine, machine}, Run.{Given, Record, run}, Counts.{plus, total}}
 use Rattle.driver.specs.Listing.{Ending, Between, aLine, EndsAt, lines, lastLines}
-use Rattle.driver.specs.Play.{runFrom, Leads, Piece, aStep, theEnd, Tells, finished, more, unfit}
-use Rattle.driver.specs.{declared.Checkpoint.Checkpoint, declared.Progress.Progress}
-use Rattle.driver.proofs.Running.{given, lines-append, run-records, lines-more}
+use Rattle.driver.specs.{Play.{runFrom, Leads, Piece, aStep, theEnd, Tells, finished, more, unfit}, declared.Checkpoint.Checkpoint}
+use Rattle.driver.{specs.declared.Progress.Progress, proofs.Running.{given, lines-append, run-records, lines-more}}
 use Rattle.playing.specs.Theorems.{PlayOneTheorem}
 use Rattle.playing.proofs.OneReading.{step-same, ends-same, no-end, Compared, alike, fewer, further, compare, none-after}
 use Rattle.playing.proofs.Writing.{Fills, room-same, written-same, output-same}

@@ -1,34 +1,26 @@
 -- What is written in one piece has at most 246 bytes. So with an output of that length each call of `start` and of `play` writes something, and
 -- the calls come to the listing's last line.
 use Prim.Native.Nat.{ℕ, suc, _+_, _-_, _≤_, _<_}
-use mathlib.Core.Path.{_≡_, refl, sym, _∙_, ap}
-use mathlib.Core.Bool.{Bool, true, false}
-use mathlib.Core.List.{List, [], _∷_}
+use mathlib.Core.{Path.{_≡_, refl, sym, _∙_, ap}, Bool.{Bool, true, false}, List.{List, [], _∷_}}
 use native.Mathlib.Omega.{arith}
-use lib.Dec.{eqb}
-use lib.ListN.{length, drop, length-append, length-take, length-drop}
-use lib.Seq.{length-take-le}
+use lib.{Dec.eqb, ListN.{length, drop, length-append, length-take, length-drop}, Seq.length-take-le}
 use borrow.Author.Tests.{eqb-true, ne-eqb, le-leb}
-use Rattle.protocol.specs.{Pick.pick, Buffers.Bytes, Buffers.copyStart, Buffers.copyBytes, About.about, Machine.Machine, Machine.machine}
-use Rattle.protocol.specs.{Refusals.openRefusal, Refusals.wrongCount, Refusals.refusal, Run.Given, Run.Record, Run.place, Run.run}
+use Rattle.protocol.specs.{Pick.pick, Buffers.{Bytes, copyStart, copyBytes}, About.about, Machine.{Machine, machine}}
+use Rattle.protocol.specs.{Refusals.{openRefusal, wrongCount, refusal}, Run.{Given, Record, place, run}}
 use Rattle.protocol.specs.Step.{refused, done as reply, meaning, actBytes, commitBytes, openReply, accepted, step}
-use Rattle.protocol.specs.{Counts.counts, Counts.countsOf, Counts.plus, Counts.total, declared.Place.Place, declared.Counts.Counts}
-use Rattle.protocol.specs.{declared.Opening.Opening as Sizes, declared.Call.Call, declared.Act.Act, declared.Answer.the-variants.Done}
-use Rattle.protocol.specs.declared.Act.the-variants.{Load, Store, Fence, Advance, Transfer}
-use Rattle.protocol.specs.{declared.Name.the-variants.Open, declared.Effect.Effect}
-use Rattle.protocol.proofs.{Places.inside, Refusals.machine-fit, Refusals.named, Refusals.store-width, Refusals.not-refused}
-use Rattle.grammar.specs.declared.Line.{Line}
-use Rattle.grammar.specs.declared.Line.the-variants.{Opening as OpeningLine, Step as StepLine, Refused as RefusedLine}
+use Rattle.protocol.specs.{Counts.{counts, countsOf, plus, total}, declared.{Place.Place, Counts.Counts, Opening.Opening as Sizes, Call.Call}}
+use Rattle.protocol.specs.declared.{Act.{Act, the-variants.{Load, Store, Fence, Advance, Transfer}}, Answer.the-variants.Done}
+use Rattle.protocol.{specs.declared.{Name.the-variants.Open, Effect.Effect}, proofs.Places.inside}
+use Rattle.protocol.proofs.Refusals.{machine-fit, named, store-width, not-refused}
+use Rattle.grammar.specs.declared.Line.{Line, the-variants.{Opening as OpeningLine, Step as StepLine, Refused as RefusedLine}}
 use Rattle.journal.specs.Journal.{placed, LineAt, NextOf, tooMuch, empty, ended as atLast, unended, aLine as wholeLine, placeAfter}
 use Rattle.journal.specs.declared.Next.{Next}
-use Rattle.listing.specs.Record.{recordText}
-use Rattle.listing.proofs.Lengths.{record-length, end-length}
+use Rattle.listing.{specs.Record.recordText, proofs.Lengths.{record-length, end-length}}
 use Rattle.driver.specs.Listing.{Ending, ended, stopped, Between, noLine, aLine, lines, lastLines, notOpened}
-use Rattle.driver.specs.Play.{runFrom, few, resumable, Leads, Piece, aStep, theEnd, Tells, finished, more, unfit, Plays}
-use Rattle.driver.specs.Play.{firstCheckpoint, Begins, opens, fails as turned, noRoom, noRoomToEnd, Starts}
-use Rattle.driver.specs.{declared.Checkpoint.Checkpoint, declared.Progress.Progress, declared.Played.Played}
-use Rattle.driver.specs.declared.Progress.the-variants.{More, Short}
-use Rattle.driver.proofs.{Reading.known, Running.run-length, Putting.refused-length, Counting.few-one, Counting.few-sum, Loop.Resumes, Loop.resumes}
+use Rattle.driver.specs.Play.{runFrom, few, resumable, Leads, Piece, aStep, theEnd, Tells, finished, more, unfit, Plays, firstCheckpoint, Begins}
+use Rattle.driver.specs.{Play.{opens, fails as turned, noRoom, noRoomToEnd, Starts}, declared.Checkpoint.Checkpoint}
+use Rattle.driver.{specs.declared.{Progress.{Progress, the-variants.{More, Short}}, Played.Played}, proofs.{Reading.known, Running.run-length}}
+use Rattle.driver.proofs.{Putting.refused-length, Counting.{few-one, few-sum}, Loop.{Resumes, resumes}}
 use Rattle.playing.specs.Theorems.{pieceBytes, Begun, listed, running, Onward, ends, further, StartAdvancesTheorem, PlayAdvancesTheorem}
 
 -- ---- how long a piece is

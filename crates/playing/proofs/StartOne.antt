@@ -1,18 +1,15 @@
 -- `start` has one answer.
 use Prim.Native.Nat.{ℕ, _+_, _≤_, _<_}
-use mathlib.Core.Path.{_≡_, refl, sym, _∙_, ap}
-use mathlib.Core.List.{[]}
+use mathlib.Core.{Path.{_≡_, refl, sym, _∙_, ap}, List.[]}
 use native.Mathlib.Omega.{arith}
 use lib.ListN.{length}
 use Rattle.protocol.specs.{Buffers.Bytes, Refusals.openRefusal, Step.openReply, Run.place, declared.Opening.Opening as Sizes}
 use Rattle.journal.specs.{Journal.NextOf, declared.Next.the-variants.Opening}
 use Rattle.listing.specs.Record.{recordText}
-use Rattle.driver.specs.{Listing.NotOpened, Listing.notOpened, declared.Checkpoint.Checkpoint, declared.Progress.Progress}
+use Rattle.driver.specs.{Listing.{NotOpened, notOpened}, declared.{Checkpoint.Checkpoint, Progress.{Progress, the-variants.{Finished, More, Short}}}}
 use Rattle.driver.specs.Play.{firstCheckpoint, unopened, Begins, opens, fails, noRoom, noRoomToEnd}
-use Rattle.driver.specs.declared.Progress.the-variants.{Finished, More, Short}
 use Rattle.playing.specs.Theorems.{StartOneTheorem}
-use Rattle.playing.proofs.{OneReading.same-next, OneListing.refusal-same, OneListing.opened-not}
-use Rattle.playing.proofs.Writing.{Fills, room-same, written-same, output-same}
+use Rattle.playing.proofs.{OneReading.same-next, OneListing.{refusal-same, opened-not}, Writing.{Fills, room-same, written-same, output-same}}
 
 -- the first text of a journal, the checkpoint after it, and whether it goes on
 data First (j : Bytes) : Bytes → Checkpoint → Progress → Type 0 where

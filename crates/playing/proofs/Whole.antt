@@ -1,18 +1,16 @@
 -- The texts of the calls that play a journal, put together, are its listing.
 use Prim.Native.Nat.{ℕ, _+_}
-use mathlib.Core.Path.{_≡_, sym, _∙_, ap, ap₂, subst}
-use mathlib.Core.List.{List, [], _++_, append-nil, append-assoc}
+use mathlib.Core.{Path.{_≡_, sym, _∙_, ap, ap₂, subst}, List.{List, [], _++_, append-nil, append-assoc}}
 use native.Mathlib.Omega.{arith}
 use lib.ListN.{length, replicate}
-use Rattle.protocol.specs.{Buffers.Bytes, Buffers.privateLength, Buffers.sharedLength, Machine.Machine, Machine.machine, Counts.plus, Counts.total}
-use Rattle.protocol.specs.{Run.Given, Run.Record, Run.run, declared.Counts.Counts}
-use Rattle.driver.specs.{Listing.Ending, Listing.noLine, Listing.EndsAt, Listing.lines, Listing.lastLines, declared.Checkpoint.Checkpoint}
+use Rattle.protocol.specs.{Buffers.{Bytes, privateLength, sharedLength}, Machine.{Machine, machine}, Counts.{plus, total}, Run.{Given, Record, run}}
+use Rattle.protocol.specs.declared.Counts.{Counts}
+use Rattle.driver.specs.{Listing.{Ending, noLine, EndsAt, lines, lastLines}, declared.Checkpoint.Checkpoint}
+use Rattle.driver.specs.declared.Progress.{Progress, the-variants.{Finished, More}}
 use Rattle.driver.specs.Play.{runFrom, Leads, Tells, finished, more, unfit, firstCheckpoint, Begins, opens, fails, noRoom, noRoomToEnd}
-use Rattle.driver.specs.{declared.Progress.Progress, declared.Progress.the-variants.Finished, declared.Progress.the-variants.More}
-use Rattle.driver.proofs.Running.{steps-append, lines-append, run-records, run-length}
-use Rattle.driver.proofs.Counting.{plus-assoc, plus-none, total-append, total-steps}
+use Rattle.driver.proofs.{Running.{steps-append, lines-append, run-records, run-length}, Counting.{plus-assoc, plus-none, total-append, total-steps}}
 use Rattle.playing.specs.Listing.{Reads, listingFrom, Listing, opens as opensListing, fails as failsListing}
-use Rattle.playing.specs.{Calls.joined, Calls.Plays-on, Calls.last, Calls.next, Calls.over, Calls.begun, Theorems.WholeTheorem}
+use Rattle.playing.specs.{Calls.{joined, Plays-on, last, next, over, begun}, Theorems.WholeTheorem}
 
 -- ---- the listing from a checkpoint on
 

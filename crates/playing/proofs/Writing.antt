@@ -1,10 +1,8 @@
 -- A text at the start of an output, and all bytes past it as they were: the text tells how much was written, and the output.
 use Prim.Native.Nat.{ℕ, _+_, _-_, _≤_}
-use mathlib.Core.Path.{_≡_, sym, _∙_, ap, ap₂}
-use mathlib.Core.List.{_++_}
+use mathlib.Core.{Path.{_≡_, sym, _∙_, ap, ap₂}, List._++_}
 use native.Mathlib.Omega.{arith}
-use lib.ListN.{length, take, drop, take-append-drop}
-use lib.Seq.{length-take-le}
+use lib.{ListN.{length, take, drop, take-append-drop}, Seq.length-take-le}
 use Rattle.protocol.specs.Buffers.{Bytes}
 
 -- n bytes were written to the output `old`, from its start

@@ -1,10 +1,8 @@
 -- The calls that play a journal: `start`, and then `play` until it is finished.
-use mathlib.Core.Path.{_≡_}
-use mathlib.Core.List.{List, [], _∷_, _++_}
+use mathlib.Core.{Path._≡_, List.{List, [], _∷_, _++_}}
 use lib.ListN.{take, replicate}
 use Rattle.protocol.specs.Buffers.{Bytes, privateLength, sharedLength}
-use Rattle.driver.specs.{Play.Plays, Play.Starts, declared.Checkpoint.Checkpoint, declared.Played.Played}
-use Rattle.driver.specs.declared.Progress.the-variants.{Finished, More}
+use Rattle.driver.specs.{Play.{Plays, Starts}, declared.{Checkpoint.Checkpoint, Played.Played, Progress.the-variants.{Finished, More}}}
 
 -- the texts that calls wrote, one after the other
 unfoldable pub joined : List Bytes → Bytes

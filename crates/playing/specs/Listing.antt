@@ -1,11 +1,9 @@
 -- The listing of a journal: 01, "Journal and driver". A journal reads as an opening and a list of steps; the steps are run on the fresh
 -- engine, and the listing is the text of the run's records and the end line, whose counts are those of the records.
 use Prim.Native.Nat.{ℕ, _+_}
-use mathlib.Core.Path.{_≡_}
-use mathlib.Core.List.{List, _++_}
-use Rattle.protocol.specs.{Buffers.Bytes, Machine.Machine, Machine.freshMachine, Refusals.openRefusal, Step.openReply}
-use Rattle.protocol.specs.{Run.Given, Run.place, Run.run, Counts.nothingMet, Counts.plus, Counts.total}
-use Rattle.protocol.specs.declared.{Opening.Opening as Sizes, Counts.Counts}
+use mathlib.Core.{Path._≡_, List.{List, _++_}}
+use Rattle.protocol.specs.{Buffers.Bytes, Machine.{Machine, freshMachine}, Refusals.openRefusal, Step.openReply, Run.{Given, place, run}}
+use Rattle.protocol.specs.{Counts.{nothingMet, plus, total}, declared.{Opening.Opening as Sizes, Counts.Counts}}
 use Rattle.journal.specs.{Journal.NextOf, declared.Next.the-variants.Opening}
 use Rattle.listing.specs.Record.{recordText}
 use Rattle.driver.specs.Listing.{Ending, Between, EndsAt, lines, lastLines, NotOpened, notOpened}

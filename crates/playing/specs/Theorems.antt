@@ -1,14 +1,11 @@
 -- The theorems about the driver: what its calls write is the listing, everything has exactly one answer, and with room the calls advance.
 use Prim.Native.Nat.{ℕ, _≤_, _<_}
-use mathlib.Core.Path.{_≡_}
-use mathlib.Core.Bool.{true}
-use mathlib.Core.List.{List}
+use mathlib.Core.{Path._≡_, Bool.true, List.List}
 use lib.ListN.{length}
 use Rattle.protocol.specs.{Buffers.Bytes, Run.Given}
-use Rattle.driver.specs.{Listing.Ending, Play.resumable, Play.Plays, Play.Starts}
-use Rattle.driver.specs.declared.{Checkpoint.Checkpoint, Progress.Progress, Played.Played}
-use Rattle.driver.specs.declared.Progress.the-variants.{Finished, More}
-use Rattle.playing.specs.{Listing.Reads, Listing.Listing, Calls.joined, Calls.Playing}
+use Rattle.driver.specs.{Listing.Ending, Play.{resumable, Plays, Starts}, declared.Checkpoint.Checkpoint}
+use Rattle.driver.specs.declared.{Progress.{Progress, the-variants.{Finished, More}}, Played.Played}
+use Rattle.playing.specs.{Listing.{Reads, Listing}, Calls.{joined, Playing}}
 
 -- ---- the listing
 

@@ -2,34 +2,24 @@
 -- pieces where it is read. A law about every step goes by these cases. The rows are in the tables' own terms: what a row says of the pieces is
 -- for each law to find.
 use Prim.Native.Nat.{ℕ, _≤_}
-use mathlib.Core.Path.{_≡_, refl, sym}
-use mathlib.Core.Bool.{Bool, true, false}
-use mathlib.Core.List.{[]}
+use mathlib.Core.{Path.{_≡_, refl, sym}, Bool.{Bool, true, false}, List.[]}
 use native.Mathlib.Omega.{arith}
-use lib.Dec.{leb, eqb}
+use lib.{Dec.{leb, eqb}, ListN.length}
 use borrow.Author.Tests.{leb-true, leb-false, lt-ltb, eqb-true}
-use lib.ListN.{length}
-use Rattle.protocol.specs.Pick.{pick, both, fails}
-use Rattle.protocol.specs.Stamps.{fits}
-use Rattle.protocol.specs.Buffers.{Bytes, Placed}
+use Rattle.protocol.specs.{Pick.{pick, both, fails}, Stamps.fits, Buffers.{Bytes, Placed}}
 use Rattle.protocol.specs.Machine.{Machine, Pieces, piecesAt, coreAt, copyAt, lineAt, slotLine, ownerOf, coreOf, lineOf, applied}
 use Rattle.protocol.specs.Refusals.{isEmpty, isAsked, isAnswered, isHeld, isOwned, hasOwner, stands, inFlight, loadAsks, storePasses}
 use Rattle.protocol.specs.Refusals.{servePasses, stateRules, stateRefusal, refusal}
 use Rattle.protocol.specs.Tables.{refusedRow, asking, loadOwned, loadShared, loadTable, storeTable, fenceTable, advanceTable, evictTable}
 use Rattle.protocol.specs.Tables.{sameVersion, leasedTo, serveLoad, serveAsked, serveTable, receiveRenew, receiveGrant, receiveTable}
-use Rattle.protocol.specs.Tables.{yieldTable, takeTable, tableOf, effectOf}
-use Rattle.protocol.specs.Step.{refused, Outcome, accepted, step}
-use Rattle.protocol.specs.declared.{Stamp.Stamp, Copy.Copy, Want.Want, Held.Held, Slot.Slot, Manager.Manager, Writeback.Writeback}
-use Rattle.protocol.specs.declared.{Opening.Opening, State.State, Call.Call, Effect.Effect}
-use Rattle.protocol.specs.declared.Copy.the-variants.{None as NoCopy, Shared as CopyShared, Owned as CopyOwned}
-use Rattle.protocol.specs.declared.Want.the-variants.{Load as WantLoad, Store as WantStore}
+use Rattle.protocol.specs.{Tables.{yieldTable, takeTable, tableOf, effectOf}, Step.{refused, Outcome, accepted, step}, declared.Stamp.Stamp}
+use Rattle.protocol.specs.declared.Copy.{Copy, the-variants.{None as NoCopy, Shared as CopyShared, Owned as CopyOwned}}
+use Rattle.protocol.specs.declared.{Want.{Want, the-variants.{Load as WantLoad, Store as WantStore}}, Held.Held}
+use Rattle.protocol.specs.declared.{Slot.{Slot, the-variants.{Empty, Asked, Answered}}, Manager.{Manager, the-variants.{Shared, Owned}}}
+use Rattle.protocol.specs.declared.{Writeback.{Writeback, the-variants.{None as NoWriteback, Flight}}, Opening.Opening, State.State}
+use Rattle.protocol.specs.declared.{Call.{Call, the-variants.{Load, Store, Fence, Evict, Advance, Serve, Receive, Yield, Take}}, Effect.Effect}
 use Rattle.protocol.specs.declared.Grant.the-variants.{Share as GrantShare, Renew as GrantRenew, Own as GrantOwn}
-use Rattle.protocol.specs.declared.Slot.the-variants.{Empty, Asked, Answered}
-use Rattle.protocol.specs.declared.Manager.the-variants.{Shared, Owned}
-use Rattle.protocol.specs.declared.Writeback.the-variants.{None as NoWriteback, Flight}
-use Rattle.protocol.specs.declared.Call.the-variants.{Load, Store, Fence, Evict, Advance, Serve, Receive, Yield, Take}
-use Rattle.protocol.proofs.Tests.{never, both-true, both-false}
-use Rattle.protocol.proofs.Refusals.{not-true, passed, machine-fit, placed, NotRefused, not-refused}
+use Rattle.protocol.proofs.{Tests.{never, both-true, both-false}, Refusals.{not-true, passed, machine-fit, placed, NotRefused, not-refused}}
 
 -- a row of the table of a call about core c and line l, on the pieces p of these two
 pub data Row (c l : ℕ) (p : Pieces) (o : Opening) : Call → Effect → Type 0 where

@@ -1,21 +1,15 @@
 -- Every step leaves a machine that fits if it got one: the line of its slot, the owner of its line and the bytes that it moves lie inside the
 -- sizes. So what 1 and 2 say of a machine need be found only once.
 use Prim.Native.Nat.{ℕ}
-use mathlib.Core.Path.{_≡_, refl, sym, _∙_}
-use mathlib.Core.Bool.{true, false}
+use mathlib.Core.{Path.{_≡_, refl, sym, _∙_}, Bool.{true, false}}
 use lib.ListN.{length}
 use borrow.Author.Tests.{lt-ltb, eq-eqb}
-use Rattle.protocol.specs.Pick.{first}
-use Rattle.protocol.specs.Buffers.{Bytes, Placed}
-use Rattle.protocol.specs.About.{about}
-use Rattle.protocol.specs.Machine.{Machine, Pieces, coreOf, lineOf, applied}
+use Rattle.protocol.specs.{Pick.first, Buffers.{Bytes, Placed, givenFits}, About.about, Machine.{Machine, Pieces, coreOf, lineOf, applied}}
 use Rattle.protocol.specs.Refusals.{ownerFits, slotFits, ownersFit, slotsFit, stateFits, buffersFit, machineRefusal, wrongCount}
 use Rattle.protocol.specs.Tables.{loadOwned, storeTable, fenceTable, advanceTable, evictTable, serveAsked, serveLoad, receiveGrant}
-use Rattle.protocol.specs.Tables.{receiveRenew, yieldTable, takeTable}
-use Rattle.protocol.specs.Step.{step}
-use Rattle.protocol.specs.declared.{Core.Core, Line.Line, Opening.Opening, Call.Call, Effect.Effect}
-use Rattle.protocol.proofs.Scan.{every-set}
-use Rattle.protocol.proofs.Moves.{Sized, length-movedPrivate, length-movedShared}
+use Rattle.protocol.specs.{Tables.{receiveRenew, yieldTable, takeTable}, Step.step, declared.{Core.Core, Line.Line, Opening.Opening}}
+use Rattle.protocol.specs.declared.{Call.Call, Effect.Effect}
+use Rattle.protocol.proofs.{Scan.every-set, Moves.{length-movedPrivate, length-movedShared}}
 use Rattle.protocol.proofs.Refusals.{Fit, machine-fit, slot-inside, owner-inside, store-width, named, NotRefused}
 use Rattle.protocol.proofs.Cases.{Row, asks-load, reads-shared, reads-dirty, reads-clean, asks-store, writes, fences, advances, evicts-shared}
 use Rattle.protocol.proofs.Cases.{evicts-owned, recalls, renews, shares, grants, gets-share, gets-own, gets-renewal, drops-none, drops-owned}
@@ -25,33 +19,33 @@ use Rattle.protocol.proofs.Cases.{yields, takes, RowOn, kept-by-rows}
 pub record EffectFits (o : Opening) (n : ℕ) (d : Effect) : Type 0 where
   pub slot : slotFits (o .lines) (d .core .slot) ≡ true
   pub owner : ownerFits (o .cores) (d .line .manager) ≡ true
-  pub bytes : Sized o n (d .moves)
+  pub bytes : givenFits (d .moves) (o .width) n ≡ true
 
 module _ {o : Opening} {n c l : ℕ} {p : Pieces} (q : Placed o c l) (slot : slotFits (o .lines) (p .core .slot) ≡ true)
     (owner : ownerFits (o .cores) (p .line .manager) ≡ true) where
   pub row-fits : {call : Call} {d : Effect} → wrongCount (about call .act) o n ≡ false → Row c l p o call d → EffectFits o n d
   unfolding loadOwned storeTable fenceTable advanceTable evictTable serveAsked serveLoad receiveGrant receiveRenew yieldTable takeTable
-  row-fits w (asks-load e i) = record { slot = lt-ltb l (o .lines) (q .line); owner = owner; bytes = tt }
-  row-fits w (reads-shared e h) = record { slot = slot; owner = owner; bytes = tt }
-  row-fits w (reads-dirty e) = record { slot = slot; owner = owner; bytes = tt }
-  row-fits w (reads-clean e) = record { slot = slot; owner = owner; bytes = tt }
-  row-fits w (asks-store e i) = record { slot = lt-ltb l (o .lines) (q .line); owner = owner; bytes = tt }
-  row-fits w (writes e h) = record { slot = slot; owner = owner; bytes = store-width o n w }
-  row-fits w fences = record { slot = slot; owner = owner; bytes = tt }
-  row-fits w (advances h) = record { slot = slot; owner = owner; bytes = tt }
-  row-fits w (evicts-shared e) = record { slot = slot; owner = owner; bytes = tt }
-  row-fits w (evicts-owned e) = record { slot = slot; owner = owner; bytes = tt }
-  row-fits w (recalls e i) = record { slot = slot; owner = owner; bytes = tt }
-  row-fits w (renews e i v h) = record { slot = lt-ltb l (o .lines) (q .line); owner = cc; bytes = tt }
-  row-fits w (shares e i v h) = record { slot = lt-ltb l (o .lines) (q .line); owner = cc; bytes = tt }
-  row-fits w (grants e i) = record { slot = lt-ltb l (o .lines) (q .line); owner = lt-ltb c (o .cores) (q .core); bytes = tt }
-  row-fits w (gets-share e) = record { slot = refl; owner = owner; bytes = tt }
-  row-fits w (gets-own e) = record { slot = refl; owner = owner; bytes = tt }
-  row-fits w (gets-renewal e i) = record { slot = refl; owner = owner; bytes = tt }
-  row-fits w (drops-none e i) = record { slot = refl; owner = owner; bytes = tt }
-  row-fits w (drops-owned e i) = record { slot = refl; owner = owner; bytes = tt }
-  row-fits w (yields e i h) = record { slot = slot; owner = owner; bytes = tt }
-  row-fits w (takes e) = record { slot = slot; owner = refl; bytes = tt }
+  row-fits w (asks-load e i) = record { slot = lt-ltb l (o .lines) (q .line); owner = owner; bytes = refl }
+  row-fits w (reads-shared e h) = record { slot = slot; owner = owner; bytes = refl }
+  row-fits w (reads-dirty e) = record { slot = slot; owner = owner; bytes = refl }
+  row-fits w (reads-clean e) = record { slot = slot; owner = owner; bytes = refl }
+  row-fits w (asks-store e i) = record { slot = lt-ltb l (o .lines) (q .line); owner = owner; bytes = refl }
+  row-fits w (writes e h) = record { slot = slot; owner = owner; bytes = eq-eqb _ _ (store-width o n w) }
+  row-fits w fences = record { slot = slot; owner = owner; bytes = refl }
+  row-fits w (advances h) = record { slot = slot; owner = owner; bytes = refl }
+  row-fits w (evicts-shared e) = record { slot = slot; owner = owner; bytes = refl }
+  row-fits w (evicts-owned e) = record { slot = slot; owner = owner; bytes = refl }
+  row-fits w (recalls e i) = record { slot = slot; owner = owner; bytes = refl }
+  row-fits w (renews e i v h) = record { slot = lt-ltb l (o .lines) (q .line); owner = cc; bytes = refl }
+  row-fits w (shares e i v h) = record { slot = lt-ltb l (o .lines) (q .line); owner = cc; bytes = refl }
+  row-fits w (grants e i) = record { slot = lt-ltb l (o .lines) (q .line); owner = lt-ltb c (o .cores) (q .core); bytes = refl }
+  row-fits w (gets-share e) = record { slot = refl; owner = owner; bytes = refl }
+  row-fits w (gets-own e) = record { slot = refl; owner = owner; bytes = refl }
+  row-fits w (gets-renewal e i) = record { slot = refl; owner = owner; bytes = refl }
+  row-fits w (drops-none e i) = record { slot = refl; owner = owner; bytes = refl }
+  row-fits w (drops-owned e i) = record { slot = refl; owner = owner; bytes = refl }
+  row-fits w (yields e i h) = record { slot = slot; owner = owner; bytes = refl }
+  row-fits w (takes e) = record { slot = slot; owner = refl; bytes = refl }
 
 -- the row of an accepted call on a machine that fits
 pub made-fits : {m : Machine} {call : Call} {n : ℕ} {d : Effect} → Fit m → NotRefused m call n

@@ -1,24 +1,15 @@
 -- What a move makes of the lines of bytes in the two buffers: the line that it writes, and every other line.
 use Prim.Native.Nat.{ℕ, _+_, _*_, _≤_, _<_}
-use mathlib.Core.Path.{_≡_, refl}
+use mathlib.Core.{Path.{_≡_, refl}, Bool.true}
 use native.Mathlib.Omega.{arith}
 use lib.ListN.{length}
-use Rattle.protocol.specs.Buffers.{Bytes, Placed, part, splice, copyBytes, managerBytes, writebackBytes, answerBytes, movedPrivate, movedShared}
-use Rattle.protocol.specs.declared.{Opening.Opening, Move.Move}
-use Rattle.protocol.specs.declared.Move.the-variants.{Still, Store as MoveStore, Answer as MoveAnswer, Receive as MoveReceive}
-use Rattle.protocol.specs.declared.Move.the-variants.{Writeback as MoveWriteback, Take as MoveTake}
-use Rattle.protocol.specs.Machine.{Machine}
-use Rattle.protocol.proofs.Refusals.{Fit}
-use Rattle.protocol.proofs.Bytes.{row-le, row-other, length-part, length-splice, part-same, grid-row, grid-column}
-
--- the bytes that move are a line: those given to a store, n of them, are as many as the width; the others lie in the buffers
-abbrev pub Sized : Opening → ℕ → Move → Type 0
-Sized o n Still = Unit {0}
-Sized o n MoveStore = n ≡ o .width
-Sized o n MoveAnswer = Unit {0}
-Sized o n MoveReceive = Unit {0}
-Sized o n MoveWriteback = Unit {0}
-Sized o n MoveTake = Unit {0}
+use borrow.Author.Tests.{eqb-true}
+use Rattle.spelling.{specs.Over.over, proofs.OverLaws.{over-length, over-part}}
+use Rattle.protocol.specs.Buffers.{Bytes, Placed, part, copyBytes, managerBytes, writebackBytes, answerBytes, givenFits, movedPrivate}
+use Rattle.protocol.specs.{Buffers.movedShared, declared.Opening.Opening}
+use Rattle.protocol.specs.declared.Move.{Move, the-variants.{Still, Store as MoveStore, Answer as MoveAnswer, Receive as MoveReceive}}
+use Rattle.protocol.specs.{declared.Move.the-variants.{Writeback as MoveWriteback, Take as MoveTake}, Machine.Machine}
+use Rattle.protocol.proofs.{Refusals.Fit, Bytes.{row-le, row-other, length-part, grid-row, grid-column}}
 
 -- the move leaves the answer to the core
 abbrev pub AnswerStays : Move → Type 0
@@ -119,17 +110,17 @@ module _ (m : Machine) (c l : ℕ) (given : Bytes) where
         row-other (o .width) l j q (writebackBytes o q l) n (length-row (o .lines + l) (omega arith)) (shared-in l (omega arith))
 
     -- a row of the shared buffer that the move writes
-    pub shared-same : (i : ℕ) (b : Bytes) → i < 2 * o .lines + o .cores → length b ≡ o .width → part (splice q (i * o .width) b) (i * o .width) (o .width) ≡ b
-    shared-same i b h e = part-same q (i * o .width) b (omega (arith, shared-in i h)) (o .width) e
+    pub shared-same : (i : ℕ) (b : Bytes) → i < 2 * o .lines + o .cores → length b ≡ o .width → part (over q (i * o .width) b) (i * o .width) (o .width) ≡ b
+    shared-same i b h e = over-part q (i * o .width) b (omega (arith, shared-in i h)) (o .width) e
 
     -- another core's or line's copy, or this one
-    pub private-other : (v : Move) → Sized o (length given) v → (c′ l′ : ℕ) → l′ < o .lines → (c′ ≡ c → l′ ≡ l → ⊥)
+    pub private-other : (v : Move) → givenFits v (o .width) (length given) ≡ true → (c′ l′ : ℕ) → l′ < o .lines → (c′ ≡ c → l′ ≡ l → ⊥)
         → copyBytes o (movedPrivate v o c l given p q) c′ l′ ≡ copyBytes o p c′ l′
     unfolding movedPrivate
     private-other Still g c′ l′ h n = refl
     private-other MoveStore g c′ l′ h n =
         row-other (o .width) (c * o .lines + l) (c′ * o .lines + l′) p given
-        (λ e. n (grid-row (o .lines) c′ l′ c l h hl e) (grid-column (o .lines) c′ l′ c l h hl e)) g private-in
+        (λ e. n (grid-row (o .lines) c′ l′ c l h hl e) (grid-column (o .lines) c′ l′ c l h hl e)) (eqb-true _ _ g) private-in
     private-other MoveAnswer g c′ l′ h n = refl
     private-other MoveReceive g c′ l′ h n =
         row-other (o .width) (c * o .lines + l) (c′ * o .lines + l′) p (answerBytes o q c)
@@ -138,8 +129,8 @@ module _ (m : Machine) (c l : ℕ) (given : Bytes) where
     private-other MoveTake g c′ l′ h n = refl
 
     pub private-same : (b : Bytes) → length b ≡ o .width
-        → part (splice p ((c * o .lines + l) * o .width) b) ((c * o .lines + l) * o .width) (o .width) ≡ b
-    private-same b e = part-same p ((c * o .lines + l) * o .width) b (omega (arith, private-in)) (o .width) e
+        → part (over p ((c * o .lines + l) * o .width) b) ((c * o .lines + l) * o .width) (o .width) ≡ b
+    private-same b e = over-part p ((c * o .lines + l) * o .width) b (omega (arith, private-in)) (o .width) e
 
     -- the four spots
     pub manager-after : (v : Move) → managerBytes o (movedShared v o c l p q) l ≡ managerAfter v
@@ -160,10 +151,10 @@ module _ (m : Machine) (c l : ℕ) (given : Bytes) where
     writeback-after MoveWriteback = shared-same (o .lines + l) (copyBytes o p c l) (omega arith) length-copy
     writeback-after MoveTake = shared-other MoveTake (o .lines + l) (λ e. omega arith)
 
-    pub copy-after : (v : Move) → Sized o (length given) v → copyBytes o (movedPrivate v o c l given p q) c l ≡ copyAfter v
+    pub copy-after : (v : Move) → givenFits v (o .width) (length given) ≡ true → copyBytes o (movedPrivate v o c l given p q) c l ≡ copyAfter v
     unfolding movedPrivate
     copy-after Still g = refl
-    copy-after MoveStore g = private-same given g
+    copy-after MoveStore g = private-same given (eqb-true _ _ g)
     copy-after MoveAnswer g = refl
     copy-after MoveReceive g = private-same (answerBytes o q c) (length-row (2 * o .lines + c) (omega arith))
     copy-after MoveWriteback g = refl
@@ -217,21 +208,21 @@ module _ (m : Machine) (c l : ℕ) (given : Bytes) where
     length-movedShared Still = refl
     length-movedShared MoveStore = refl
     length-movedShared MoveAnswer =
-        length-splice q ((2 * o .lines + c) * o .width) (managerBytes o q l)
+        over-length q ((2 * o .lines + c) * o .width) (managerBytes o q l)
         (omega (arith, length-row l (omega arith), shared-in (2 * o .lines + c) (omega arith)))
     length-movedShared MoveReceive = refl
     length-movedShared MoveWriteback =
-        length-splice q ((o .lines + l) * o .width) (copyBytes o p c l) (omega (arith, length-copy, shared-in (o .lines + l) (omega arith)))
+        over-length q ((o .lines + l) * o .width) (copyBytes o p c l) (omega (arith, length-copy, shared-in (o .lines + l) (omega arith)))
     length-movedShared MoveTake =
-        length-splice q (l * o .width) (writebackBytes o q l) (omega (arith, length-row (o .lines + l) (omega arith), shared-in l (omega arith)))
+        over-length q (l * o .width) (writebackBytes o q l) (omega (arith, length-row (o .lines + l) (omega arith), shared-in l (omega arith)))
 
-    pub length-movedPrivate : (v : Move) → Sized o (length given) v → length (movedPrivate v o c l given p q) ≡ length p
+    pub length-movedPrivate : (v : Move) → givenFits v (o .width) (length given) ≡ true → length (movedPrivate v o c l given p q) ≡ length p
     unfolding movedPrivate
     length-movedPrivate Still g = refl
-    length-movedPrivate MoveStore g = length-splice p ((c * o .lines + l) * o .width) given (omega (arith, private-in))
+    length-movedPrivate MoveStore g = over-length p ((c * o .lines + l) * o .width) given (omega (arith, private-in, eqb-true (length given) (o .width) g))
     length-movedPrivate MoveAnswer g = refl
     length-movedPrivate MoveReceive g =
-        length-splice p ((c * o .lines + l) * o .width) (answerBytes o q c)
+        over-length p ((c * o .lines + l) * o .width) (answerBytes o q c)
         (omega (arith, private-in, length-row (2 * o .lines + c) (omega arith)))
     length-movedPrivate MoveWriteback g = refl
     length-movedPrivate MoveTake g = refl

@@ -1,16 +1,13 @@
 -- Sizes inside the limits, and how far the places of lines reach in the two buffers.
 use Prim.Native.Nat.{ℕ, _+_, _*_, _≤_, _<_}
-use mathlib.Core.Path.{_≡_}
-use mathlib.Core.Bool.{true}
-use native.Mathlib.Omega.{arith}
-use native.Mathlib.Nat.{mul-le-mul}
+use mathlib.Core.{Path._≡_, Bool.true}
+use native.Mathlib.{Omega.arith, Nat.mul-le-mul}
 use lib.Dec.{leb}
 use borrow.Author.Tests.{leb-true}
 use Rattle.protocol.specs.Limits.{within, openingFits}
 use Rattle.protocol.specs.Buffers.{privateLength, sharedLength, copyStart, managerStart, writebackStart, answerStart, Placed}
 use Rattle.protocol.specs.declared.Opening.{Opening}
-use Rattle.protocol.proofs.Tests.{both-true}
-use Rattle.protocol.proofs.Bytes.{row-le}
+use Rattle.protocol.proofs.{Tests.both-true, Bytes.row-le}
 
 -- ---- the opening
 

@@ -1,12 +1,8 @@
 -- Lists of calls: what holds of a machine and of the records so far, and is kept by every call, holds at each place of a run. A law about
 -- reached machines goes by it, with one lemma about a step (proofs/Cases).
 use Prim.Native.Nat.{ℕ, suc}
-use mathlib.Core.Logic.{_⊎_, inl, inr, ⊎-elim}
-use mathlib.Core.List.{List, [], _∷_, _++_}
-use Rattle.protocol.specs.Buffers.{Bytes}
-use Rattle.protocol.specs.Machine.{Machine}
-use Rattle.protocol.specs.Step.{step}
-use Rattle.protocol.specs.Run.{Given, Record, place, run, Commit, commitOf, commits}
+use mathlib.Core.{Logic.{_⊎_, inl, inr, ⊎-elim}, List.{List, [], _∷_, _++_}}
+use Rattle.protocol.specs.{Buffers.Bytes, Machine.Machine, Step.step, Run.{Given, Record, place, run, Commit, commitOf, commits}}
 use Rattle.protocol.specs.Order.{In, here, there}
 
 -- the record of a call at place p

@@ -1,31 +1,20 @@
 -- What is known where no refusal applies.
 use Prim.Native.Nat.{ℕ, _≤_, _<_}
-use mathlib.Core.Path.{_≡_, refl, sym, _∙_}
-use mathlib.Core.Bool.{Bool, true, false}
-use mathlib.Core.List.{List, [], _∷_}
+use mathlib.Core.{Path.{_≡_, refl, sym, _∙_}, Bool.{Bool, true, false}, List.{List, [], _∷_}}
 use native.Mathlib.Omega.{arith}
-use lib.Dec.{eqb}
+use lib.{Dec.eqb, ListN.length}
 use borrow.Author.Tests.{ltb-true, leb-false, eqb-true, eq-eqb}
-use lib.ListN.{length}
-use Rattle.protocol.specs.Pick.{pick, fails, Rule, first, _gives_}
-use Rattle.protocol.specs.Limits.{openingFits}
-use Rattle.protocol.specs.Fresh.{freshCore, freshLine}
-use Rattle.protocol.specs.Buffers.{privateLength, sharedLength, Placed}
-use Rattle.protocol.specs.About.{about, namedLine}
+use Rattle.protocol.specs.{Pick.{pick, fails, Rule, first, _gives_}, Limits.openingFits, Fresh.{freshCore, freshLine}}
+use Rattle.protocol.specs.{Buffers.{privateLength, sharedLength, Placed}, About.{about, namedLine}}
 use Rattle.protocol.specs.Machine.{Machine, Pieces, coreAt, lineAt, theCore, theLine, coreOf, lineOf, piecesAt}
 use Rattle.protocol.specs.Refusals.{openRefusal, ownerFits, slotFits, ownersFit, slotsFit, stateFits, buffersFit, machineRefusal, noCore}
-use Rattle.protocol.specs.Refusals.{noLine, wrongCount, byNothing, callRules, callRefusal, stateRefusal, orElse, refusal}
-use Rattle.protocol.specs.Tables.{refusedRow}
-use Rattle.protocol.specs.declared.{Slot.Slot, Core.Core, Manager.Manager, Line.Line, Opening.Opening, Call.Call, Who.Who, Which.Which}
-use Rattle.protocol.specs.declared.{About.About, Effect.Effect}
-use Rattle.protocol.specs.declared.Slot.the-variants.{Empty, Asked, Answered}
-use Rattle.protocol.specs.declared.Manager.the-variants.{Shared, Owned}
-use Rattle.protocol.specs.declared.Who.the-variants.{Named as NamedCore, Owner, Nobody}
-use Rattle.protocol.specs.declared.Which.the-variants.{Named as NamedLine, InSlot, Nothing}
+use Rattle.protocol.specs.{Refusals.{noLine, wrongCount, byNothing, callRules, callRefusal, stateRefusal, orElse, refusal}, Tables.refusedRow}
+use Rattle.protocol.specs.declared.{Slot.{Slot, the-variants.{Empty, Asked, Answered}}, Core.Core}
+use Rattle.protocol.specs.declared.{Manager.{Manager, the-variants.{Shared, Owned}}, Line.Line, Opening.Opening, Call.Call}
+use Rattle.protocol.specs.declared.Who.{Who, the-variants.{Named as NamedCore, Owner, Nobody}}
+use Rattle.protocol.specs.declared.{Which.{Which, the-variants.{Named as NamedLine, InSlot, Nothing}}, About.About, Effect.Effect}
 use Rattle.protocol.specs.declared.Act.the-variants.{Store as Stores}
-use Rattle.protocol.proofs.Tests.{never, both-true}
-use Rattle.protocol.proofs.Scan.{every-at}
-use Rattle.protocol.proofs.Places.{Inside, inside, placed-at}
+use Rattle.protocol.proofs.{Tests.{never, both-true}, Scan.every-at, Places.{Inside, inside, placed-at}}
 
 -- ---- tests and rules
 

@@ -1,11 +1,8 @@
 -- A test of each of the first n elements of a list: met element by element, at each index, and after one is replaced.
 use Prim.Native.Nat.{ℕ, zero, suc, _+_, _≤_, _<_}
-use mathlib.Core.Path.{_≡_, refl, sym, _∙_}
-use mathlib.Core.Bool.{Bool, true, false, not}
-use mathlib.Core.List.{List, [], _∷_}
+use mathlib.Core.{Path.{_≡_, refl, sym, _∙_}, Bool.{Bool, true, false, not}, List.{List, [], _∷_}}
 use native.Mathlib.Numerals.{add-one}
-use lib.ListN.{length, take, drop, getD, set, drop-of-length-le}
-use lib.Seq.{drop-cons, getD-take, length-take-le}
+use lib.{ListN.{length, take, drop, getD, set, drop-of-length-le}, Seq.{drop-cons, getD-take, length-take-le}}
 use Rattle.protocol.specs.Pick.{both, every}
 use Rattle.protocol.proofs.Tests.{both-true, was-false, was-true}
 

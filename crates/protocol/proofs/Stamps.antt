@@ -1,13 +1,9 @@
 -- Laws of timestamps: two tests of one order, and the timestamp so much later.
 use Prim.Native.Nat.{ℕ}
-use mathlib.Core.Path.{_≡_, refl}
-use mathlib.Core.Bool.{Bool, true, false}
+use mathlib.Core.{Path.{_≡_, refl}, Bool.{Bool, true, false}}
 use native.Mathlib.Omega.{arith}
-use Rattle.protocol.specs.Pick.{pick}
+use Rattle.protocol.specs.{Pick.pick, Stamps.{atMost, earlier, plus, fits, after}, declared.{Stamp.Stamp, Sum.the-variants.{At, Passes}}}
 use borrow.Author.Tests.{leb-true, leb-false, lt-ltb, le-ltb}
-use Rattle.protocol.specs.Stamps.{atMost, earlier, plus, fits, after}
-use Rattle.protocol.specs.declared.Stamp.{Stamp}
-use Rattle.protocol.specs.declared.Sum.the-variants.{At, Passes}
 
 -- a ≤ b, and not b < a
 pub not-earlier : (a b : Stamp) → atMost a b ≡ true → earlier b a ≡ false

@@ -1,9 +1,7 @@
 -- Laws of tests: two tests of one fact, what a call's negated answer says, and what a list of rules says where none applies.
 use Prim.Native.Nat.{ℕ, _≤_, _<_}
-use mathlib.Core.Path.{_≡_, refl, sym, _∙_}
-use mathlib.Core.Bool.{Bool, true, false, not}
-use native.Mathlib.Omega.{arith}
-use native.Mathlib.Decide.{decLe}
+use mathlib.Core.{Path.{_≡_, refl, sym, _∙_}, Bool.{Bool, true, false, not}}
+use native.Mathlib.{Omega.arith, Decide.decLe}
 use lib.Dec.{leb}
 use borrow.Author.Tests.{not-true, not-false, le-leb, lt-leb}
 use Rattle.protocol.specs.Pick.{pick, both, fails}

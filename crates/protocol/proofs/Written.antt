@@ -2,13 +2,9 @@
 use Prim.Native.Nat.{ℕ, zero, suc, _+_, _*_, _<_}
 use mathlib.Core.Path.{_≡_, refl, _∙_, ap}
 use native.Mathlib.Omega.{arith}
-use lib.ListN.{length, getD, length-set, replicate, length-replicate}
-use lib.Seq.{getD-set-same, getD-set-other}
-use Rattle.protocol.specs.Fresh.{freshCore, freshCell, freshLine, freshState}
-use Rattle.protocol.specs.Buffers.{Placed}
-use Rattle.protocol.specs.Machine.{coreAt, copyAt, lineAt, written}
-use Rattle.protocol.specs.declared.{Cell.Cell, Opening.Opening, State.State, Effect.Effect}
-use Rattle.protocol.specs.declared.Copy.the-variants.{None as NoCopy}
+use lib.{ListN.{length, getD, length-set, replicate, length-replicate}, Seq.{getD-set-same, getD-set-other}}
+use Rattle.protocol.specs.{Fresh.{freshCore, freshCell, freshLine, freshState}, Buffers.Placed, Machine.{coreAt, copyAt, lineAt, written}}
+use Rattle.protocol.specs.declared.{Cell.Cell, Opening.Opening, State.State, Effect.Effect, Copy.the-variants.None as NoCopy}
 use Rattle.protocol.proofs.Bytes.{grid-row, grid-column}
 
 -- the lists are as long as the code's arrays

@@ -1,11 +1,10 @@
 -- The two lent buffers: where each line of bytes lies, and what a move of one line makes of them.
 use Prim.Native.Nat.{ℕ, _+_, _*_, _≤_, _<_}
-use mathlib.Core.List.{List, _++_}
-use lib.ListN.{length, take, drop}
-use Rattle.protocol.specs.Limits.{mostCores, mostLines, mostWidth}
-use Rattle.protocol.specs.declared.Opening.{Opening}
-use Rattle.protocol.specs.declared.Move.{Move}
-use Rattle.protocol.specs.declared.Move.the-variants.{Still, Store, Answer, Receive, Writeback, Take}
+use mathlib.Core.{Bool.{Bool, true}, List.List}
+use lib.{Dec.eqb, ListN.{take, drop}}
+use Rattle.spelling.specs.Over.{over}
+use Rattle.protocol.specs.{Limits.{mostCores, mostLines, mostWidth}, declared.Opening.Opening}
+use Rattle.protocol.specs.declared.Move.{Move, the-variants.{Still, Store, Answer, Receive, Writeback, Take}}
 
 abbrev pub Bytes : Type 0
 Bytes = List ℕ
@@ -13,10 +12,6 @@ Bytes = List ℕ
 -- the n bytes from a
 abbrev pub part : Bytes → ℕ → ℕ → Bytes
 part xs a n = take n (drop a xs)
-
--- xs with ys in place of the bytes from a
-unfoldable pub splice : Bytes → ℕ → Bytes → Bytes
-splice xs a ys = take a xs ++ (ys ++ drop (length ys) (drop a xs))
 
 -- "Private buffer, length cores × lines × width"
 abbrev pub privateLength : Opening → ℕ
@@ -63,13 +58,22 @@ writebackBytes o shared l = part shared (writebackStart o l) (o .width)
 abbrev pub answerBytes : Opening → Bytes → ℕ → Bytes
 answerBytes o shared c = part shared (answerStart o c) (o .width)
 
+-- n bytes are one line's, if the move is a store's; no other move looks at them
+abbrev pub givenFits : Move → ℕ → ℕ → Bool
+givenFits Still width n = true
+givenFits Store width n = eqb n width
+givenFits Answer width n = true
+givenFits Receive width n = true
+givenFits Writeback width n = true
+givenFits Take width n = true
+
 -- "Every step that moves a line writes only that line's place in the buffer; all other bytes stay": the private buffer after a move for
 -- core c and line l; `given` are the bytes given to a store
 unfoldable pub movedPrivate : Move → Opening → ℕ → ℕ → Bytes → Bytes → Bytes → Bytes
 movedPrivate Still o c l given private shared = private
-movedPrivate Store o c l given private shared = splice private (copyStart o c l) given
+movedPrivate Store o c l given private shared = over private (copyStart o c l) given
 movedPrivate Answer o c l given private shared = private
-movedPrivate Receive o c l given private shared = splice private (copyStart o c l) (answerBytes o shared c)
+movedPrivate Receive o c l given private shared = over private (copyStart o c l) (answerBytes o shared c)
 movedPrivate Writeback o c l given private shared = private
 movedPrivate Take o c l given private shared = private
 
@@ -77,7 +81,7 @@ movedPrivate Take o c l given private shared = private
 unfoldable pub movedShared : Move → Opening → ℕ → ℕ → Bytes → Bytes → Bytes
 movedShared Still o c l private shared = shared
 movedShared Store o c l private shared = shared
-movedShared Answer o c l private shared = splice shared (answerStart o c) (managerBytes o shared l)
+movedShared Answer o c l private shared = over shared (answerStart o c) (managerBytes o shared l)
 movedShared Receive o c l private shared = shared
-movedShared Writeback o c l private shared = splice shared (writebackStart o l) (copyBytes o private c l)
-movedShared Take o c l private shared = splice shared (managerStart o l) (writebackBytes o shared l)
+movedShared Writeback o c l private shared = over shared (writebackStart o l) (copyBytes o private c l)
+movedShared Take o c l private shared = over shared (managerStart o l) (writebackBytes o shared l)

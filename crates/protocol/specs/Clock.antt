@@ -1,7 +1,5 @@
 -- A core's pair of clocks after a step: "Each core's pair of clocks takes a step and comes back as the new pair."
-use Rattle.protocol.specs.Stamps.{later}
-use Rattle.protocol.specs.declared.Stamp.{Stamp}
-use Rattle.protocol.specs.declared.Clocks.{Clocks}
+use Rattle.protocol.specs.{Stamps.later, declared.{Stamp.Stamp, Clocks.Clocks}}
 
 -- load: lts becomes max(lts, wts)
 abbrev pub loaded : Clocks → Stamp → Clocks

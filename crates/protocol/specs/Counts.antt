@@ -1,9 +1,7 @@
 -- What the records of a run count as: "The end line counts step lines met, .. commits, and `refused=` lines above it."
 use Prim.Native.Nat.{ℕ, _+_}
 use mathlib.Core.List.{List, [], _∷_}
-use Rattle.protocol.specs.Step.{Reply, refused, done, commit}
-use Rattle.protocol.specs.Run.{Record}
-use Rattle.protocol.specs.declared.{Call.Call, Counts.Counts}
+use Rattle.protocol.specs.{Step.{Reply, refused, done, commit}, Run.Record, declared.{Call.Call, Counts.Counts}}
 
 -- so many step lines, commits and refusals
 abbrev pub counts : ℕ → ℕ → ℕ → Counts

@@ -2,8 +2,7 @@
 use Prim.Native.Nat.{ℕ}
 use mathlib.Core.Bool.{Bool}
 use lib.Dec.{leb}
-use Rattle.protocol.specs.Pick.{both}
-use Rattle.protocol.specs.declared.Opening.{Opening}
+use Rattle.protocol.specs.{Pick.both, declared.Opening.Opening}
 
 -- the greatest sizes, and the longest lease
 abbrev pub mostCores : ℕ

@@ -1,24 +1,12 @@
 -- The machine: the state and the two lent buffers; the pieces of it that a call looks at, and where they are written back.
 use Prim.Native.Nat.{ℕ, _+_, _*_}
 use lib.ListN.{getD, set, replicate}
-use Rattle.protocol.specs.Buffers.{Bytes, privateLength, sharedLength, movedPrivate, movedShared}
-use Rattle.protocol.specs.Limits.{mostLines}
-use Rattle.protocol.specs.About.{about, namedLine}
-use Rattle.protocol.specs.Fresh.{freshCore, freshCell, freshLine, freshState}
-use Rattle.protocol.specs.declared.Copy.{Copy}
-use Rattle.protocol.specs.declared.Slot.{Slot}
-use Rattle.protocol.specs.declared.Slot.the-variants.{Empty, Asked, Answered}
-use Rattle.protocol.specs.declared.Core.{Core}
-use Rattle.protocol.specs.declared.Cell.{Cell}
-use Rattle.protocol.specs.declared.Manager.{Manager}
-use Rattle.protocol.specs.declared.Manager.the-variants.{Shared, Owned}
-use Rattle.protocol.specs.declared.Line.{Line}
-use Rattle.protocol.specs.declared.Opening.{Opening}
-use Rattle.protocol.specs.declared.State.{State}
-use Rattle.protocol.specs.declared.{Call.Call, Who.Who, Which.Which}
-use Rattle.protocol.specs.declared.Who.the-variants.{Named as NamedCore, Owner, Nobody}
-use Rattle.protocol.specs.declared.Which.the-variants.{Named as NamedLine, InSlot, Nothing}
-use Rattle.protocol.specs.declared.Effect.{Effect}
+use Rattle.protocol.specs.{Buffers.{Bytes, privateLength, sharedLength, movedPrivate, movedShared}, Limits.mostLines, About.{about, namedLine}}
+use Rattle.protocol.specs.{Fresh.{freshCore, freshCell, freshLine, freshState}, declared.Copy.Copy}
+use Rattle.protocol.specs.declared.{Slot.{Slot, the-variants.{Empty, Asked, Answered}}, Core.Core}
+use Rattle.protocol.specs.declared.{Manager.{Manager, the-variants.{Shared, Owned}}, Line.Line, Opening.Opening, State.State, Call.Call}
+use Rattle.protocol.specs.declared.Who.{Who, the-variants.{Named as NamedCore, Owner, Nobody}}
+use Rattle.protocol.specs.declared.{Which.{Which, the-variants.{Named as NamedLine, InSlot, Nothing}}, Effect.Effect}
 
 -- a state and the two buffers
 pub record Machine : Type 0 where

@@ -12,18 +12,10 @@
 -- `Obeys` is the one statement of a memory model, over which pairs of a core's commits keep their order, which writes a read may see, and what
 -- a cell of memory is. TSO by line is its instance here; another pair, another cell or another value is another instance.
 use Prim.Native.Nat.{ℕ, _<_}
-use mathlib.Core.Path.{_≡_}
-use mathlib.Core.Bool.{true}
-use mathlib.Core.Logic.{_⊎_}
-use mathlib.Core.List.{List, _∷_}
+use mathlib.Core.{Path._≡_, Bool.true, Logic._⊎_, List.{List, _∷_}}
 use lib.ListN.{replicate}
-use Rattle.protocol.specs.Stamps.{Precedes, precedes}
-use Rattle.protocol.specs.Buffers.{Bytes}
-use Rattle.protocol.specs.Machine.{freshMachine}
-use Rattle.protocol.specs.Refusals.{openRefusal}
-use Rattle.protocol.specs.Step.{Op, load, store, fence, opened}
-use Rattle.protocol.specs.Run.{Given, run, Commit, commits}
-use Rattle.protocol.specs.declared.{Key.Key, Opening.Opening}
+use Rattle.protocol.specs.{Stamps.{Precedes, precedes}, Buffers.Bytes, Machine.freshMachine, Refusals.openRefusal}
+use Rattle.protocol.specs.{Step.{Op, load, store, fence, opened}, Run.{Given, run, Commit, commits}, declared.{Key.Key, Opening.Opening}}
 
 -- a is in the list
 pub data In {A : Type 0} (a : A) : List A → Type 0 where

@@ -1,7 +1,6 @@
 -- Choices by a test, and lists of rules of which the first that applies decides.
 use Prim.Native.Nat.{ℕ}
-use mathlib.Core.Bool.{Bool, true, false}
-use mathlib.Core.List.{List, [], _∷_}
+use mathlib.Core.{Bool.{Bool, true, false}, List.{List, [], _∷_}}
 
 -- the first of two values where the test holds, else the second
 abbrev pub pick : {A : Type 0} → Bool → A → A → A

@@ -1,36 +1,20 @@
 -- The refusals of the calls, in the scope document's order: "Checked in this order; first that applies."
 use Prim.Native.Nat.{ℕ}
-use mathlib.Core.Bool.{Bool, true, false}
-use mathlib.Core.List.{List, [], _∷_}
-use lib.Dec.{ltb, leb, eqb}
-use lib.ListN.{length, take}
-use Rattle.protocol.specs.Pick.{pick, both, fails, every, Rule, first, _gives_}
-use Rattle.protocol.specs.Stamps.{earlier, fits}
-use Rattle.protocol.specs.Limits.{openingFits}
-use Rattle.protocol.specs.Buffers.{Bytes, privateLength, sharedLength}
-use Rattle.protocol.specs.About.{about}
-use Rattle.protocol.specs.Machine.{Machine, Pieces, piecesAt, coreOf, lineOf}
-use Rattle.protocol.specs.declared.Stamp.{Stamp}
-use Rattle.protocol.specs.declared.Copy.{Copy}
-use Rattle.protocol.specs.declared.Copy.the-variants.{None as NoCopy, Shared as CopyShared, Owned as CopyOwned}
+use mathlib.Core.{Bool.{Bool, true, false}, List.{List, [], _∷_}}
+use lib.{Dec.{ltb, leb, eqb}, ListN.{length, take}}
+use Rattle.protocol.specs.{Pick.{pick, both, fails, every, Rule, first, _gives_}, Stamps.{earlier, fits}, Limits.openingFits}
+use Rattle.protocol.specs.{Buffers.{privateLength, sharedLength}, About.about, Machine.{Machine, Pieces, piecesAt, coreOf, lineOf}}
+use Rattle.protocol.specs.declared.{Stamp.Stamp, Copy.{Copy, the-variants.{None as NoCopy, Shared as CopyShared, Owned as CopyOwned}}}
 use Rattle.protocol.specs.declared.Want.the-variants.{Load as WantLoad, Store as WantStore}
-use Rattle.protocol.specs.declared.Slot.{Slot}
-use Rattle.protocol.specs.declared.Slot.the-variants.{Empty, Asked, Answered}
-use Rattle.protocol.specs.declared.Core.{Core}
-use Rattle.protocol.specs.declared.Manager.{Manager}
-use Rattle.protocol.specs.declared.Manager.the-variants.{Shared, Owned}
-use Rattle.protocol.specs.declared.Recall.{Recall}
-use Rattle.protocol.specs.declared.Recall.the-variants.{None as NoRecall, Downgrade, Flush}
-use Rattle.protocol.specs.declared.Writeback.{Writeback}
-use Rattle.protocol.specs.declared.Writeback.the-variants.{None as NoWriteback, Flight}
-use Rattle.protocol.specs.declared.Line.{Line}
-use Rattle.protocol.specs.declared.Opening.{Opening}
-use Rattle.protocol.specs.declared.State.{State}
-use Rattle.protocol.specs.declared.{Call.Call, Who.Who, Which.Which, Act.Act, About.About}
-use Rattle.protocol.specs.declared.Who.the-variants.{Named as NamedCore, Owner, Nobody}
-use Rattle.protocol.specs.declared.Which.the-variants.{Named as NamedLine, InSlot, Nothing}
-use Rattle.protocol.specs.declared.Act.the-variants.{Load as Loads, Store as Stores, Fence as Fences, Advance as Advances, Transfer}
-use Rattle.protocol.specs.declared.Call.the-variants.{Load, Store, Fence, Evict, Advance, Serve, Receive, Yield, Take}
+use Rattle.protocol.specs.declared.{Slot.{Slot, the-variants.{Empty, Asked, Answered}}, Core.Core}
+use Rattle.protocol.specs.declared.Manager.{Manager, the-variants.{Shared, Owned}}
+use Rattle.protocol.specs.declared.Recall.{Recall, the-variants.{None as NoRecall, Downgrade, Flush}}
+use Rattle.protocol.specs.declared.{Writeback.{Writeback, the-variants.{None as NoWriteback, Flight}}, Line.Line, Opening.Opening, State.State}
+use Rattle.protocol.specs.declared.Call.{Call, the-variants.{Load, Store, Fence, Evict, Advance, Serve, Receive, Yield, Take}}
+use Rattle.protocol.specs.declared.Who.{Who, the-variants.{Named as NamedCore, Owner, Nobody}}
+use Rattle.protocol.specs.declared.Which.{Which, the-variants.{Named as NamedLine, InSlot, Nothing}}
+use Rattle.protocol.specs.declared.Act.{Act, the-variants.{Load as Loads, Store as Stores, Fence as Fences, Advance as Advances, Transfer}}
+use Rattle.protocol.specs.declared.About.{About}
 
 -- ---- Refused because of the input
 

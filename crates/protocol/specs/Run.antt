@@ -1,14 +1,9 @@
 -- A list of calls run from a machine: the record of each call, and the commits read off the records.
 use Prim.Native.Nat.{ℕ, suc}
 use mathlib.Core.List.{List, [], _∷_, _++_}
-use Rattle.protocol.specs.Buffers.{Bytes}
-use Rattle.protocol.specs.About.{about, namedCore, namedLine}
-use Rattle.protocol.specs.Machine.{Machine}
-use Rattle.protocol.specs.Step.{Op, load, store, fence, Reply, refused, done, commit, step}
-use Rattle.protocol.specs.declared.Stamp.{Stamp}
-use Rattle.protocol.specs.declared.Place.{Place}
-use Rattle.protocol.specs.declared.{Call.Call, Act.Act}
-use Rattle.protocol.specs.declared.Act.the-variants.{Load as Loads, Store as Stores, Fence as Fences, Advance as Advances, Transfer}
+use Rattle.protocol.specs.{Buffers.Bytes, About.{about, namedCore, namedLine}, Machine.Machine}
+use Rattle.protocol.specs.{Step.{Op, load, store, fence, Reply, refused, done, commit, step}, declared.{Stamp.Stamp, Place.Place, Call.Call}}
+use Rattle.protocol.specs.declared.Act.{Act, the-variants.{Load as Loads, Store as Stores, Fence as Fences, Advance as Advances, Transfer}}
 
 -- a call of a list, with the bytes given to it (a store's; any other call passes over them)
 pub record Given : Type 0 where

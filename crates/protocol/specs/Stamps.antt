@@ -3,16 +3,9 @@
 -- "Timestamps are 0 to 4,294,967,295. A place is a call's position in the list, from 1. A timestamp is compared only with a
 -- timestamp, a place only with a place."
 use Prim.Native.Nat.{ℕ, _+_, _<_, max}
-use mathlib.Core.Path.{_≡_}
-use mathlib.Core.Bool.{Bool, true, false}
-use mathlib.Core.Logic.{_⊎_}
+use mathlib.Core.{Path._≡_, Bool.{Bool, true, false}, Logic._⊎_}
 use lib.Dec.{ltb, leb, eqb}
-use Rattle.protocol.specs.Pick.{pick}
-use Rattle.protocol.specs.declared.Stamp.{Stamp}
-use Rattle.protocol.specs.declared.Sum.{Sum}
-use Rattle.protocol.specs.declared.Sum.the-variants.{At, Passes}
-use Rattle.protocol.specs.declared.Place.{Place}
-use Rattle.protocol.specs.declared.Key.{Key}
+use Rattle.protocol.specs.{Pick.pick, declared.{Stamp.Stamp, Sum.{Sum, the-variants.{At, Passes}}, Place.Place, Key.Key}}
 
 -- a number as a timestamp
 abbrev pub stamp : ℕ → Stamp

@@ -1,28 +1,15 @@
 -- One call on the machine, for every machine, call and bytes: what it answers, in the scope document's numbers and values, and the
 -- machine after it. And `show`.
 use Prim.Native.Nat.{ℕ, _+_}
-use mathlib.Core.Bool.{Bool, true, false}
-use mathlib.Core.List.{[]}
-use lib.Dec.{eqb}
-use lib.ListN.{length}
-use Rattle.protocol.specs.Pick.{pick}
-use Rattle.protocol.specs.Fresh.{freshState, smallest}
-use Rattle.protocol.specs.Buffers.{Bytes, copyStart, managerStart, copyBytes}
-use Rattle.protocol.specs.About.{about}
-use Rattle.protocol.specs.Machine.{Machine, Pieces, piecesAt, copyAt, coreOf, lineOf, applied}
-use Rattle.protocol.specs.Refusals.{openRefusal, machineRefusal, callRefusal, refusal, orElse, isHeld}
-use Rattle.protocol.specs.Tables.{tableOf}
-use Rattle.protocol.specs.declared.Stamp.{Stamp}
-use Rattle.protocol.specs.declared.Opening.{Opening}
-use Rattle.protocol.specs.declared.State.{State}
-use Rattle.protocol.specs.declared.Call.{Call}
-use Rattle.protocol.specs.declared.{Act.Act, Name.Name, Kind.Kind, Answer.Answer}
-use Rattle.protocol.specs.declared.Call.the-variants.{Load}
-use Rattle.protocol.specs.declared.Act.the-variants.{Load as Loads, Store as Stores, Fence as Fences, Advance as Advances, Transfer}
-use Rattle.protocol.specs.declared.Name.the-variants.{Open}
-use Rattle.protocol.specs.declared.Kind.the-variants.{Load as OfLoad, Store as OfStore, Fence as OfFence}
-use Rattle.protocol.specs.declared.Answer.the-variants.{Refused, Done, Commit}
-use Rattle.protocol.specs.declared.Effect.{Effect}
+use lib.{Dec.eqb, ListN.length}
+use Rattle.protocol.specs.{Pick.pick, Fresh.{freshState, smallest}, Buffers.{Bytes, copyStart, managerStart, copyBytes}, About.about}
+use Rattle.protocol.specs.Machine.{Machine, piecesAt, copyAt, coreOf, lineOf, applied}
+use Rattle.protocol.specs.{Refusals.{openRefusal, machineRefusal, callRefusal, refusal, orElse, isHeld}, Tables.tableOf, declared.Stamp.Stamp}
+use Rattle.protocol.specs.declared.{Opening.Opening, State.State, Call.{Call, the-variants.Load}}
+use Rattle.protocol.specs.declared.Act.{Act, the-variants.{Load as Loads, Store as Stores, Fence as Fences, Advance as Advances, Transfer}}
+use Rattle.protocol.specs.declared.Name.{Name, the-variants.Open}
+use Rattle.protocol.specs.declared.Kind.{Kind, the-variants.{Load as OfLoad, Store as OfStore, Fence as OfFence}}
+use Rattle.protocol.specs.declared.{Answer.{Answer, the-variants.{Refused, Done, Commit}}, Effect.Effect}
 
 -- ---- answers
 

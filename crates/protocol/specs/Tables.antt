@@ -3,41 +3,23 @@
 use Prim.Native.Nat.{ℕ, _+_}
 use mathlib.Core.Bool.{Bool, true, false}
 use lib.Dec.{eqb}
-use Rattle.protocol.specs.Pick.{pick}
-use Rattle.protocol.specs.Stamps.{plus, atMost, same, later}
-use Rattle.protocol.specs.Clock.{loaded, storeTime, stored, fenced, advanced}
-use Rattle.protocol.specs.Machine.{Pieces}
-use Rattle.protocol.specs.Refusals.{stateRefusal}
-use Rattle.protocol.specs.declared.Stamp.{Stamp}
-use Rattle.protocol.specs.declared.Clocks.{Clocks}
-use Rattle.protocol.specs.declared.Copy.{Copy}
-use Rattle.protocol.specs.declared.Copy.the-variants.{None as NoCopy, Shared as CopyShared, Owned as CopyOwned}
-use Rattle.protocol.specs.declared.Want.{Want}
-use Rattle.protocol.specs.declared.Want.the-variants.{Load as WantLoad, Store as WantStore}
-use Rattle.protocol.specs.declared.Held.{Held}
-use Rattle.protocol.specs.declared.Held.the-variants.{None as NothingHeld, Version}
-use Rattle.protocol.specs.declared.Grant.{Grant}
-use Rattle.protocol.specs.declared.Grant.the-variants.{Share as GrantShare, Renew as GrantRenew, Own as GrantOwn}
-use Rattle.protocol.specs.declared.Slot.{Slot}
-use Rattle.protocol.specs.declared.Slot.the-variants.{Empty, Asked, Answered}
-use Rattle.protocol.specs.declared.Core.{Core}
-use Rattle.protocol.specs.declared.Manager.{Manager}
-use Rattle.protocol.specs.declared.Manager.the-variants.{Shared, Owned}
-use Rattle.protocol.specs.declared.Recall.{Recall}
-use Rattle.protocol.specs.declared.Recall.the-variants.{None as NoRecall, Downgrade, Flush}
-use Rattle.protocol.specs.declared.Writeback.{Writeback}
-use Rattle.protocol.specs.declared.Writeback.the-variants.{None as NoWriteback, Flight}
-use Rattle.protocol.specs.declared.Line.{Line}
-use Rattle.protocol.specs.declared.Opening.{Opening}
-use Rattle.protocol.specs.declared.Call.{Call}
-use Rattle.protocol.specs.declared.Call.the-variants.{Load, Store, Fence, Evict, Advance, Serve, Receive, Yield, Take}
-use Rattle.protocol.specs.declared.Answer.{Answer}
-use Rattle.protocol.specs.declared.Answer.the-variants.{Refused, Done, Commit}
-use Rattle.protocol.specs.declared.Name.the-variants.{Ask, Recall as RecallSent, Share, Renew, Own, Drop, Evict as Evicted, Advance as Advanced, Yield as Yielded, Take as Taken}
+use Rattle.protocol.specs.{Pick.pick, Stamps.{plus, atMost, same, later}, Clock.{loaded, storeTime, stored, fenced, advanced}, Machine.Pieces}
+use Rattle.protocol.specs.{Refusals.stateRefusal, declared.{Stamp.Stamp, Clocks.Clocks}}
+use Rattle.protocol.specs.declared.Copy.{Copy, the-variants.{None as NoCopy, Shared as CopyShared, Owned as CopyOwned}}
+use Rattle.protocol.specs.declared.Want.{Want, the-variants.{Load as WantLoad, Store as WantStore}}
+use Rattle.protocol.specs.declared.Held.{Held, the-variants.{None as NothingHeld, Version}}
+use Rattle.protocol.specs.declared.Grant.{Grant, the-variants.{Share as GrantShare, Renew as GrantRenew, Own as GrantOwn}}
+use Rattle.protocol.specs.declared.{Slot.{Slot, the-variants.{Empty, Asked, Answered}}, Core.Core}
+use Rattle.protocol.specs.declared.Manager.{Manager, the-variants.{Shared, Owned}}
+use Rattle.protocol.specs.declared.Recall.{Recall, the-variants.{None as NoRecall, Downgrade, Flush}}
+use Rattle.protocol.specs.declared.{Writeback.{Writeback, the-variants.{None as NoWriteback, Flight}}, Line.Line, Opening.Opening}
+use Rattle.protocol.specs.declared.Call.{Call, the-variants.{Load, Store, Fence, Evict, Advance, Serve, Receive, Yield, Take}}
+use Rattle.protocol.specs.declared.Answer.{Answer, the-variants.{Refused, Done, Commit}}
+use Rattle.protocol.specs.declared.Name.the-variants.{Ask, Recall as RecallSent, Share, Renew, Own, Drop, Evict as Evicted}
+use Rattle.protocol.specs.declared.Name.the-variants.{Advance as Advanced, Yield as Yielded, Take as Taken}
 use Rattle.protocol.specs.declared.Kind.the-variants.{Load as OfLoad, Store as OfStore, Fence as OfFence}
-use Rattle.protocol.specs.declared.Move.{Move}
-use Rattle.protocol.specs.declared.Move.the-variants.{Still, Store as MoveStore, Answer as MoveAnswer, Receive as MoveReceive, Writeback as MoveWriteback, Take as MoveTake}
-use Rattle.protocol.specs.declared.Effect.{Effect}
+use Rattle.protocol.specs.declared.Move.{Move, the-variants.{Still, Store as MoveStore, Answer as MoveAnswer, Receive as MoveReceive}}
+use Rattle.protocol.specs.declared.{Move.the-variants.{Writeback as MoveWriteback, Take as MoveTake}, Effect.Effect}
 
 -- an answer, the bytes that move, and the pieces after the step
 abbrev pub row : Answer → Move → Core → Copy → Line → Effect

@@ -4,15 +4,10 @@
 // What each step does to these parts is written in specs/, in the words of the scope document; this
 // crate's code is what every other crate shares: comparing timestamps, stepping a core's clocks,
 // and the fixed values that a fresh engine starts from. No function here has a `requires`.
-ghost use mathlib.Core.Path.{_≡_};
-ghost use mathlib.Core.List.{[]};
+ghost use mathlib.Core.{Path._≡_, List.[]};
 ghost use Rattle.protocol.specs.Stamps.{greatest, atMost, earlier, same, madeEarlier, later, after, precedes};
-ghost use Rattle.protocol.specs.Clock.{loaded, stored, fenced, advanced};
-ghost use Rattle.protocol.specs.Fresh.{freshCore, freshCell, freshLine, freshState, smallest};
-ghost use Rattle.protocol.specs.Limits.{within, openingFits};
-ghost use Rattle.protocol.specs.About.{concerns, about};
-ghost use Rattle.protocol.specs.Step.{meaning};
-ghost use Rattle.protocol.specs.Counts.{countsOf};
+ghost use Rattle.protocol.specs.{Clock.{loaded, stored, fenced, advanced}, Fresh.{freshCore, freshCell, freshLine, freshState, smallest}};
+ghost use Rattle.protocol.specs.{Limits.{within, openingFits}, About.{concerns, about}, Step.meaning, Counts.countsOf};
 
 // A logical timestamp. It is compared only with another timestamp.
 pub struct Stamp(pub u32);

@@ -1,13 +1,10 @@
 -- Tests that decide a claim, and how they are put together.
 use Prim.Native.Nat.{ℕ, _<_}
-use mathlib.Core.Path.{_≡_, refl, sym, subst}
-use mathlib.Core.Bool.{Bool, true, false}
-use mathlib.Core.Logic.{_⊎_, inl, inr}
-use mathlib.Core.List.{List, [], _∷_}
+use mathlib.Core.{Path.{_≡_, refl, sym, subst}, Bool.{Bool, true, false}, Logic.{_⊎_, inl, inr}, List.{List, [], _∷_}}
 use native.Mathlib.Omega.{arith}
 use lib.Dec.{ltb, eqb}
 use borrow.Author.Tests.{ltb-true, lt-ltb, eqb-true, eq-eqb}
-use Rattle.protocol.specs.{Pick.pick, Pick.both, Pick.every, Pick.fails, Order.In, Order.here, Order.there}
+use Rattle.protocol.specs.{Pick.{pick, both, every, fails}, Order.{In, here, there}}
 
 -- the test b passes exactly where P holds
 pub record Decides (b : Bool) (P : Type 0) : Type 0 where

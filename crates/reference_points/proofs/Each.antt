@@ -1,9 +1,6 @@
 -- A table's rule by one test that antt computes.
-use mathlib.Core.Path.{_≡_}
-use mathlib.Core.Bool.{Bool, true}
-use mathlib.Core.List.{List, [], _∷_, map}
-use Rattle.protocol.specs.Pick.{every}
-use Rattle.protocol.proofs.Tests.{both-true}
+use mathlib.Core.{Path._≡_, Bool.{Bool, true}, List.{List, [], _∷_, map}}
+use Rattle.protocol.{specs.Pick.every, proofs.Tests.both-true}
 use Rattle.reference_points.specs.Rows.{Each, Agree}
 
 -- a test that passes at each entry, and tells P of it

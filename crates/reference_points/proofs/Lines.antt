@@ -1,20 +1,15 @@
 -- What lines say: a line is read where it is spelt, has no form where it differs from each form in its fixed text, and is refused where it has
 -- a form with a wrong value.
 use Prim.Native.Nat.{ℕ, zero, suc, _-_, _≤_}
-use mathlib.Core.Path.{_≡_, refl, sym, _∙_, ap}
-use mathlib.Core.Bool.{Bool, true, false}
-use mathlib.Core.List.{List, [], _∷_}
+use mathlib.Core.{Path.{_≡_, refl, sym, _∙_, ap}, Bool.{Bool, true, false}, List.{List, [], _∷_}}
 use native.Mathlib.Omega.{arith}
-use lib.Dec.{leb, ltb, eqb, lit≤}
-use lib.ListN.{length, getD, drop}
+use lib.{Dec.{leb, ltb, eqb, lit≤}, ListN.{length, getD, drop}}
 use borrow.Author.Tests.{leb-true, ltb-true, eqb-true, eqb-false, le-leb, lt-ltb, eq-eqb}
-use Rattle.protocol.specs.Pick.{pick, both, fails, every}
-use Rattle.protocol.proofs.Tests.{both-true}
-use Rattle.spelling.specs.{Bytes.All, Bytes.Byte, Bytes.upTo, Decimal.decimal, Decimal.decimalUpTo, Decimal.greatest, Decimal.IsNumber}
-use Rattle.spelling.specs.Hex.{hex, IsData}
-use Rattle.spelling.proofs.{DecimalLaws.value as valueOf, DecimalLaws.value-decimal, HexLaws.unhex, HexLaws.unhex-hex}
-use Rattle.grammar.specs.Form.{Value, Part, fixed, value, number, pairs, lay, Each as EachValue, NoBlank, RightNumber, RightData, Has, Given, spellings, spell}
-use Rattle.grammar.specs.{Table.Row, Table.rowAt, Table.rowsOf, declared.Line.Line, declared.Line.the-variants.Refused}
+use Rattle.protocol.{specs.Pick.{pick, both, fails, every}, proofs.Tests.both-true}
+use Rattle.spelling.specs.{Bytes.{All, Byte, upTo}, Decimal.{decimal, decimalUpTo, greatest, IsNumber}, Hex.{hex, IsData}}
+use Rattle.spelling.proofs.{DecimalLaws.{value as valueOf, value-decimal}, HexLaws.{unhex, unhex-hex}}
+use Rattle.grammar.specs.Form.{Value, Part, fixed, value, number, pairs, lay, Each as EachValue, NoBlank, RightNumber, RightData, Has, Given}
+use Rattle.grammar.specs.{Form.{spellings, spell}, Table.{Row, rowAt, rowsOf}, declared.Line.{Line, the-variants.Refused}}
 use Rattle.grammar.specs.Line.{said, Fits, LineOf, tooLong, noForm, wrongNumber, wrongData, spelt}
 use Rattle.reference_points.specs.Lines.{Written, Says, formless, misnumbered, misspelt, LinesTheorem}
 use Rattle.reference_points.proofs.Each.{each}

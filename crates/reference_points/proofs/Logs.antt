@@ -1,17 +1,14 @@
 -- The logs: a test decides whether a log of numbers obeys TSO, and antt computes it for each.
 use Prim.Native.Nat.{ℕ}
-use mathlib.Core.Path.{_≡_, refl, subst, ap, ap₂}
-use mathlib.Core.Bool.{Bool, true, false}
-use mathlib.Core.Logic.{_⊎_}
+use mathlib.Core.{Path.{_≡_, refl, subst, ap, ap₂}, Bool.{Bool, true, false}, Logic._⊎_}
 use native.Mathlib.Omega.{arith}
 use lib.Dec.{ltb, eqb}
-use Rattle.protocol.specs.{Pick.pick, Pick.both, Pick.every, Pick.fails, Stamps.precedes, Step.Op, Step.load, Step.store, Step.fence, Run.Commit}
-use Rattle.protocol.specs.Order.{In, key, Before, Earlier, TsoKeeps, Stores, Loads, MaySee, LastWrite, TSO}
-use Rattle.protocol.proofs.Order.Theorem.{key-theorem}
+use Rattle.protocol.specs.{Pick.{pick, both, every, fails}, Stamps.precedes, Step.{Op, load, store, fence}, Run.Commit}
+use Rattle.protocol.{specs.Order.{In, key, Before, Earlier, TsoKeeps, Stores, Loads, MaySee, LastWrite, TSO}, proofs.Order.Theorem.key-theorem}
 use Rattle.reference_points.specs.Logs.{Log, at, obeying, disobeying, TsoTheorem, NotTsoTheorem}
 use Rattle.reference_points.proofs.Each.{each}
-use Rattle.reference_points.proofs.Decides.{Decides, never, sure, reworded, and-decides, or-decides, if-decides, not-decides}
-use Rattle.reference_points.proofs.Decides.{eq-decides, lt-decides, some, every-decides, some-decides}
+use Rattle.reference_points.proofs.Decides.{Decides, never, sure, reworded, and-decides, or-decides, if-decides, not-decides, eq-decides}
+use Rattle.reference_points.proofs.Decides.{lt-decides, some, every-decides, some-decides}
 
 -- ---- commits
 

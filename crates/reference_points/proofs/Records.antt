@@ -1,6 +1,6 @@
 -- The printed lines are as the definitions give them: antt computes both.
 use mathlib.Core.Path.{refl}
-use Rattle.spelling.specs.{Decimal.decimal, Decimal.decimalUpTo, Hex.hex}
+use Rattle.spelling.specs.{Decimal.{decimal, decimalUpTo}, Hex.hex}
 use Rattle.listing.specs.Record.{recordText, endText}
 use Rattle.reference_points.specs.Records.{recorded, lineOf, records, RecordsTheorem}
 use Rattle.reference_points.proofs.Each.{agree}

@@ -1,16 +1,15 @@
 -- The rows hold: antt computes what `step` gives on each machine, and both sides are the same.
 use mathlib.Core.Path.{refl}
-use Rattle.protocol.specs.{Pick.every, Pick.first, Limits.openingFits, Buffers.splice, Buffers.movedPrivate, Buffers.movedShared, Machine.applied}
+use Rattle.protocol.specs.{Pick.{every, first}, Limits.openingFits, Buffers.{movedPrivate, movedShared}, Machine.applied}
 use Rattle.protocol.specs.Refusals.{openRefusal, ownersFit, slotsFit, stateFits, buffersFit, machineRefusal, callRules, callRefusal, stateRules}
-use Rattle.protocol.specs.{Refusals.stateRefusal, Refusals.refusal, Step.meaning, Step.accepted, Step.step, Step.shown}
+use Rattle.protocol.specs.{Refusals.{stateRefusal, refusal}, Step.{meaning, accepted, step, shown}}
 use Rattle.protocol.specs.Tables.{loadOwned, loadTable, storeTable, fenceTable, advanceTable, evictTable, serveLoad, serveAsked, serveTable}
 use Rattle.protocol.specs.Tables.{receiveRenew, receiveGrant, receiveTable, yieldTable, takeTable, tableOf}
-use Rattle.reference_points.specs.{Rows.got, Rows.told, Points.points, Points.PointsTheorem}
-use Rattle.reference_points.specs.Steps.{alsoAt, askRows, loadRows, storeRows, fenceRows, advanceRows, evictRows, serveRows}
-use Rattle.reference_points.specs.Steps.{receiveRows, writebackRows, StepsTheorem}
+use Rattle.reference_points.specs.{Rows.{got, told}, Points.{points, PointsTheorem}}
+use Rattle.reference_points.specs.Steps.{alsoAt, askRows, loadRows, storeRows, fenceRows, advanceRows, evictRows, serveRows, receiveRows}
+use Rattle.reference_points.specs.Steps.{writebackRows, StepsTheorem}
 use Rattle.reference_points.specs.Numbers.{called, turnedAway, refusals, NumbersTheorem, opens, accepted as isAccepted, refusedWithSeven}
-use Rattle.reference_points.specs.Numbers.{inside, outside, OpeningsTheorem}
-use Rattle.reference_points.specs.Show.{isShown, isTold, looks, ShowTheorem}
+use Rattle.reference_points.specs.{Numbers.{inside, outside, OpeningsTheorem}, Show.{isShown, isTold, looks, ShowTheorem}}
 use Rattle.reference_points.proofs.Each.{agree}
 
 -- ---- the definitions that a call computes by
@@ -28,7 +27,7 @@ unfolding serveLoad serveAsked serveTable receiveRenew receiveGrant receiveTable
 flightTables = tt
 
 unfoldable pub calling : Unit {0}
-unfolding refusing coreTables flightTables tableOf splice movedPrivate movedShared applied meaning accepted step shown
+unfolding refusing coreTables flightTables tableOf movedPrivate movedShared applied meaning accepted step shown
 calling = tt
 
 -- ---- the theorems

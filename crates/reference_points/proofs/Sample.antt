@@ -1,23 +1,18 @@
 -- The listing of 01's sample journal: what each line says, and what the engine answers.
 use Prim.Native.Nat.{ℕ, _+_, _-_}
-use mathlib.Core.Path.{_≡_, refl}
-use mathlib.Core.Bool.{Bool, true}
-use mathlib.Core.List.{List, [], _∷_}
+use mathlib.Core.{Path.{_≡_, refl}, Bool.{Bool, true}, List.{List, [], _∷_}}
 use native.Mathlib.Omega.{arith}
-use lib.Dec.{ltb, eqb, lit≤}
-use lib.ListN.{length, take, drop}
+use lib.{Dec.{ltb, eqb, lit≤}, ListN.{length, take, drop}}
 use borrow.Author.Tests.{ltb-true, eqb-true}
-use Rattle.protocol.specs.{Pick.both, Run.run, Counts.total}
-use Rattle.protocol.proofs.Tests.{both-true}
-use Rattle.spelling.specs.{Bytes.upTo, Decimal.decimal, Decimal.decimalUpTo, Hex.hex}
-use Rattle.grammar.specs.{Form.lay, Form.spellings, Form.spell, Table.rowAt, Table.rowsOf}
-use Rattle.journal.specs.Journal.{placed, NextOf, ended}
-use Rattle.journal.proofs.Lines.{line-answer}
+use Rattle.protocol.{specs.{Pick.both, Run.run, Counts.total}, proofs.Tests.both-true}
+use Rattle.spelling.specs.{Bytes.upTo, Decimal.{decimal, decimalUpTo}, Hex.hex}
+use Rattle.grammar.specs.{Form.{lay, spellings, spell}, Table.{rowAt, rowsOf}}
+use Rattle.journal.{specs.Journal.{placed, NextOf, ended}, proofs.Lines.line-answer}
 use Rattle.listing.specs.Record.{recordText, endText}
 use Rattle.driver.specs.Listing.{Data, noData, someData, noLine, aLine, atEnd, lines}
 use Rattle.playing.specs.Listing.{opens}
 use Rattle.reference_points.specs.Sample.{sampleJournal, SampleTheorem}
-use Rattle.reference_points.proofs.{Rows.calling, Lines.takes, Lines.saying, Lines.spelt-line}
+use Rattle.reference_points.proofs.{Rows.calling, Lines.{takes, saying, spelt-line}}
 
 -- the bytes of the sample from one place up to another
 abbrev from : ℕ → ℕ → List ℕ

@@ -1,12 +1,10 @@
 -- A chain of the engine's own calls, each known by its contract: three calls on the smallest engine, what each of them returns, and the commits
 -- read off what they returned.
 use Prim.Native.Nat.{ℕ}
-use mathlib.Core.Path.{_≡_}
-use mathlib.Core.List.{List, [], _∷_}
-use Rattle.protocol.specs.{Stamps.stamp, Fresh.smallest, Buffers.Bytes, Machine.Machine, Machine.freshMachine, Step.fence, Step.step}
-use Rattle.protocol.specs.{Run.place, Run.Commit, declared.Call.Call, declared.Answer.Answer, declared.Kind.the-variants.Fence as OfFence}
-use Rattle.protocol.specs.declared.Call.the-variants.{Load, Fence, Take}
-use Rattle.protocol.specs.declared.Answer.the-variants.{Refused, Done, Commit as Committed}
+use mathlib.Core.{Path._≡_, List.{List, [], _∷_}}
+use Rattle.protocol.specs.{Stamps.stamp, Fresh.smallest, Buffers.Bytes, Machine.{Machine, freshMachine}, Step.{fence, step}, Run.{place, Commit}}
+use Rattle.protocol.specs.declared.Call.{Call, the-variants.{Load, Fence, Take}}
+use Rattle.protocol.specs.declared.{Answer.{Answer, the-variants.{Refused, Done, Commit as Committed}}, Kind.the-variants.Fence as OfFence}
 use Rattle.protocol.specs.declared.Name.the-variants.{Ask}
 use Rattle.engine.specs.History.{Made, MadeFrom, history}
 

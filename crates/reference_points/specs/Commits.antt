@@ -1,12 +1,10 @@
 -- The commits of a short list of calls: which calls commit, and what a commit carries (01, demand 3).
 use Prim.Native.Nat.{ℕ}
-use mathlib.Core.Path.{_≡_}
-use mathlib.Core.List.{List, [], _∷_, map}
-use Rattle.protocol.specs.{Stamps.stamp, Buffers.Bytes, Machine.freshMachine, Run.Given, Run.Record, Run.Commit, Run.place, Run.run}
-use Rattle.protocol.specs.{Step.Op, Step.load, Step.store, Step.fence, Step.Reply, Step.refused, Step.done, Step.commit, Order.commitsOf}
-use Rattle.protocol.specs.{declared.Opening.Opening, declared.Call.Call}
+use mathlib.Core.{Path._≡_, List.{List, [], _∷_, map}}
+use Rattle.protocol.specs.{Stamps.stamp, Buffers.Bytes, Machine.freshMachine, Run.{Given, Record, Commit, place, run}}
+use Rattle.protocol.specs.{Step.{Op, load, store, fence, Reply, refused, done, commit}, Order.commitsOf, declared.Opening.Opening}
+use Rattle.protocol.specs.declared.Call.{Call, the-variants.{Load, Store, Fence, Evict, Advance, Serve, Receive, Take}}
 use Rattle.protocol.specs.declared.Name.the-variants.{Ask as ask, Share as share, Own as own, Evict as evict, Advance as advance}
-use Rattle.protocol.specs.declared.Call.the-variants.{Load, Store, Fence, Evict, Advance, Serve, Receive, Take}
 use Rattle.reference_points.specs.Numbers.{opening}
 
 -- 2 cores, 3 lines, a width of 2 and a lease of 10

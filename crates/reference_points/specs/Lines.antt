@@ -4,8 +4,7 @@ use mathlib.Core.List.{List, [], _∷_}
 use lib.ListN.{replicate}
 use Rattle.protocol.specs.declared.Call.the-variants.{Load, Store, Fence, Evict, Advance, Serve, Receive, Yield, Take}
 use Rattle.spelling.specs.Text.{text}
-use Rattle.grammar.specs.{Table.rowsOf, Line.LineOf, declared.Line.Line}
-use Rattle.grammar.specs.declared.Line.the-variants.{Opening, Step, Refused}
+use Rattle.grammar.specs.{Table.rowsOf, Line.LineOf, declared.Line.{Line, the-variants.{Opening, Step, Refused}}}
 use Rattle.reference_points.specs.{Rows.Each, Numbers.opening}
 
 -- a line of a journal, where the first line is due (form 0) or after `fabric=1` (form 1)

@@ -3,7 +3,7 @@
 -- The values are numbers; where nothing is stored a line reads 0.
 use Prim.Native.Nat.{ℕ}
 use mathlib.Core.List.{List, [], _∷_}
-use Rattle.protocol.specs.{Stamps.stamp, Step.Op, Step.load, Step.store, Step.fence, Run.Commit, Run.place, Order.TSO}
+use Rattle.protocol.specs.{Stamps.stamp, Step.{Op, load, store, fence}, Run.{Commit, place}, Order.TSO}
 use Rattle.reference_points.specs.Rows.{Each}
 
 abbrev pub Log : Type 0

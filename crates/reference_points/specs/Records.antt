@@ -1,10 +1,8 @@
 -- The lines that the program prints, byte for byte (01, "Journal and driver").
 use Prim.Native.Nat.{ℕ}
-use mathlib.Core.Path.{_≡_}
-use mathlib.Core.List.{List, [], _∷_, _++_}
-use Rattle.protocol.specs.{Stamps.stamp, Buffers.Bytes, Step.load, Step.store, Step.fence, Step.Reply, Step.refused, Step.done, Step.commit}
-use Rattle.protocol.specs.{Run.place, Counts.counts, declared.Counts.Counts}
-use Rattle.protocol.specs.declared.Name.the-variants.{Open, Ask, Recall, Share, Renew, Own, Drop, Evict, Advance, Yield, Take}
+use mathlib.Core.{Path._≡_, List.{List, [], _∷_, _++_}}
+use Rattle.protocol.specs.{Stamps.stamp, Buffers.Bytes, Step.{load, store, fence, Reply, refused, done, commit}, Run.place, Counts.counts}
+use Rattle.protocol.specs.declared.{Counts.Counts, Name.the-variants.{Open, Ask, Recall, Share, Renew, Own, Drop, Evict, Advance, Yield, Take}}
 use Rattle.spelling.specs.Text.{text}
 use Rattle.listing.specs.Record.{recordText, endText}
 use Rattle.driver.specs.Listing.{ended, stopped, lastLines, notOpened}

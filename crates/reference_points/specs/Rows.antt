@@ -3,20 +3,16 @@
 -- The machine has 3 cores, 4 lines and a width of 5, and a row is about core 1 and line 2. The other cores, lines and copies hold something of
 -- their own, and so do cores and lines outside the sizes, so that a step which looks or writes elsewhere shows. No two bytes are equal.
 use Prim.Native.Nat.{ℕ, zero, suc}
-use mathlib.Core.Path.{_≡_}
-use mathlib.Core.Bool.{true, false}
-use mathlib.Core.List.{List, [], _∷_, _++_}
+use mathlib.Core.{Path._≡_, Bool.{true, false}, List.{List, [], _∷_, _++_}}
 use lib.ListN.{set, replicate}
-use Rattle.protocol.specs.{Stamps.stamp, Fresh.freshCore, Fresh.freshCell, Fresh.freshLine, Buffers.Bytes, Step.Reply, Step.Outcome, Step.step}
-use Rattle.protocol.specs.{Machine.Machine, Machine.machine, Machine.Pieces, declared.Copy.Copy, declared.Want.Want, declared.Held.Held}
-use Rattle.protocol.specs.declared.Copy.the-variants.{None as NoCopy, Shared as CopyShared, Owned as CopyOwned}
-use Rattle.protocol.specs.{declared.Want.the-variants.Load as WantLoad, declared.Want.the-variants.Store as WantStore, declared.Grant.Grant}
-use Rattle.protocol.specs.{declared.Held.the-variants.None as NothingHeld, declared.Held.the-variants.Version, declared.Slot.Slot}
-use Rattle.protocol.specs.{declared.Grant.the-variants.Share as GrantShare, declared.Slot.the-variants.Asked, declared.Slot.the-variants.Answered}
-use Rattle.protocol.specs.{declared.Core.Core, declared.Cell.Cell, declared.Manager.the-variants.Shared, declared.Manager.the-variants.Owned}
-use Rattle.protocol.specs.{declared.Recall.Recall, declared.Writeback.the-variants.None as NoWriteback, declared.Writeback.the-variants.Flight}
-use Rattle.protocol.specs.declared.Recall.the-variants.{None as NoRecall, Downgrade, Flush}
-use Rattle.protocol.specs.{declared.Line.Line, declared.State.State, declared.Call.Call}
+use Rattle.protocol.specs.{Stamps.stamp, Fresh.{freshCore, freshCell, freshLine}, Buffers.Bytes, Step.{Reply, Outcome, step}}
+use Rattle.protocol.specs.Machine.{Machine, machine, Pieces}
+use Rattle.protocol.specs.declared.Copy.{Copy, the-variants.{None as NoCopy, Shared as CopyShared, Owned as CopyOwned}}
+use Rattle.protocol.specs.declared.Want.{Want, the-variants.{Load as WantLoad, Store as WantStore}}
+use Rattle.protocol.specs.declared.{Held.{Held, the-variants.{None as NothingHeld, Version}}, Grant.{Grant, the-variants.Share as GrantShare}}
+use Rattle.protocol.specs.declared.{Slot.{Slot, the-variants.{Asked, Answered}}, Core.Core, Cell.Cell, Manager.the-variants.{Shared, Owned}}
+use Rattle.protocol.specs.declared.Recall.{Recall, the-variants.{None as NoRecall, Downgrade, Flush}}
+use Rattle.protocol.specs.declared.{Writeback.the-variants.{None as NoWriteback, Flight}, Line.Line, State.State, Call.Call}
 
 -- ---- parts of a machine
 

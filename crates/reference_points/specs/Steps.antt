@@ -1,23 +1,20 @@
 -- The step tables of 01, row by row: beside the reference points, what each step does to the core, its copy, the manager's line and the bytes.
 -- What it leaves shows where there is something to leave: a slot in use, a copy held, a recall and a writeback. So does a number that comes early.
 use Prim.Native.Nat.{ℕ}
-use mathlib.Core.Path.{_≡_}
-use mathlib.Core.List.{List, [], _∷_, _++_, map}
-use Rattle.protocol.specs.{Stamps.stamp, Machine.machine, Machine.Pieces, Step.done, Step.commit, Step.load, Step.store, Step.fence}
-use Rattle.protocol.specs.{Step.Outcome, Step.step, declared.Name.Name, declared.Copy.Copy, declared.Copy.the-variants.None as NoCopy}
-use Rattle.protocol.specs.declared.Name.the-variants.{Ask as ask, Recall as recall, Share as share, Renew as renew, Own as own, Drop as dropped}
-use Rattle.protocol.specs.declared.Name.the-variants.{Evict as evict, Advance as advance, Yield as yield, Take as taken}
-use Rattle.protocol.specs.{declared.Want.Want, declared.Want.the-variants.Load as WantLoad, declared.Want.the-variants.Store as WantStore}
-use Rattle.protocol.specs.{declared.Held.Held, declared.Held.the-variants.None as NothingHeld, declared.Held.the-variants.Version}
+use mathlib.Core.{Path._≡_, List.{List, [], _∷_, _++_, map}}
+use Rattle.protocol.specs.{Stamps.stamp, Machine.{machine, Pieces}, Step.{done, commit, load, store, fence, Outcome, step}}
+use Rattle.protocol.specs.declared.Name.{Name, the-variants.{Ask as ask, Recall as recall, Share as share, Renew as renew, Own as own}}
+use Rattle.protocol.specs.declared.Name.the-variants.{Drop as dropped, Evict as evict, Advance as advance, Yield as yield, Take as taken}
+use Rattle.protocol.specs.declared.{Copy.{Copy, the-variants.None as NoCopy}, Want.{Want, the-variants.{Load as WantLoad, Store as WantStore}}}
+use Rattle.protocol.specs.declared.Held.{Held, the-variants.{None as NothingHeld, Version}}
 use Rattle.protocol.specs.declared.Grant.the-variants.{Share as GrantShare, Renew as GrantRenew, Own as GrantOwn}
-use Rattle.protocol.specs.{declared.Slot.Slot, declared.Slot.the-variants.Empty, declared.Slot.the-variants.Answered, declared.Recall.Recall}
-use Rattle.protocol.specs.declared.Recall.the-variants.{None as NoRecall, Downgrade, Flush}
-use Rattle.protocol.specs.{declared.Line.Line, declared.State.State, declared.Call.Call}
-use Rattle.protocol.specs.declared.Call.the-variants.{Load, Store, Fence, Evict, Advance, Serve, Receive, Yield, Take}
+use Rattle.protocol.specs.declared.{Slot.{Slot, the-variants.{Empty, Answered}}, Recall.{Recall, the-variants.{None as NoRecall, Downgrade, Flush}}}
+use Rattle.protocol.specs.declared.{Line.Line, State.State}
+use Rattle.protocol.specs.declared.Call.{Call, the-variants.{Load, Store, Fence, Evict, Advance, Serve, Receive, Yield, Take}}
 use Rattle.reference_points.specs.Rows.{core, asked, answered, askedElsewhere, answeredElsewhere, sharedCopy, cleanCopy, dirtyCopy, pieces}
-use Rattle.reference_points.specs.Rows.{sharedLine, ownedLine, withRecall, withWriteback, busy, greatest, Row, AllHold}
-use Rattle.reference_points.specs.Rows.{Places, places, copyBytes, managerBytes, writebackBytes, answerBytes, unmoved, given}
-use Rattle.reference_points.specs.Rows.{counting, private, shared, stateOf, withCore, withLine}
+use Rattle.reference_points.specs.Rows.{sharedLine, ownedLine, withRecall, withWriteback, busy, greatest, Row, AllHold, Places, places}
+use Rattle.reference_points.specs.Rows.{copyBytes, managerBytes, writebackBytes, answerBytes, unmoved, given, counting, private, shared}
+use Rattle.reference_points.specs.Rows.{stateOf, withCore, withLine}
 
 -- a call that is done: what it answers, the pieces and the bytes after it
 abbrev pub doing : Pieces → Call → Name → Pieces → Places → Row

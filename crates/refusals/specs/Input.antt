@@ -1,17 +1,9 @@
 -- The part of a machine that the refusals 1 and 2 look at, and the refusals because of the input.
 use Prim.Native.Nat.{ℕ}
-use mathlib.Core.Bool.{Bool}
-use mathlib.Core.List.{List, []}
+use mathlib.Core.{Bool.Bool, List.{List, []}}
 use lib.ListN.{replicate}
-use Rattle.protocol.specs.Pick.{both}
-use Rattle.protocol.specs.Limits.{openingFits}
-use Rattle.protocol.specs.Machine.{Machine, machine}
-use Rattle.protocol.specs.Refusals.{buffersFit, machineRefusal, callRefusal, orElse}
-use Rattle.protocol.specs.declared.Core.{Core}
-use Rattle.protocol.specs.declared.Line.{Line}
-use Rattle.protocol.specs.declared.Opening.{Opening}
-use Rattle.protocol.specs.declared.State.{State}
-use Rattle.protocol.specs.declared.Call.{Call}
+use Rattle.protocol.specs.{Pick.both, Limits.openingFits, Machine.{Machine, machine}, Refusals.{buffersFit, machineRefusal, callRefusal, orElse}}
+use Rattle.protocol.specs.declared.{Core.Core, Line.Line, Opening.Opening, Call.Call}
 
 -- a machine with this opening, these cores and manager lines, and buffers of np and nq bytes. No refusal of 1 and 2 looks at a copy or at a
 -- byte, so no copies are given, and the bytes are 0

@@ -1,10 +1,10 @@
 // The refusals because of the input: 1 and 2, which look over the state and the buffers, and 3 to 6,
 // which look at what the call names.
-ghost use mathlib.Core.Path.{_≡_};
-ghost use mathlib.Core.Bool.{true};
+ghost use mathlib.Core.{Path._≡_, Bool.true};
 ghost use Prim.Native.Nat.{_≤_};
 ghost use Rattle.protocol.specs.Limits.{mostCores, mostLines, openingFits};
-ghost use Rattle.protocol.specs.Refusals.{ownerFits, slotFits, ownersFit, slotsFit, stateFits, buffersFit, machineRefusal, noCore, noLine, wrongCount, byNothing, callRefusal};
+ghost use Rattle.protocol.specs.Refusals.{ownerFits, slotFits, ownersFit, slotsFit, stateFits, buffersFit, machineRefusal, noCore, noLine};
+ghost use Rattle.protocol.specs.Refusals.{wrongCount, byNothing, callRefusal};
 ghost use Rattle.refusals.specs.Input.{machineWith, inputRefusal, lengthsFit};
 use protocol::Act;
 use protocol::Call;

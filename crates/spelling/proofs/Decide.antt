@@ -1,12 +1,11 @@
 -- Whether bytes are a number, and whether they are data, can be told. Assumes nothing.
 use Prim.Native.Nat.{ℕ, _≤_, _<_}
-use mathlib.Core.{Path._≡_, Path.refl, Path.sym, Path._∙_, Path.ap, Path.ap₂, Path.subst, Bool.Bool, Bool.true, Bool.false}
-use mathlib.Core.{List.List, List.[], List._∷_, Logic._⊎_, Logic.inl, Logic.inr}
+use mathlib.Core.{Path.{_≡_, refl, sym, _∙_, ap, ap₂, subst}, Bool.{Bool, true, false}, List.{List, [], _∷_}, Logic.{_⊎_, inl, inr}}
 use native.Mathlib.Omega.{arith}
 use lib.{Dec.eqb, ListN.length}
 use borrow.Author.Tests.{eqb-true, eqb-false}
-use Rattle.spelling.specs.{Bytes.All, Bytes.Byte, Decimal.decimal, Decimal.greatest, Decimal.IsNumber, Hex.hex, Hex.IsData}
-use Rattle.spelling.proofs.{Lists.le-or-lt, DecimalLaws.value, DecimalLaws.value-decimal, HexLaws.unhex, HexLaws.unhex-hex}
+use Rattle.spelling.specs.{Bytes.{All, Byte}, Decimal.{decimal, greatest, IsNumber}, Hex.{hex, IsData}}
+use Rattle.spelling.proofs.{Lists.le-or-lt, DecimalLaws.{value, value-decimal}, HexLaws.{unhex, unhex-hex}}
 
 -- P holds, or it does not
 abbrev pub Told : Type 0 → Type 0

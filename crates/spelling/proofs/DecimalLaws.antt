@@ -1,12 +1,10 @@
 -- Laws of the decimal spelling. Assumes nothing.
 use Prim.Native.Nat.{ℕ, zero, suc, _+_, _*_, _/_, _%_, _≤_, _<_, _-_, _^_}
-use mathlib.Core.{Path._≡_, Path.refl, Path.sym, Path._∙_, Path.ap, Path.ap₂, List.List, List.[], List._∷_, List._++_}
-use native.Mathlib.{Numerals.add-one, Omega.arith, Nat.le-trans, Nat.pow-suc}
-use mathlib.Core.Logic.{_⊎_, ⊎-elim}
-use lib.{ListN.length, ListN.getD, ListN.take, ListN.drop, ListN.length-append, ListN.List·getD-append, Dec.lit<}
-use lib.Seq.{split-at, getD-take, take-all, take-suc}
+use mathlib.Core.{Path.{_≡_, refl, sym, _∙_, ap, ap₂}, List.{List, [], _∷_, _++_}, Logic.{_⊎_, ⊎-elim}}
+use native.Mathlib.{Numerals.add-one, Omega.arith, Nat.{le-trans, pow-suc}}
+use lib.{ListN.{length, getD, take, drop, length-append, List·getD-append}, Dec.lit<, Seq.{split-at, getD-take, take-all, take-suc}}
 use borrow.Author.Tests.{lt-ltb, le-ltb}
-use Rattle.spelling.specs.{Bytes.All, Decimal.decimalUpTo, Decimal.decimal, Decimal.greatest}
+use Rattle.spelling.specs.{Bytes.All, Decimal.{decimalUpTo, decimal, greatest}}
 use Rattle.spelling.proofs.Lists.{le-or-lt, all-append, all-at}
 
 -- n has at most k + 1 digits

@@ -1,11 +1,11 @@
 -- Data read back. Assumes nothing.
 use Prim.Native.Nat.{ℕ, zero, suc, _+_, _*_, _/_, _%_, _≤_, _<_}
-use mathlib.Core.{Path._≡_, Path.refl, Path.sym, Path._∙_, Path.ap, Path.ap₂, List.List, List.[], List._∷_, Logic._⊎_, Logic.⊎-elim}
-use native.Mathlib.{Omega.arith, Nat.le-of-suc-le-suc, Nat.not-suc-le-zero}
+use mathlib.Core.{Path.{_≡_, refl, sym, _∙_, ap, ap₂}, List.{List, [], _∷_}, Logic.{_⊎_, ⊎-elim}}
+use native.Mathlib.{Omega.arith, Nat.{le-of-suc-le-suc, not-suc-le-zero}}
 use lib.ListN.{length, getD, take, set}
 use borrow.Author.Tests.{lt-ltb, le-ltb}
-use Rattle.spelling.specs.{Bytes.Byte, Hex.hex, Hex.digit, Hex.Spells, Over.over, Over.IsNibble}
-use Rattle.spelling.proofs.{Lists.le-or-lt, Lists.all-at, OverLaws.text-more}
+use Rattle.spelling.specs.{Bytes.Byte, Hex.{hex, digit, Spells}, Over.{over, IsNibble}}
+use Rattle.spelling.proofs.{Lists.{le-or-lt, all-at}, OverLaws.text-more}
 
 small-digit : (d : ℕ) → d < 10 → digit d ≡ 48 + d
 small-digit d h = rw (lt-ltb d 10 h)

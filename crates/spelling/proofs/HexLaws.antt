@@ -1,11 +1,10 @@
 -- Laws of the hex spelling. Assumes nothing.
 use Prim.Native.Nat.{ℕ, _+_, _*_, _/_, _%_, _<_, _-_}
-use mathlib.Core.{Path._≡_, Path.refl, Path.sym, Path._∙_, Path.ap, Bool.cond, List.List, List.[], List._∷_}
-use mathlib.Core.Logic.{_⊎_, inl, inr, ⊎-elim}
+use mathlib.Core.{Path.{_≡_, refl, sym, _∙_, ap}, Bool.cond, List.{List, [], _∷_}, Logic.{_⊎_, inl, inr, ⊎-elim}}
 use native.Mathlib.Omega.{arith}
-use lib.{ListN.length, ListN.getD, Dec.ltb}
+use lib.{ListN.{length, getD}, Dec.ltb}
 use borrow.Author.Tests.{lt-ltb, le-ltb}
-use Rattle.spelling.specs.{Bytes.All, Bytes.Byte, Hex.digit, Hex.hex, Hex.Spells, Hex.HexDigit}
+use Rattle.spelling.specs.{Bytes.{All, Byte}, Hex.{digit, hex, Spells, HexDigit}}
 use Rattle.spelling.proofs.Lists.{le-or-lt, all-at}
 
 -- the number that a digit stands for

@@ -1,9 +1,8 @@
 -- Laws on lists of bytes. Assumes nothing.
 use Prim.Native.Nat.{ℕ, zero, suc, _≤_, _<_, zero-le, suc-le-suc}
-use mathlib.Core.{Path._≡_, Path.refl, Bool.Bool, Bool.true, Bool.false, List.List, List.[], List._∷_, List._++_}
-use mathlib.Core.Logic.{_⊎_, inl, inr}
+use mathlib.Core.{Path.{_≡_, refl}, Bool.{Bool, true, false}, List.{List, [], _∷_, _++_}, Logic.{_⊎_, inl, inr}}
 use native.Mathlib.Nat.{le-of-suc-le-suc, not-suc-le-zero}
-use lib.{ListN.length, ListN.getD, Dec.leb}
+use lib.{ListN.{length, getD}, Dec.leb}
 use borrow.Author.Tests.{leb-true, leb-false}
 use Rattle.spelling.specs.Bytes.{All}
 

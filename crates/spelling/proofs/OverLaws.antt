@@ -1,24 +1,52 @@
 -- Laws of text written over a part of a buffer. Assumes nothing.
 use Prim.Native.Nat.{ℕ, zero, suc, _+_, _*_, _/_, _%_, _≤_, _<_, _-_}
-use mathlib.Core.{Path._≡_, Path.refl, Path.sym, Path._∙_, Path.ap, Path.ap₂, Bool.Bool, Bool.true, Bool.false, Bool.cond, Bool.not}
-use mathlib.Core.List.{List, [], _∷_, _++_, append-assoc, append-nil}
+use mathlib.Core.{Path.{_≡_, refl, sym, _∙_, ap, ap₂}, Bool.{Bool, true, false, cond, not}, List.{List, [], _∷_, _++_, append-assoc, append-nil}}
 use native.Mathlib.{Omega.arith, Nat.add-zero, Numerals.add-one}
 use lib.ListN.{length, getD, take, drop, set, length-append, length-take, length-drop, take-append-drop}
-use lib.Seq.{drop-cons, set-at, take-suc, length-take-le, take-append-seam, drop-append-seam, drop-append-add, drop-drop}
-use lib.Dec.{ltb, leb}
-use Rattle.spelling.specs.{Over.fits, Over.over, Over.twentyBefore, Over.PutAt, Over.PutBefore, Decimal.decimal, Decimal.decimalUpTo}
-use Rattle.spelling.specs.declared.Put.{Put}
-use Rattle.spelling.specs.declared.Put.the-variants.{End, Short}
+use lib.Seq.{drop-cons, set-at, take-at, drop-at, take-suc, length-take-le, take-append-le, drop-append-le, take-append-seam, drop-append-add}
+use lib.{Seq.drop-drop, Dec.{ltb, leb}}
+use Rattle.spelling.specs.{Over.{fits, over, twentyBefore, PutAt, PutBefore}, Decimal.{decimal, decimalUpTo}}
+use Rattle.spelling.specs.{declared.Put.{Put, the-variants.{End, Short}}, Hex.{hex, digit}}
 use borrow.Author.Tests.{le-leb, lt-leb, leb-true, leb-false, not-true, not-false}
-use Rattle.spelling.specs.Hex.{hex, digit}
-use Rattle.spelling.proofs.DecimalLaws.{widest, decimal-more, decimal-digit, decimal-nonempty}
-use Rattle.spelling.proofs.HexLaws.{hex-length}
+use Rattle.spelling.proofs.{DecimalLaws.{widest, decimal-more, decimal-digit, decimal-nonempty}, HexLaws.hex-length}
 
 pub over-none : (old : List ℕ) (at : ℕ) → old ≡ over old at []
 over-none old at = sym (take-append-drop at old) ∙ ap (λ (k : ℕ). take at old ++ drop k old) (sym (add-zero at))
 
-pub over-length : (old : List ℕ) (at : ℕ) (t : List ℕ) → at + length t ≤ length old → length (over old at t) ≡ length old
-over-length old at t h = simp (length-append, length-take, length-drop) (omega arith)
+-- ---- a text over a part of a buffer that has room for it
+module _ (old : List ℕ) (at : ℕ) (t : List ℕ) (h : at + length t ≤ length old) where
+  pub over-length : length (over old at t) ≡ length old
+  over-length = simp (length-append, length-take, length-drop) (omega arith)
+
+  -- what is there from the text on
+  pub over-from : drop at (over old at t) ≡ t ++ drop (at + length t) old
+  over-from = drop-at (take at old) _ at (length-take-le at old (omega arith))
+
+  -- the text itself, read back
+  pub over-part : (n : ℕ) → length t ≡ n → take n (drop at (over old at t)) ≡ t
+  over-part n e = rw over-from (take-at t (drop (at + length t) old) n e)
+
+  -- a part that ends before the text
+  pub part-before : (b n : ℕ) → b + n ≤ at → take n (drop b (over old at t)) ≡ take n (drop b old)
+  part-before b n k = front _ ∙ sym (front (drop at old)) ∙ ap (λ (l : List ℕ). take n (drop b l)) (take-append-drop at old)
+    where
+      size : length (take at old) ≡ at
+      size = length-take-le at old (omega arith)
+
+      front : (l : List ℕ) → take n (drop b (take at old ++ l)) ≡ take n (drop b (take at old))
+      front l =
+          let q : n ≤ length (drop b (take at old)) = simp length-drop (omega (arith, size)) in
+          rw (drop-append-le b (take at old) l (omega (arith, size)), take-append-le n (drop b (take at old)) l q)
+
+  -- a part that starts after it
+  pub part-after : (b n : ℕ) → at + length t ≤ b → take n (drop b (over old at t)) ≡ take n (drop b old)
+  part-after b n k =
+      let d : ℕ = b - (at + length t) in
+      let e : b ≡ at + (length t + d) = omega arith in
+      let f : at + length t + d ≡ b = omega arith in
+      ap (λ (i : ℕ). take n (drop i (over old at t))) e
+      ∙ ap (take n) (sym (drop-drop (length t + d) at (over old at t)) ∙ ap (drop (length t + d)) over-from ∙ drop-append-add t _ d ∙ drop-drop d (at + length t) old)
+      ∙ ap (λ (i : ℕ). take n (drop i old)) f
 
 -- one byte more
 pub over-more : (old : List ℕ) (at : ℕ) (t : List ℕ) (b : ℕ) → at + length t < length old → set (over old at t) (at + length t) b ≡ over old at (t ++ (b ∷ []))
@@ -74,12 +102,6 @@ over-append old at t u h =
     ap₂ (λ (k : ℕ) (l : List ℕ). drop (k + length u) l) (sym n) e ∙ drop-append-add (take at old ++ t) (drop (at + length t) old) (length u) ∙ drop-drop (length u) (at + length t) old
     ∙ ap (λ (k : ℕ). drop k old) m in
     ap₂ (λ (x y : List ℕ). x ++ (u ++ y)) front back ∙ append-assoc (take at old) t (u ++ drop (at + length (t ++ u)) old) ∙ ap (λ (l : List ℕ). take at old ++ l) (sym (append-assoc t u (drop (at + length (t ++ u)) old)))
-
--- the text that was laid, read back
-pub over-part : (old : List ℕ) (at : ℕ) (t : List ℕ) → at + length t ≤ length old → take (length t) (drop at (over old at t)) ≡ t
-over-part old at t h =
-    let n : length (take at old) ≡ at = length-take-le at old (omega arith) in
-    ap (take (length t)) (ap (λ (k : ℕ). drop k (over old at t)) (sym n) ∙ drop-append-seam (take at old) (t ++ drop (at + length t) old)) ∙ take-append-seam t (drop (at + length t) old)
 
 short-up-to : (k n : ℕ) → length (decimalUpTo k n) ≤ k + 1
 unfolding decimalUpTo
@@ -143,10 +165,6 @@ over-before old at t b p h =
     ap (λ (l : List ℕ). set l (at - 1) b) (ap (λ (l : List ℕ). l ++ rest) front ∙ append-assoc (take (at - 1) old) (getD old (at - 1) 0 ∷ []) rest)
     ∙ set-at (take (at - 1) old) (getD old (at - 1) 0) rest b (at - 1) (length-take-le (at - 1) old (omega arith))
     ∙ ap (λ (k : ℕ). take (at - 1) old ++ (b ∷ (t ++ drop k old))) m
-
--- what is there from the text on
-pub over-from : (old : List ℕ) (at : ℕ) (t : List ℕ) → at ≤ length old → drop at (over old at t) ≡ t ++ drop (at + length t) old
-over-from old at t h = ap (λ (k : ℕ). drop k (over old at t)) (sym (length-take-le at old h)) ∙ drop-append-seam (take at old) (t ++ drop (at + length t) old)
 
 -- the digits so far: they are there from k on, end before a place, and come after the digits of m
 pub record Digits (old : List ℕ) (end n : ℕ) (l : List ℕ) (k m : ℕ) : Type 0 where

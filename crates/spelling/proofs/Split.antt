@@ -1,10 +1,8 @@
 -- Laws of the bytes up to the next byte of some kind: a blank ends a value, a newline ends a line. Assumes nothing.
 use Prim.Native.Nat.{ℕ, zero, suc, _+_, _≤_, _<_, _-_}
-use mathlib.Core.{Path._≡_, Path.refl, Path._∙_, Path.ap, List.List, List.[], List._∷_, List._++_}
-use mathlib.Core.Logic.{_⊎_, inl, inr, ⊎-elim}
+use mathlib.Core.{Path.{_≡_, refl, _∙_, ap}, List.{List, [], _∷_, _++_}, Logic.{_⊎_, inl, inr, ⊎-elim}}
 use native.Mathlib.{Omega.arith, Nat.add-zero, Numerals.add-one}
-use lib.ListN.{length, getD, take, drop, length-append, length-drop, drop-of-length-le}
-use lib.Seq.{drop-cons, take-append-seam}
+use lib.{ListN.{length, getD, take, drop, length-append, length-drop, drop-of-length-le}, Seq.{drop-cons, take-append-seam}}
 use borrow.Author.Tests.{eq-eqb, ne-eqb}
 use Rattle.spelling.specs.Bytes.{Without, upTo, Below}
 use Rattle.spelling.proofs.Decide.{same-number}

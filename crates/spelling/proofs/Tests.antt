@@ -1,10 +1,9 @@
 -- Laws of tests: what a computed Boolean says, and of tests made of others. Assumes nothing.
 use Prim.Native.Nat.{ℕ, _+_, _≤_}
-use mathlib.Core.{Path._≡_, Path.refl, Bool.Bool, Bool.true, Bool.false, Bool.not, Bool._&&_, Bool._||_}
-use mathlib.Core.Logic.{_⊎_, inl, inr, ⊎-elim}
+use mathlib.Core.{Path.{_≡_, refl}, Bool.{Bool, true, false, not, _&&_, _||_}, Logic.{_⊎_, inl, inr, ⊎-elim}}
 use native.Mathlib.Omega.{arith}
 use lib.Dec.{leb, eqb}
-use borrow.Author.{Tests.leb-true, Tests.leb-false, Tests.eqb-true, Tests.eqb-false, Count.below-more}
+use borrow.Author.{Tests.{leb-true, leb-false, eqb-true, eqb-false}, Count.below-more}
 use Rattle.spelling.specs.Bytes.{Test, Below}
 
 test-at-most : (a b : ℕ) → Test (a ≤ b) (leb a b)

@@ -1,16 +1,15 @@
 -- The theorems of specs/Theorems: reading numbers and data leaves no freedom, and what is printed is read back. Assumes nothing.
 use Prim.Native.Nat.{ℕ, _≤_, _<_}
-use mathlib.Core.{Path._≡_, Path.refl, Path.sym, Path._∙_, Path.ap, Path.ap₂, List.List, Logic._⊎_, Logic.inl, Logic.inr}
+use mathlib.Core.{Path.{_≡_, refl, sym, _∙_, ap, ap₂}, List.List, Logic.{_⊎_, inl, inr}}
 use native.Mathlib.Omega.{arith}
 use lib.ListN.{length, take}
-use Rattle.spelling.specs.{One.One, Decimal.decimal, Decimal.IsNumber, Decimal.NumberOf, Hex.hex, Hex.Spells, Hex.IsData}
+use Rattle.spelling.specs.{One.One, Decimal.{decimal, IsNumber, NumberOf}, Hex.{hex, Spells, IsData}}
 use Rattle.spelling.specs.Over.{over, DecodedOf, decoded, noRoom, noData}
 use Rattle.spelling.specs.Theorems.{NumberOneTheorem, DecodedOneTheorem, DecimalRoundTripTheorem, HexPrinted, HexDecoded, HexRoundTripTheorem}
-use Rattle.spelling.specs.declared.{Number.Number, Decoded.Decoded}
-use Rattle.spelling.specs.declared.Number.the-variants.{Value, Wrong}
-use Rattle.spelling.specs.declared.Decoded.the-variants.{Bytes, NoRoom, Wrong as NoData}
-use Rattle.spelling.proofs.{Lists.le-or-lt, Decide.Told, Decide.number-told, Decide.data-told, DecimalLaws.decimal-injective}
-use Rattle.spelling.proofs.{HexLaws.hex-injective, OverLaws.over-part}
+use Rattle.spelling.specs.declared.Number.{Number, the-variants.{Value, Wrong}}
+use Rattle.spelling.specs.declared.Decoded.{Decoded, the-variants.{Bytes, NoRoom, Wrong as NoData}}
+use Rattle.spelling.proofs.{Lists.le-or-lt, Decide.{Told, number-told, data-told}, DecimalLaws.decimal-injective, HexLaws.hex-injective}
+use Rattle.spelling.proofs.OverLaws.{over-part}
 
 -- ---- numbers
 
@@ -72,7 +71,7 @@ decoded-one-theorem s old =
 hex-printed : HexPrinted
 hex-printed bs old new r some bytes h x =
     let e = decoded-same (hex bs) old new (over old 0 bs) r (Bytes (length bs)) x (decoded bs (record { some = some; bytes = bytes; same = refl }) (omega (arith, h)) refl) in
-    (e .0, ap (take (length bs)) (e .1) ∙ over-part old 0 bs (omega (arith, h)))
+    (e .0, ap (take (length bs)) (e .1) ∙ over-part old 0 bs (omega (arith, h)) (length bs) refl)
 
 hex-decoded : HexDecoded
 hex-decoded s old new n x = by refl x
@@ -80,7 +79,7 @@ hex-decoded s old new n x = by refl x
     by : {r : Decoded} → r ≡ Bytes n → DecodedOf s old new r → hex (take n new) ≡ s
     by e (decoded bs p l w) =
         let m : n ≡ length bs = cc in
-        ap hex (ap₂ (λ (k : ℕ) (x : List ℕ). take k x) m w ∙ over-part old 0 bs (omega (arith, l))) ∙ sym (p .same)
+        ap hex (ap₂ (λ (k : ℕ) (x : List ℕ). take k x) m w ∙ over-part old 0 bs (omega (arith, l)) (length bs) refl) ∙ sym (p .same)
     by e (noRoom bs p l w) = absurd (let z : _≡_ {A = ℕ} 0 1 = cc in omega arith)
     by e (noData x w) = absurd (let z : _≡_ {A = ℕ} 0 1 = cc in omega arith)
 

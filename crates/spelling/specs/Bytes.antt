@@ -1,6 +1,6 @@
 -- Lists of bytes: what holds of each, and where the next byte of some kind is. Assumes nothing.
 use Prim.Native.Nat.{ℕ, _<_}
-use mathlib.Core.{Path._≡_, Bool.Bool, Bool.true, Bool.false, Bool.cond, List.List, List.[], List._∷_}
+use mathlib.Core.{Path._≡_, Bool.{Bool, true, false, cond}, List.{List, [], _∷_}}
 use lib.Dec.{eqb}
 
 -- P holds of each number of the list

@@ -1,6 +1,6 @@
 -- H of 01: bytes as lower-case hex pairs. Assumes nothing.
 use Prim.Native.Nat.{ℕ, _+_, _/_, _%_, _≤_, _<_}
-use mathlib.Core.{Path._≡_, Bool.Bool, Bool.cond, List.List, List.[], List._∷_, Logic._⊎_}
+use mathlib.Core.{Path._≡_, Bool.{Bool, cond}, List.{List, [], _∷_}, Logic._⊎_}
 use lib.{Dec.ltb, ListN.length}
 use Rattle.spelling.specs.Bytes.{All, Byte, Test}
 

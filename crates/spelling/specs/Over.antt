@@ -1,11 +1,9 @@
 -- Text laid over a part of a buffer that a caller lent. Assumes nothing.
 use Prim.Native.Nat.{ℕ, _+_, _-_, _≤_, _<_}
-use mathlib.Core.{Path._≡_, Bool.Bool, Bool.false, Bool.cond, List.List, List._++_}
-use lib.{Dec.leb, ListN.length, ListN.take, ListN.drop}
-use Rattle.spelling.specs.Hex.{digit, Spells, IsData}
-use Rattle.spelling.specs.declared.{Put.Put, Decoded.Decoded}
-use Rattle.spelling.specs.declared.Put.the-variants.{End, Short}
-use Rattle.spelling.specs.declared.Decoded.the-variants.{Bytes, Wrong, NoRoom}
+use mathlib.Core.{Path._≡_, Bool.{Bool, false, cond}, List.{List, _++_}}
+use lib.{Dec.leb, ListN.{length, take, drop}}
+use Rattle.spelling.specs.{Hex.{digit, Spells, IsData}, declared.Put.{Put, the-variants.{End, Short}}}
+use Rattle.spelling.specs.declared.Decoded.{Decoded, the-variants.{Bytes, Wrong, NoRoom}}
 
 -- whether n bytes fit at a place of a buffer of this size
 abbrev pub fits : ℕ → ℕ → ℕ → Bool

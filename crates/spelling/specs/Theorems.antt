@@ -3,11 +3,8 @@
 use Prim.Native.Nat.{ℕ, _≤_, _<_}
 use mathlib.Core.{Path._≡_, List.List}
 use lib.ListN.{length, take}
-use Rattle.spelling.specs.{Bytes.All, Bytes.Byte, One.One, Decimal.decimal, Decimal.greatest, Decimal.NumberOf, Hex.hex}
-use Rattle.spelling.specs.Over.{DecodedOf}
-use Rattle.spelling.specs.declared.{Number.Number, Decoded.Decoded}
-use Rattle.spelling.specs.declared.Number.the-variants.{Value}
-use Rattle.spelling.specs.declared.Decoded.the-variants.{Bytes}
+use Rattle.spelling.specs.{Bytes.{All, Byte}, One.One, Decimal.{decimal, greatest, NumberOf}, Hex.hex, Over.DecodedOf}
+use Rattle.spelling.specs.declared.{Number.{Number, the-variants.Value}, Decoded.{Decoded, the-variants.Bytes}}
 
 -- bytes are exactly one number, or none
 abbrev pub NumberOneTheorem : Type 0

@@ -5,9 +5,7 @@
 ghost use mathlib.Core.Path.{_≡_};
 ghost use Prim.Native.Nat.{_+_, _≤_, _<_};
 ghost use lib.ListN.{length, getD, drop};
-ghost use Rattle.spelling.specs.Bytes.{upTo, Test, Below};
-ghost use Rattle.spelling.specs.Decimal.{decimal, NumberOf};
-ghost use Rattle.spelling.specs.Hex.{digit, hex, DataTest, HexDigit, HexTest};
+ghost use Rattle.spelling.specs.{Bytes.{upTo, Test, Below}, Decimal.{decimal, NumberOf}, Hex.{digit, hex, DataTest, HexDigit, HexTest}};
 ghost use Rattle.spelling.specs.Over.{fits, PutAt, PutBefore, DecodedOf, IsNibble};
 
 // Whether none of the eight bytes from `at` on is `stop`. Every byte is looked at, so that they can be compared at once.

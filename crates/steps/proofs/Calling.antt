@@ -1,18 +1,13 @@
 -- From one call of the driver to the next, each with room.
 use Prim.Native.Nat.{ℕ, zero, suc, _-_, _≤_, _<_}
-use mathlib.Core.Path.{_≡_, refl, ap}
-use mathlib.Core.Bool.{Bool, true}
-use mathlib.Core.List.{List, _∷_}
+use mathlib.Core.{Path.{_≡_, refl, ap}, Bool.{Bool, true}, List.{List, _∷_}}
 use native.Mathlib.Omega.{arith}
 use lib.ListN.{length, take, replicate}
 use Rattle.protocol.specs.Buffers.{Bytes, privateLength, sharedLength}
-use Rattle.driver.specs.{Play.resumable, Play.Plays, Play.Starts, declared.Checkpoint.Checkpoint, declared.Progress.Progress}
-use Rattle.driver.specs.declared.Progress.the-variants.{Finished, More, Short, Unfit}
-use Rattle.driver.specs.declared.Played.{Played}
-use Rattle.driver.proofs.Loop.{resumes}
-use Rattle.playing.specs.Calls.{Plays-on, last, next, Playing, over, begun}
-use Rattle.playing.specs.Theorems.{Begun, listed, running, Onward, ends, further}
-use Rattle.playing.proofs.{Whole.whole-theorem, Progressing.start-advances-theorem, Progressing.play-advances-theorem}
+use Rattle.driver.specs.{Play.{resumable, Plays, Starts}, declared.Checkpoint.Checkpoint}
+use Rattle.driver.{specs.declared.{Progress.{Progress, the-variants.{Finished, More, Short, Unfit}}, Played.Played}, proofs.Loop.resumes}
+use Rattle.playing.specs.{Calls.{Plays-on, last, next, Playing, over, begun}, Theorems.{Begun, listed, running, Onward, ends, further}}
+use Rattle.playing.proofs.{Whole.whole-theorem, Progressing.{start-advances-theorem, play-advances-theorem}}
 use Rattle.steps.specs.Listed.{Ended, ended, stopped, Listed, whole, part}
 
 -- calls of `play` lead from a checkpoint with the buffers p₀ and q₀ to another with p and q, from where `play` goes on

@@ -7,12 +7,10 @@
 // A read that fails is no end: nothing is listed then. That a read or a write failed, and why, is one
 // line on standard error.
 ghost use Prim.Native.Nat.{_≤_};
-ghost use mathlib.Core.Path.{_≡_};
-ghost use mathlib.Core.Bool.{true};
+ghost use mathlib.Core.{Path._≡_, Bool.true};
 ghost use lib.ListN.{length};
 ghost use Rattle.driver.specs.Play.{resumable};
-ghost use Rattle.steps.specs.Listed.{Ended, Listed};
-ghost use Rattle.steps.specs.Input.{ReadInto};
+ghost use Rattle.steps.specs.{Listed.{Ended, Listed}, Input.ReadInto};
 use driver::Checkpoint;
 use driver::Progress;
 use libc::EINTR;

@@ -1,32 +1,23 @@
 -- One call: what `step` is, by the effect on the pieces of the core and the line that the call is about; that the effect's move fits; and that
 -- the bytes of a commit lie where `spanOf` says.
 use Prim.Native.Nat.{ℕ, _+_, _*_, _≤_}
-use mathlib.Core.Path.{_≡_, refl, sym}
-use mathlib.Core.Bool.{Bool, true, false}
-use lib.Dec.{eqb}
-use lib.ListN.{length}
-use lib.Seq.{set-getD}
+use mathlib.Core.{Path.{_≡_, refl, sym}, Bool.{Bool, true, false}}
+use lib.{Dec.eqb, ListN.length, Seq.set-getD}
 use borrow.Author.Tests.{lt-ltb, eq-eqb, ne-eqb}
-use Rattle.protocol.specs.Pick.{pick}
-use Rattle.protocol.specs.Fresh.{freshCore, freshCell, freshLine}
-use Rattle.protocol.specs.Buffers.{Bytes, part, copyStart, copyBytes, Placed, movedPrivate, movedShared}
+use Rattle.protocol.specs.{Pick.pick, Fresh.{freshCore, freshCell, freshLine}}
+use Rattle.protocol.specs.Buffers.{Bytes, part, copyStart, copyBytes, Placed, givenFits, movedPrivate, movedShared}
 use Rattle.protocol.specs.Machine.{Machine, machine, coreAt, copyAt, lineAt, Pieces, piecesAt, coreOf, lineOf, applied}
 use Rattle.protocol.specs.Refusals.{wrongCount, buffersFit, machineRefusal, callRefusal, stateRefusal, refusal, orElse}
-use Rattle.protocol.specs.Tables.{row, loadOwned, storeTable, fenceTable, advanceTable, evictTable, serveLoad, serveAsked, receiveRenew, receiveGrant}
-use Rattle.protocol.specs.Tables.{yieldTable, takeTable, effectOf}
-use Rattle.protocol.specs.Step.{refused, meaning, Outcome, commitBytes, accepted, step}
-use Rattle.protocol.specs.declared.{Opening.Opening, Call.Call, Effect.Effect}
-use Rattle.protocol.specs.declared.Answer.the-variants.{Refused}
-use Rattle.protocol.specs.declared.Move.the-variants.{Still}
-use Rattle.protocol.proofs.Bytes.{part-same}
-use Rattle.protocol.specs.About.{about}
-use Rattle.protocol.proofs.Places.{copy-ends}
-use Rattle.protocol.proofs.Refusals.{or-none, Fit, named, store-width, placed}
+use Rattle.protocol.specs.Tables.{row, loadOwned, storeTable, fenceTable, advanceTable, evictTable, serveLoad, serveAsked, receiveRenew}
+use Rattle.protocol.specs.{Tables.{receiveGrant, yieldTable, takeTable, effectOf}, Step.{refused, meaning, Outcome, commitBytes, accepted, step}}
+use Rattle.protocol.specs.{declared.{Opening.Opening, Call.Call, Effect.Effect, Answer.the-variants.Refused, Move.the-variants.Still}, About.about}
+use Rattle.protocol.proofs.{Places.copy-ends, Refusals.{or-none, Fit, named, store-width, placed}}
 use Rattle.protocol.proofs.Cases.{Row, asks-load, reads-shared, reads-dirty, reads-clean, asks-store, writes, fences, advances, evicts-shared}
 use Rattle.protocol.proofs.Cases.{evicts-owned, recalls, renews, shares, grants, gets-share, gets-own, gets-renewal, drops-none, drops-owned, yields}
 use Rattle.protocol.proofs.Cases.{takes, piecesOf, effect-case}
+use Rattle.spelling.proofs.OverLaws.{over-part}
 use Rattle.refusals.specs.Input.{inputRefusal}
-use Rattle.buffers.specs.Moves.{givenFits, moveFits}
+use Rattle.buffers.specs.Moves.{moveFits}
 use Rattle.tables.specs.Spans.{spanOf}
 
 -- ---- step
@@ -85,7 +76,7 @@ module _ {o : Opening} {c l : ℕ} {given p q : Bytes} {k : Pieces} where
   row-sound n h (asks-store e i) = record { fits = refl; bytes = refl }
   row-sound n h (writes e i) =
       let b = store-width o (length given) n in
-      record { fits = eq-eqb _ _ b; bytes = rw (part-same p (copyStart o c l) given (rw b h) (o .width) b) }
+      record { fits = eq-eqb _ _ b; bytes = rw (over-part p (copyStart o c l) given (rw b h) (o .width) b) }
   row-sound n h fences = record { fits = refl; bytes = refl }
   row-sound n h (advances e) = record { fits = refl; bytes = refl }
   row-sound n h (evicts-shared e) = record { fits = refl; bytes = refl }

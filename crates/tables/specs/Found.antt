@@ -2,10 +2,7 @@
 use Prim.Native.Nat.{ℕ, _<_}
 use mathlib.Core.Path.{_≡_}
 use lib.Dec.{ltb, leb, eqb}
-use Rattle.protocol.specs.Pick.{pick, both}
-use Rattle.protocol.specs.Machine.{Pieces}
-use Rattle.protocol.specs.Tables.{refusedRow, effectOf}
-use Rattle.protocol.specs.declared.{Opening.Opening, Call.Call, Effect.Effect}
+use Rattle.protocol.specs.{Pick.{pick, both}, Machine.Pieces, Tables.{refusedRow, effectOf}, declared.{Opening.Opening, Call.Call, Effect.Effect}}
 
 -- n where it is one of `count`, and these are at most `most`; else 0
 abbrev pub foundAt : ℕ → ℕ → ℕ → ℕ

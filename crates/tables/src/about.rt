@@ -3,7 +3,7 @@
 // outside the limits, the index is 0, so that every call, refused or not, finds elements to look at.
 ghost use mathlib.Core.Path.{_≡_};
 ghost use Prim.Native.Nat.{_<_};
-ghost use Rattle.protocol.specs.{Limits.mostCores, Limits.mostLines, About.namedLine, Machine.theCore, Machine.theLine};
+ghost use Rattle.protocol.specs.{Limits.{mostCores, mostLines}, About.namedLine, Machine.{theCore, theLine}};
 ghost use Rattle.tables.specs.Found.{Found};
 use protocol::About;
 use protocol::Manager;

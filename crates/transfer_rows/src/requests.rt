@@ -1,8 +1,7 @@
 // The rows of serve and receive.
 ghost use Prim.Native.Nat.{ℕ};
 ghost use mathlib.Core.Path.{_≡_};
-ghost use Rattle.protocol.specs.Machine.{pieces};
-ghost use Rattle.protocol.specs.Tables.{row, refusedRow, recalled, sameVersion, serveLoad, serveAsked, receiveGrant, receiveRenew, effectOf};
+ghost use Rattle.protocol.specs.{Machine.pieces, Tables.{row, recalled, sameVersion, serveLoad, receiveGrant, receiveRenew, effectOf}};
 ghost use Rattle.transfer_rows.specs.Asked.{askedEffect};
 use protocol::Answer;
 use protocol::Call;

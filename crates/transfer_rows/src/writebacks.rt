@@ -1,10 +1,7 @@
 // The rows of evict, yield and take.
 ghost use Prim.Native.Nat.{ℕ};
 ghost use mathlib.Core.Path.{_≡_};
-ghost use Rattle.protocol.specs.Pick.{both};
-ghost use Rattle.protocol.specs.Refusals.{hasOwner, stands};
-ghost use Rattle.protocol.specs.Machine.{pieces};
-ghost use Rattle.protocol.specs.Tables.{writtenBack, yielded, effectOf};
+ghost use Rattle.protocol.specs.{Pick.both, Refusals.{hasOwner, stands}, Machine.pieces, Tables.{writtenBack, yielded, effectOf}};
 use protocol::Answer;
 use protocol::Call;
 use protocol::Copy;

@@ -5,17 +5,5 @@ use Rattle.protocol.proofs.Places.{answer-most}
 use Rattle.buffers.proofs.answer_at.Statement.{statement}
 use Rattle.buffers.proofs.answer_at.Tie as tie
 
-mul-result : tie.Need-mul-result
-mul-result c = search needs
-
-add-result : tie.Need-add-result
-add-result c = search needs
-
-mul-result-2 : tie.Need-mul-result-2
-mul-result-2 c = let m = answer-most (c .pre) in omega arith
-
-returns : tie.Need-returns
-returns c = search needs
-
 pub answer-at-spec : {M : Type 1} → statement M
-answer-at-spec = tie.close (tie.spec mul-result add-result mul-result-2 returns)
+answer-at-spec = tie.close (tie.spec (λ c. search needs) (λ c. search needs) (λ c. let m = answer-most (c .pre) in omega arith) (λ c. search needs))

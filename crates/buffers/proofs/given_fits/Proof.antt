@@ -3,9 +3,6 @@ use borrow.Author.Needs.{needs}
 use Rattle.buffers.proofs.given_fits.Statement.{statement}
 use Rattle.buffers.proofs.given_fits.Tie as tie
 
-returns-2 : tie.Need-returns-2
-returns-2 c = rw (c .enum-told2 .given .1)
-
 pub given-fits-spec : {M : Type 1} → statement M
 given-fits-spec =
     tie.close
@@ -17,7 +14,7 @@ given-fits-spec =
     (λ c. search needs)
     (λ c. search needs)
     (λ c. search needs)
-    returns-2
+    (λ c. rw (c .enum-told2 .given .1))
     (λ c. search needs)
     (λ c. search needs)
     (λ c. search needs)

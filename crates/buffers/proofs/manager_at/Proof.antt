@@ -5,11 +5,5 @@ use Rattle.protocol.proofs.Places.{manager-most}
 use Rattle.buffers.proofs.manager_at.Statement.{statement}
 use Rattle.buffers.proofs.manager_at.Tie as tie
 
-mul-result : tie.Need-mul-result
-mul-result c = let m = manager-most (c .pre) in omega arith
-
-returns : tie.Need-returns
-returns c = search needs
-
 pub manager-at-spec : {M : Type 1} → statement M
-manager-at-spec = tie.close (tie.spec mul-result returns)
+manager-at-spec = tie.close (tie.spec (λ c. let m = manager-most (c .pre) in omega arith) (λ c. search needs))

@@ -1,9 +1,7 @@
 -- By the move: each copies one line to its place.
-use Rattle.protocol.specs.Buffers.{movedPrivate, movedShared}
-use Rattle.protocol.proofs.Tests.{was-false, was-true}
-use Rattle.buffers.proofs.Moving.{Fitting, fitting, as-moved}
+use Rattle.protocol.{specs.Buffers.{movedPrivate, movedShared}, proofs.Tests.{was-false, was-true}}
+use Rattle.buffers.proofs.{Moving.{Fitting, fitting, as-moved}, move_bytes.Statement.statement}
 use borrow.Author.Needs.{needs}
-use Rattle.buffers.proofs.move_bytes.Statement.{statement}
 use Rattle.buffers.proofs.move_bytes.Tie as tie
 
 -- past the test, the places and the lengths fit

@@ -5,23 +5,14 @@ use Rattle.buffers.specs.Moves.{moveFits}
 use Rattle.buffers.proofs.move_fits.Statement.{statement}
 use Rattle.buffers.proofs.move_fits.Tie as tie
 
-place-fits-requires : tie.Need-place-fits-requires
-place-fits-requires c κs = search needs
-
 returns : tie.Need-returns
 unfolding moveFits
 returns c = rw (was-false (c .before .place-fits .ensures) (c .if1 .taken))
-
-lengths-fit-requires : tie.Need-lengths-fit-requires
-lengths-fit-requires c κs = search needs
 
 returns-2 : tie.Need-returns-2
 unfolding moveFits
 returns-2 c =
     rw (was-true (c .before .before .before .place-fits .ensures) (c .before .before .if1 .left), was-false (c .before .lengths-fit .ensures) (c .if2 .taken))
-
-given-fits-requires : tie.Need-given-fits-requires
-given-fits-requires c κs = search needs
 
 returns-3 : tie.Need-returns-3
 unfolding moveFits
@@ -33,9 +24,9 @@ pub move-fits-spec : {M : Type 1} → statement M
 move-fits-spec =
     tie.close
     (tie.spec
-    place-fits-requires
+    (λ c κs. search needs)
     returns
-    lengths-fit-requires
+    (λ c κs. search needs)
     returns-2
-    given-fits-requires
+    (λ c κs. search needs)
     returns-3)

@@ -1,21 +1,8 @@
 -- The three tests, one after the other.
-use borrow.Author.Needs.{needs}
-use borrow.Author.Tests.{lt-ltb, le-ltb}
+use borrow.Author.{Needs.needs, Tests.{lt-ltb, le-ltb}}
 use Rattle.protocol.proofs.Tests.{was-false, was-true}
 use Rattle.buffers.proofs.place_fits.Statement.{statement}
 use Rattle.buffers.proofs.place_fits.Tie as tie
 
-fits-requires : tie.Need-fits-requires
-fits-requires c κs = search needs
-
-returns : tie.Need-returns
-returns c = rw (was-false (c .before .fits2 .ensures) (c .if1 .taken))
-
-returns-2 : tie.Need-returns-2
-returns-2 c = rw (was-true (c .before .before .fits2 .ensures) (c .before .if1 .left), le-ltb _ _ (c .if2 .taken))
-
-returns-3 : tie.Need-returns-3
-returns-3 c = rw (was-true (c .before .before .fits2 .ensures) (c .before .if1 .left), lt-ltb _ _ (c .if2 .left))
-
 pub place-fits-spec : {M : Type 1} → statement M
-place-fits-spec = tie.close (tie.spec fits-requires returns returns-2 returns-3)
+place-fits-spec = tie.close (tie.spec (λ c κs. search needs) (λ c. rw (was-false (c .before .fits2 .ensures) (c .if1 .taken))) (λ c. rw (was-true (c .before .before .fits2 .ensures) (c .before .if1 .left), le-ltb _ _ (c .if2 .taken))) (λ c. rw (was-true (c .before .before .fits2 .ensures) (c .before .if1 .left), lt-ltb _ _ (c .if2 .left))))

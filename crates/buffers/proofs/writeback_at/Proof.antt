@@ -5,14 +5,5 @@ use Rattle.protocol.proofs.Places.{writeback-most}
 use Rattle.buffers.proofs.writeback_at.Statement.{statement}
 use Rattle.buffers.proofs.writeback_at.Tie as tie
 
-add-result : tie.Need-add-result
-add-result c = search needs
-
-mul-result : tie.Need-mul-result
-mul-result c = let m = writeback-most (c .pre) in omega arith
-
-returns : tie.Need-returns
-returns c = search needs
-
 pub writeback-at-spec : {M : Type 1} → statement M
-writeback-at-spec = tie.close (tie.spec add-result mul-result returns)
+writeback-at-spec = tie.close (tie.spec (λ c. search needs) (λ c. let m = writeback-most (c .pre) in omega arith) (λ c. search needs))

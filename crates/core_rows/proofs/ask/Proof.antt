@@ -3,15 +3,6 @@ use borrow.Author.Needs.{needs}
 use Rattle.core_rows.proofs.ask.Statement.{statement}
 use Rattle.core_rows.proofs.ask.Tie as tie
 
-returns : tie.Need-returns
-returns c = rw (c .held-of .ensures, c .before .before .before .enum-told .given .1)
-
-returns-2 : tie.Need-returns-2
-returns-2 c = rw (c .refused .ensures, c .before .enum-told2 .given .1)
-
-returns-3 : tie.Need-returns-3
-returns-3 c = rw (c .refused2 .ensures, c .before .enum-told3 .given .1)
-
 pub ask-spec : {M : Type 1} → statement M
 ask-spec =
     tie.close
@@ -22,6 +13,6 @@ ask-spec =
     (λ c κs. search needs)
     (λ c. search needs)
     (λ c κs. search needs)
-    returns
-    returns-2
-    returns-3)
+    (λ c. rw (c .held-of .ensures, c .before .before .before .enum-told .given .1))
+    (λ c. rw (c .refused .ensures, c .before .enum-told2 .given .1))
+    (λ c. rw (c .refused2 .ensures, c .before .enum-told3 .given .1)))

@@ -1,8 +1,6 @@
 -- The clocks after a fence, which none of 20 to 27 refuses.
 use borrow.Author.Needs.{needs}
-use Rattle.protocol.specs.Pick.{first}
-use Rattle.protocol.specs.Refusals.{stateRules, stateRefusal}
-use Rattle.protocol.specs.Tables.{fenceTable, tableOf, effectOf}
+use Rattle.protocol.specs.{Pick.first, Refusals.{stateRules, stateRefusal}, Tables.{fenceTable, tableOf, effectOf}}
 use Rattle.core_rows.proofs.fence.Statement.{statement}
 use Rattle.core_rows.proofs.fence.Tie as tie
 

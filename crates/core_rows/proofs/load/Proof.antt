@@ -1,13 +1,8 @@
 -- By the copy, its lease and whether it is dirty: the row, asked, or 20.
-use mathlib.Core.Path.{_≡_, refl, sym, _∙_}
-use mathlib.Core.Bool.{true}
+use mathlib.Core.{Path.{_≡_, refl, sym, _∙_}, Bool.true}
 use borrow.Author.Needs.{needs}
-use Rattle.protocol.specs.Pick.{fails, first}
-use Rattle.protocol.specs.Stamps.{atMost}
-use Rattle.protocol.specs.Refusals.{isEmpty, stateRules, stateRefusal}
-use Rattle.protocol.specs.Tables.{loadTable, loadOwned, tableOf, effectOf}
-use Rattle.protocol.proofs.Stamps.{not-earlier, then-earlier}
-use Rattle.protocol.proofs.Refusals.{ruled}
+use Rattle.protocol.specs.{Pick.{fails, first}, Stamps.atMost, Refusals.{isEmpty, stateRules, stateRefusal}}
+use Rattle.protocol.{specs.Tables.{loadTable, loadOwned, tableOf, effectOf}, proofs.{Stamps.{not-earlier, then-earlier}, Refusals.ruled}}
 use Rattle.core_rows.proofs.load.Statement.{statement}
 use Rattle.core_rows.proofs.load.Tie as tie
 

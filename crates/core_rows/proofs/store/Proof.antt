@@ -1,11 +1,8 @@
 -- By the copy: asked or 20; 27, or the row.
 use mathlib.Core.Path.{refl, sym, _∙_}
 use borrow.Author.Needs.{needs}
-use Rattle.protocol.specs.Pick.{fails, first}
-use Rattle.protocol.specs.Refusals.{isEmpty, stateRules, stateRefusal}
-use Rattle.protocol.specs.Tables.{storeTable, tableOf, effectOf}
-use Rattle.protocol.proofs.Stamps.{sum-at, sum-passes}
-use Rattle.protocol.proofs.Refusals.{ruled}
+use Rattle.protocol.specs.{Pick.{fails, first}, Refusals.{isEmpty, stateRules, stateRefusal}, Tables.{storeTable, tableOf, effectOf}}
+use Rattle.protocol.proofs.{Stamps.{sum-at, sum-passes}, Refusals.ruled}
 use Rattle.core_rows.proofs.store.Statement.{statement}
 use Rattle.core_rows.proofs.store.Tie as tie
 

@@ -4,8 +4,7 @@ use Prim.Native.Nat.{_-_, _≤_, _<_}
 use mathlib.Core.Path.{_≡_, refl, sym, _∙_}
 use native.Mathlib.Omega.{arith}
 use lib.ListN.{length}
-use borrow.Author.Needs.{needs}
-use borrow.Author.Tests.{not-true, not-false}
+use borrow.Author.{Needs.needs, Tests.{not-true, not-false}}
 use Rattle.driver.specs.{Play.unfit, Pieces.checkpointAt}
 use Rattle.driver.proofs.{Stepping.looked-over, play.Statement.statement}
 use Rattle.driver.proofs.Loop.{Reached, reached-start, room-for, finish, step-due, end-due, Made, shows, step-short, step-made}

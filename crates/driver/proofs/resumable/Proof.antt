@@ -1,6 +1,5 @@
 -- `driver::resumable` meets its contract: each test decides one part. Assumes nothing.
-use borrow.Author.Tests.{eq-eqb, ne-eqb, le-leb, lt-leb}
-use borrow.Author.Needs.{needs}
+use borrow.Author.{Tests.{eq-eqb, ne-eqb, le-leb, lt-leb}, Needs.needs}
 use Rattle.driver.proofs.resumable.Statement.{statement}
 use Rattle.driver.proofs.resumable.Tie as tie
 

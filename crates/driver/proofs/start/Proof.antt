@@ -1,11 +1,10 @@
 -- `driver::start` meets its contract: by what is found at the start of the journal. Assumes nothing.
 use mathlib.Core.Path.{refl, sym, _∙_, subst}
 use native.Mathlib.Omega.{arith}
-use borrow.Author.Tests.{not-true, not-false}
+use borrow.Author.{Tests.{not-true, not-false}, Needs.needs}
 use Rattle.journal.specs.Journal.{NextOf}
 use Rattle.driver.specs.Listing.{refusedFirst}
-use Rattle.driver.proofs.{Reading.known, Starting.outside-limits, Starting.starts-refused, Starting.starts-open, start.Statement.statement}
-use borrow.Author.Needs.{needs}
+use Rattle.driver.proofs.{Reading.known, Starting.{outside-limits, starts-refused, starts-open}, start.Statement.statement}
 use Rattle.driver.proofs.start.Tie as tie
 
 returns : tie.Need-returns

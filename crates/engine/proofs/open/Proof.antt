@@ -1,11 +1,7 @@
 -- Refused or not, by the limits.
 use borrow.Author.Needs.{needs}
 use mathlib.Core.Path.{ap, _∙_}
-use Rattle.protocol.specs.Pick.{first}
-use Rattle.protocol.specs.Fresh.{freshState}
-use Rattle.protocol.specs.Refusals.{openRefusal}
-use Rattle.protocol.specs.Step.{meaning}
-use Rattle.protocol.proofs.Tests.{was-false, was-true}
+use Rattle.protocol.{specs.{Pick.first, Fresh.freshState, Refusals.openRefusal, Step.meaning}, proofs.Tests.{was-false, was-true}}
 use Rattle.engine.proofs.open.Statement.{statement}
 use Rattle.engine.proofs.open.Tie as tie
 

@@ -1,11 +1,9 @@
 -- Past the end of the bytes there is nothing; a part that is longer than the rest is the rest.
 use Prim.Native.Nat.{ℕ, _+_, _-_, _≤_, min}
-use mathlib.Core.Path.{_≡_, refl, sym, _∙_, ap}
-use mathlib.Core.List.{[]}
+use mathlib.Core.{Path.{_≡_, refl, sym, _∙_, ap}, List.[]}
 use native.Mathlib.Omega.{arith}
 use borrow.Author.Needs.{needs}
-use lib.ListN.{length, drop, length-drop, drop-of-length-le}
-use lib.Seq.{take-all}
+use lib.{ListN.{length, drop, length-drop, drop-of-length-le}, Seq.take-all}
 use denote.Ref.{RefT, ptr, now}
 use Rattle.protocol.specs.Buffers.{Bytes, part}
 use Rattle.engine.specs.Calls.{PartOf}

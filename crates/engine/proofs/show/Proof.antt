@@ -2,10 +2,8 @@
 use mathlib.Core.Path.{sym, _∙_}
 use native.Mathlib.Omega.{arith}
 use borrow.Author.Needs.{needs}
-use Rattle.protocol.specs.Buffers.{Placed}
-use Rattle.protocol.proofs.Places.{indices}
-use Rattle.engine.proofs.Showing.{there, shows-nothing, shows-copy, shows-manager}
-use Rattle.engine.proofs.show.Statement.{statement}
+use Rattle.protocol.{specs.Buffers.Placed, proofs.Places.indices}
+use Rattle.engine.proofs.{Showing.{there, shows-nothing, shows-copy, shows-manager}, show.Statement.statement}
 use Rattle.engine.proofs.show.Tie as tie
 
 -- what `show` is given; `t1` is its state
@@ -22,18 +20,6 @@ placed : (c : tie.Else1) → Placed (given (c .before) .args .t1 .opening) (give
 placed c =
     let a = given (c .before) .args in
     there (a .t1) (a .«private») (a .shared) (a .core) (a .line) _ (c .before .input-refusal .ensures) (c .if1 .left)
-
-mul-i : tie.Need-mul-i
-mul-i c = let a = indices (placed c) in omega arith
-
-add-i : tie.Need-add-i
-add-i c = let a = indices (placed c) in omega arith
-
-mul-e : tie.Need-mul-e
-mul-e c = let a = indices (placed c) in omega arith
-
-element-copy-out-e : tie.Need-element-copy-out-e
-element-copy-out-e c = let a = indices (placed c) in omega arith
 
 returns-2 : tie.Need-returns-2
 returns-2 c =
@@ -56,10 +42,10 @@ show-spec =
     (λ c κs. search needs)
     (λ c κs. search needs)
     returns
-    mul-i
-    add-i
-    mul-e
-    element-copy-out-e
+    (λ c. let a = indices (placed c) in omega arith)
+    (λ c. let a = indices (placed c) in omega arith)
+    (λ c. let a = indices (placed c) in omega arith)
+    (λ c. let a = indices (placed c) in omega arith)
     (λ c κs. search needs)
     (λ c κs. search needs)
     (λ c κs. search needs)

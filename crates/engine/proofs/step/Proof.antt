@@ -1,7 +1,6 @@
 -- The law of one call, where the call finds its core and its line.
-use Rattle.engine.proofs.Performing.{performs}
+use Rattle.engine.proofs.{Performing.performs, step.Statement.statement}
 use borrow.Author.Needs.{needs}
-use Rattle.engine.proofs.step.Statement.{statement}
 use Rattle.engine.proofs.step.Tie as tie
 
 returns : tie.Need-returns

@@ -1,11 +1,10 @@
 -- `grammar::after` meets its contract. The invariant: whether the bytes passed are the text's. Assumes nothing.
 use Prim.Native.Nat.{ℕ, _+_, _≤_, _-_}
-use mathlib.Core.{Path._≡_, Path.refl, Path.subst, List.List}
+use mathlib.Core.{Path.{_≡_, refl, subst}, List.List}
 use native.Mathlib.Omega.{arith}
 use lib.ListN.{length, getD}
 use borrow.Author.Tests.{not-true, not-false}
-use Rattle.spelling.specs.Bytes.{Test, Below}
-use Rattle.spelling.proofs.Tests.{test-same, test-more}
+use Rattle.spelling.{specs.Bytes.{Test, Below}, proofs.Tests.{test-same, test-more}}
 use Rattle.grammar.specs.Scan.{there, elsewhere}
 use Rattle.grammar.proofs.after.Statement.{statement}
 use Rattle.grammar.proofs.after.Tie as tie

@@ -3,9 +3,8 @@ use mathlib.Core.Path.{_≡_}
 use native.Mathlib.Omega.{arith}
 use lib.ListN.{List·getD-eq-default}
 use Rattle.grammar.specs.Scan.{keys, lastKey, keyText}
-use Rattle.grammar.proofs.Rows.{Others, past}
+use Rattle.grammar.proofs.{Rows.{Others, past}, after_key.Statement.statement}
 use borrow.Author.Needs.{needs}
-use Rattle.grammar.proofs.after_key.Statement.{statement}
 use Rattle.grammar.proofs.after_key.Tie as tie
 
 -- the last arm has the last key

@@ -4,8 +4,7 @@ use native.Mathlib.Omega.{arith}
 use lib.ListN.{getD}
 use borrow.Author.{Tests.ne-eqb, Needs.needs}
 use Rattle.grammar.specs.Scan.{rowCount}
-use Rattle.grammar.proofs.Rows.{opening-row}
-use Rattle.grammar.proofs.answer.Statement.{statement}
+use Rattle.grammar.proofs.{Rows.opening-row, answer.Statement.statement}
 use Rattle.grammar.proofs.answer.Tie as tie
 
 -- a row past the steps is one of the table's

@@ -1,16 +1,13 @@
 -- `grammar::fill` meets its contract; `Walk` has the invariant and the laws. Assumes nothing.
 use Prim.Native.Nat.{ℕ, _/_, _%_, _≤_, _-_}
-use mathlib.Core.{Path._≡_, Path.refl, Path.subst, List.List}
+use mathlib.Core.{Path.{_≡_, refl, subst}, List.List}
 use native.Mathlib.Omega.{arith}
 use lib.ListN.{length, take, drop}
 use borrow.Author.{Needs.needs, Tests.ne-eqb}
-use Rattle.spelling.specs.{Decimal.NumberOf, Hex.DataTest}
-use Rattle.spelling.proofs.Split.{upTo-within}
-use Rattle.grammar.specs.Form.{Value, number as aNumber, pairs}
-use Rattle.grammar.specs.Scan.{keyValue, fieldParts, ValueRead, NumberRead, DataRead, right, wrong}
+use Rattle.spelling.{specs.{Decimal.NumberOf, Hex.DataTest}, proofs.Split.upTo-within}
+use Rattle.grammar.specs.{Form.{Value, number as aNumber, pairs}, Scan.{keyValue, fieldParts, ValueRead, NumberRead, DataRead, right, wrong}}
 use Rattle.grammar.specs.declared.Values.{Values}
-use Rattle.grammar.proofs.Walk.{State, step-field, stop-field, stop-long, stop-end, after-within}
-use Rattle.grammar.proofs.fill.Statement.{statement}
+use Rattle.grammar.proofs.{Walk.{State, step-field, stop-field, stop-long, stop-end, after-within}, fill.Statement.statement}
 use Rattle.grammar.proofs.fill.Tie as tie
 
 abbrev Inv-loop : tie.InvT-loop

@@ -1,11 +1,10 @@
 -- `grammar::fill_row` meets its contract: in each arm, the row's own kind and keys. Assumes nothing.
 use mathlib.Core.Path.{_≡_}
-use native.Mathlib.{Nat.le-antisymm, Nat.le-of-suc-le-suc, Omega.arith}
+use native.Mathlib.{Nat.{le-antisymm, le-of-suc-le-suc}, Omega.arith}
 use lib.Dec.{lit≤}
 use Rattle.grammar.specs.Scan.{fieldParts}
-use Rattle.grammar.proofs.{Rows.Others, Rows.past, Walk.after-within, Walk.kind-read}
+use Rattle.grammar.proofs.{Rows.{Others, past}, Walk.{after-within, kind-read}, fill_row.Statement.statement}
 use borrow.Author.Needs.{needs}
-use Rattle.grammar.proofs.fill_row.Statement.{statement}
 use Rattle.grammar.proofs.fill_row.Tie as tie
 
 -- the last arm has the last row

@@ -2,8 +2,7 @@
 use native.Mathlib.Omega.{arith}
 use borrow.Author.Needs.{needs}
 use Rattle.grammar.specs.Scan.{nowhere}
-use Rattle.grammar.proofs.Judge.{none-short, none-there, found-by}
-use Rattle.grammar.proofs.find.Statement.{statement}
+use Rattle.grammar.proofs.{Judge.{none-short, none-there, found-by}, find.Statement.statement}
 use Rattle.grammar.proofs.find.Tie as tie
 
 short : tie.Need-returns

@@ -3,8 +3,5 @@ use mathlib.Core.Path.{refl}
 use Rattle.grammar.proofs.no_form.Statement.{statement}
 use Rattle.grammar.proofs.no_form.Tie as tie
 
-returns : tie.Need-returns
-returns c = refl
-
 pub no-form-spec : {M : Type 1} → statement M
-no-form-spec = tie.close (tie.spec returns)
+no-form-spec = tie.close (tie.spec (λ c. refl))

@@ -2,14 +2,10 @@
 use Prim.Native.Nat.{ℕ}
 use mathlib.Core.Path.{subst₂}
 use native.Mathlib.Omega.{arith}
-use Rattle.grammar.specs.{Line.tooLong, Line.noForm, Table.rowsOf, Scan.fromOf, Scan.toOf, Scan.FoundIn}
-use Rattle.grammar.proofs.Judge.{answer-line, placed, ranged, row-in, no-row}
+use Rattle.grammar.specs.{Line.{tooLong, noForm}, Table.rowsOf, Scan.{fromOf, toOf, FoundIn}}
+use Rattle.grammar.proofs.{Judge.{answer-line, placed, ranged, row-in, no-row}, read_line.Statement.statement}
 use borrow.Author.Needs.{needs}
-use Rattle.grammar.proofs.read_line.Statement.{statement}
 use Rattle.grammar.proofs.read_line.Tie as tie
-
-beyond : tie.Need-returns-2
-beyond c = let a = c .before .before .before .args in noForm (omega arith) (no-row (a .form) (a .line .now) (omega arith))
 
 in-table : tie.Need-find-requires
 in-table c κs =
@@ -30,4 +26,4 @@ answered c =
     (subst₂ (λ (m n : ℕ). FoundIn (a .line .now) m n (c .before .find .result)) (c .before .before .before .from-row .ensures) (c .before .before .to-row .ensures) (c .before .find .ensures)))
 
 pub read-line-spec : {M : Type 1} → statement M
-read-line-spec = tie.close (tie.spec (λ c. tooLong (c .if1 .taken)) beyond (λ c κs. search needs) (λ c κs. search needs) in-table is-placed answered)
+read-line-spec = tie.close (tie.spec (λ c. tooLong (c .if1 .taken)) (λ c. let a = c .before .before .before .args in noForm (omega arith) (no-row (a .form) (a .line .now) (omega arith))) (λ c κs. search needs) (λ c κs. search needs) in-table is-placed answered)

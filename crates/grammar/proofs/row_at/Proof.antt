@@ -3,9 +3,8 @@ use mathlib.Core.Path.{sym, _∙_, ap}
 use Prim.Native.Nat.{ℕ, _+_, _*_, _%_}
 use native.Mathlib.Omega.{arith}
 use lib.ListN.{getD}
-use Rattle.grammar.proofs.Rows.{letters, letter-high, entry-at}
+use Rattle.grammar.proofs.{Rows.{letters, letter-high, entry-at}, row_at.Statement.statement}
 use borrow.Author.Needs.{needs}
-use Rattle.grammar.proofs.row_at.Statement.{statement}
 use Rattle.grammar.proofs.row_at.Tie as tie
 
 high : tie.Need-sub-result

@@ -2,12 +2,10 @@
 use Prim.Native.Nat.{_+_, _≤_}
 use mathlib.Core.Path.{subst}
 use native.Mathlib.Omega.{arith}
-use Rattle.grammar.specs.{Table.rowsOf, Line.LineOf}
-use Rattle.grammar.proofs.Inside.{inside}
+use Rattle.grammar.{specs.{Table.rowsOf, Line.LineOf}, proofs.Inside.inside}
 use Rattle.journal.specs.Journal.{tooMuch, empty, ended, unended}
-use Rattle.journal.proofs.Lines.{line-here, none-here, line-answer}
+use Rattle.journal.proofs.{Lines.{line-here, none-here, line-answer}, step_at.Statement.statement}
 use borrow.Author.Needs.{needs}
-use Rattle.journal.proofs.step_at.Statement.{statement}
 use Rattle.journal.proofs.step_at.Tie as tie
 
 returns-4 : tie.Need-returns-4

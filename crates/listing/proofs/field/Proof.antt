@@ -1,7 +1,7 @@
 -- `listing::field` meets its contract: the digits stand before the place, and the key before the digits. Assumes nothing.
 use native.Mathlib.Omega.{arith}
 use borrow.Author.Needs.{needs}
-use Rattle.listing.proofs.{Laws.field-put, Laws.digits-far, field.Statement.statement}
+use Rattle.listing.proofs.{Laws.{field-put, digits-far}, field.Statement.statement}
 use Rattle.listing.proofs.field.Tie as tie
 
 sub-start : tie.Need-sub-start

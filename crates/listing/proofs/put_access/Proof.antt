@@ -1,11 +1,10 @@
 -- `listing::put_access` meets its contract: the line holds the four fields, from the last to the first, and the data come behind it. Assumes nothing.
 use Prim.Native.Nat.{ℕ}
-use mathlib.Core.Path.{refl, _∙_, ap}
-use mathlib.Core.List.{List, _++_}
+use mathlib.Core.{Path.{refl, _∙_, ap}, List.{List, _++_}}
 use native.Mathlib.Omega.{arith}
 use borrow.Author.Needs.{needs}
 use Rattle.spelling.specs.{Decimal.decimal, Hex.hex, Text.text}
-use Rattle.listing.proofs.{Laws.first, Laws.more, Laws.four, Laws.put-same, put_access.Statement.statement}
+use Rattle.listing.proofs.{Laws.{first, more, four, put-same}, put_access.Statement.statement}
 use Rattle.listing.proofs.put_access.Tie as tie
 
 returns : tie.Need-returns

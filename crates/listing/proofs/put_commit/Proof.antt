@@ -3,7 +3,7 @@ use mathlib.Core.Path.{refl}
 use native.Mathlib.Omega.{arith}
 use borrow.Author.Needs.{needs}
 use Rattle.spelling.specs.Text.{text}
-use Rattle.listing.proofs.{Laws.put-same, Laws.access-text, Laws.fence-text, put_commit.Statement.statement}
+use Rattle.listing.proofs.{Laws.{put-same, access-text, fence-text}, put_commit.Statement.statement}
 use Rattle.listing.proofs.put_commit.Tie as tie
 
 returns : tie.Need-returns

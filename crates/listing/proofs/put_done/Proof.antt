@@ -2,7 +2,7 @@
 use mathlib.Core.Path.{refl}
 use native.Mathlib.Omega.{arith}
 use borrow.Author.Needs.{needs}
-use Rattle.listing.proofs.{Laws.put-same, Laws.done-line, put_done.Statement.statement}
+use Rattle.listing.proofs.{Laws.{put-same, done-line}, put_done.Statement.statement}
 use Rattle.listing.proofs.put_done.Tie as tie
 
 returns : tie.Need-returns

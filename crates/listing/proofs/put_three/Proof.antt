@@ -1,9 +1,8 @@
 -- `listing::put_three` meets its contract: the line holds the three fields, from the last to the first. Assumes nothing.
-use mathlib.Core.Path.{refl, _∙_}
-use mathlib.Core.List.{append-assoc}
+use mathlib.Core.{Path.{refl, _∙_}, List.append-assoc}
 use native.Mathlib.Omega.{arith}
 use borrow.Author.Needs.{needs}
-use Rattle.listing.proofs.{Laws.first, Laws.more, Laws.put-same, put_three.Statement.statement}
+use Rattle.listing.proofs.{Laws.{first, more, put-same}, put_three.Statement.statement}
 use Rattle.listing.proofs.put_three.Tie as tie
 
 returns : tie.Need-returns

@@ -2,7 +2,7 @@
 use mathlib.Core.Path.{refl}
 use native.Mathlib.Omega.{arith}
 use borrow.Author.Needs.{needs}
-use Rattle.listing.proofs.{Laws.data-short, Laws.data-put, put_with_data.Statement.statement}
+use Rattle.listing.proofs.{Laws.{data-short, data-put}, put_with_data.Statement.statement}
 use Rattle.listing.proofs.put_with_data.Tie as tie
 
 returns : tie.Need-returns

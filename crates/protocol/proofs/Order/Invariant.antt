@@ -1,30 +1,20 @@
 -- The invariant of the machine and the log of commits, and that a step's effect on one core and one line keeps it, if it keeps that
 -- line's part.
 use Prim.Native.Nat.{ℕ, _≤_, _<_}
-use mathlib.Core.Path.{_≡_}
-use mathlib.Core.Logic.{inl, inr}
-use mathlib.Core.List.{List}
-use native.Mathlib.Omega.{arith}
-use native.Mathlib.Decide.{ℕ-discrete}
+use mathlib.Core.{Path._≡_, Bool.true, Logic.{inl, inr}, List.List}
+use native.Mathlib.{Omega.arith, Decide.ℕ-discrete}
 use lib.ListN.{length}
-use Rattle.protocol.specs.Buffers.{Bytes, Placed}
-use Rattle.protocol.specs.Machine.{Machine, coreAt, copyAt, applied}
-use Rattle.protocol.specs.Step.{Op, load, store, fence}
-use Rattle.protocol.specs.Run.{Commit}
-use Rattle.protocol.specs.Order.{Stores}
-use Rattle.protocol.specs.declared.{Stamp.Stamp, Clocks.Clocks, Copy.Copy, Slot.Slot, Opening.Opening, Effect.Effect}
-use Rattle.protocol.specs.declared.Copy.the-variants.{None as NoCopy, Shared as CopyShared, Owned as CopyOwned}
-use Rattle.protocol.specs.declared.Held.the-variants.{Version}
-use Rattle.protocol.specs.declared.Grant.the-variants.{Share as GrantShare, Renew as GrantRenew, Own as GrantOwn}
-use Rattle.protocol.specs.declared.Slot.the-variants.{Empty, Asked, Answered}
-use Rattle.protocol.proofs.Moves.{Sized, managerAfter, writebackAfter, copyAfter, answerAfter}
-use Rattle.protocol.proofs.Refusals.{Fit}
-use Rattle.protocol.proofs.Written.{Arrays, core-at, core-off, copy-at, copy-off, arrays-written}
-use Rattle.protocol.proofs.Order.Log.{All, all-map, Touches}
+use Rattle.protocol.specs.{Buffers.{Bytes, Placed, givenFits}, Machine.{Machine, coreAt, copyAt, applied}, Step.{Op, load, store, fence}}
+use Rattle.protocol.specs.{Run.Commit, Order.Stores, declared.{Stamp.Stamp, Clocks.Clocks}}
+use Rattle.protocol.specs.declared.Copy.{Copy, the-variants.{None as NoCopy, Shared as CopyShared, Owned as CopyOwned}}
+use Rattle.protocol.specs.declared.{Slot.{Slot, the-variants.{Empty, Asked, Answered}}, Opening.Opening, Effect.Effect}
+use Rattle.protocol.specs.declared.{Held.the-variants.Version, Grant.the-variants.{Share as GrantShare, Renew as GrantRenew, Own as GrantOwn}}
+use Rattle.protocol.proofs.{Moves.{managerAfter, writebackAfter, copyAfter, answerAfter}, Refusals.Fit}
+use Rattle.protocol.proofs.{Written.{Arrays, core-at, core-off, copy-at, copy-off, arrays-written}, Order.Log.{All, all-map, Touches}}
 use Rattle.protocol.proofs.Order.Versions.{Spot, atManager, atWriteback, atCopy, atSlot, Elsewhere, Content, Newest, ContentAgrees}
 use Rattle.protocol.proofs.Order.Versions.{VersionAgrees, LineAgrees, thin}
-use Rattle.protocol.proofs.Order.Look.{LineCell, Value, viewManager, viewWriteback, viewCopy, viewSlot, look, SpeaksOf, SlotStep, look-manager}
-use Rattle.protocol.proofs.Order.Look.{look-writeback, look-copy, look-slot, copy-spot-off, slot-spot-off, line-spots-off}
+use Rattle.protocol.proofs.Order.Look.{LineCell, Value, viewManager, viewWriteback, viewCopy, viewSlot, look, SpeaksOf, SlotStep}
+use Rattle.protocol.proofs.Order.Look.{look-manager, look-writeback, look-copy, look-slot, copy-spot-off, slot-spot-off, line-spots-off}
 
 -- the commit stores x to the cell i of line l
 abbrev pub Writes : ℕ → LineCell → Commit Bytes → Value → Type 0
@@ -90,7 +80,7 @@ clock-up fence t k k′ p h = omega (arith, p .0)
 -- ---- a step's effect d on core c and line l
 
 module _ {z : Value} {H : List (Commit Bytes)} {m : Machine} (I : Inv z H m) (f : Fit m) {c l : ℕ} (q : Placed (m .state .opening) c l)
-    (given : Bytes) (d : Effect) (hg : Sized (m .state .opening) (length given) (d .moves)) where
+    (given : Bytes) (d : Effect) (hg : givenFits (d .moves) (m .state .opening .width) (length given) ≡ true) where
   abbrev o : Opening
   o = m .state .opening
 

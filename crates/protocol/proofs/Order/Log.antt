@@ -1,13 +1,8 @@
 -- The log of commits, newest first, and what each new commit has to bring for the sorted order to obey a memory model. No machine here.
 use Prim.Native.Nat.{ℕ, _≤_, _<_}
-use mathlib.Core.Path.{_≡_, refl, sym, _∙_, ap}
-use mathlib.Core.Logic.{_⊎_, inl, inr, ⊎-elim}
-use mathlib.Core.List.{List, [], _∷_}
-use native.Mathlib.Omega.{arith}
-use native.Mathlib.Decide.{decLt}
-use Rattle.protocol.specs.Step.{Op, load, store, fence}
-use Rattle.protocol.specs.Run.{Commit}
-use Rattle.protocol.specs.Order.{In, here, there, Before, Earlier, MaySee, LastWrite, Obeys}
+use mathlib.Core.{Path.{_≡_, refl, sym, _∙_, ap}, Logic.{_⊎_, inl, inr, ⊎-elim}, List.{List, [], _∷_}}
+use native.Mathlib.{Omega.arith, Decide.decLt}
+use Rattle.protocol.specs.{Step.{Op, load, store, fence}, Run.Commit, Order.{In, here, there, Before, Earlier, MaySee, LastWrite, Obeys}}
 
 -- ---- lists
 

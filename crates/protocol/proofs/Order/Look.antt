@@ -1,22 +1,18 @@
 -- The spots of a line read off the machine, and what a step's effect on one core and one line makes of them.
 use Prim.Native.Nat.{ℕ, _<_}
-use mathlib.Core.Path.{_≡_, refl, _∙_, ap, ap₂}
-use mathlib.Core.Logic.{_⊎_, inl, inr}
-use mathlib.Core.Bool.{Bool, true, false}
+use mathlib.Core.{Path.{_≡_, refl, _∙_, ap, ap₂}, Logic.{_⊎_, inl, inr}, Bool.{Bool, true, false}}
 use native.Mathlib.Decide.{ℕ-discrete}
 use lib.ListN.{length}
-use Rattle.protocol.specs.Buffers.{Bytes, Placed, copyBytes, managerBytes, writebackBytes, answerBytes, movedShared}
-use Rattle.protocol.specs.Machine.{Machine, coreAt, copyAt, lineAt, applied}
-use Rattle.protocol.specs.declared.{Stamp.Stamp, Copy.Copy, Grant.Grant, Slot.Slot, Core.Core, Manager.Manager, Writeback.Writeback, Line.Line}
-use Rattle.protocol.specs.declared.{Opening.Opening, Effect.Effect}
-use Rattle.protocol.specs.declared.Copy.the-variants.{None as NoCopy, Shared as CopyShared, Owned as CopyOwned}
-use Rattle.protocol.specs.declared.Grant.the-variants.{Share as GrantShare, Renew as GrantRenew, Own as GrantOwn}
-use Rattle.protocol.specs.declared.Slot.the-variants.{Empty, Asked, Answered}
-use Rattle.protocol.specs.declared.Manager.the-variants.{Shared, Owned}
-use Rattle.protocol.specs.declared.Writeback.the-variants.{None as NoWriteback, Flight}
-use Rattle.protocol.proofs.Moves.{managerAfter, writebackAfter, copyAfter, answerAfter, AnswerStays, Sized, manager-after, writeback-after}
-use Rattle.protocol.proofs.Moves.{copy-after, answer-after, manager-other, writeback-other, answer-other, private-other}
-use Rattle.protocol.proofs.Refusals.{Fit}
+use Rattle.protocol.specs.Buffers.{Bytes, Placed, copyBytes, managerBytes, writebackBytes, answerBytes, givenFits, movedShared}
+use Rattle.protocol.specs.{Machine.{Machine, coreAt, copyAt, lineAt, applied}, declared.Stamp.Stamp}
+use Rattle.protocol.specs.declared.Copy.{Copy, the-variants.{None as NoCopy, Shared as CopyShared, Owned as CopyOwned}}
+use Rattle.protocol.specs.declared.Grant.{Grant, the-variants.{Share as GrantShare, Renew as GrantRenew, Own as GrantOwn}}
+use Rattle.protocol.specs.declared.{Slot.{Slot, the-variants.{Empty, Asked, Answered}}, Core.Core}
+use Rattle.protocol.specs.declared.Manager.{Manager, the-variants.{Shared, Owned}}
+use Rattle.protocol.specs.declared.{Writeback.{Writeback, the-variants.{None as NoWriteback, Flight}}, Line.Line, Opening.Opening}
+use Rattle.protocol.specs.declared.Effect.{Effect}
+use Rattle.protocol.proofs.Moves.{managerAfter, writebackAfter, copyAfter, answerAfter, AnswerStays, manager-after, writeback-after}
+use Rattle.protocol.proofs.{Moves.{copy-after, answer-after, manager-other, writeback-other, answer-other, private-other}, Refusals.Fit}
 use Rattle.protocol.proofs.Written.{Arrays, core-at, core-off, line-at, line-off, copy-at, copy-off}
 use Rattle.protocol.proofs.Order.Versions.{Spot, atManager, atWriteback, atCopy, atSlot, Mark, clean, mine, Content, nothing, snapshot}
 use Rattle.protocol.proofs.Order.Versions.{renewal, newest}
@@ -111,7 +107,7 @@ SlotStep m c l d =
     ⊎ ((l′ : ℕ) → SpeaksOf l′ (d .core .slot) → l′ ≡ l)
 
 module _ {m : Machine} (ar : Arrays (m .state)) (f : Fit m) {c l : ℕ} (q : Placed (m .state .opening) c l) (given : Bytes) (d : Effect)
-    (hg : Sized (m .state .opening) (length given) (d .moves)) where
+    (hg : givenFits (d .moves) (m .state .opening .width) (length given) ≡ true) where
   abbrev o : Opening
   o = m .state .opening
 

@@ -1,20 +1,15 @@
 -- What the order asks of the tables' rows, each as a small fact: where a commit is to the leases, and what a grant or a writeback carries.
 use Prim.Native.Nat.{ℕ, _≤_, _<_}
-use mathlib.Core.Path.{_≡_, refl, sym, ap}
-use mathlib.Core.Bool.{Bool, true, false}
+use mathlib.Core.{Path.{_≡_, refl, sym, ap}, Bool.{Bool, true, false}}
 use native.Mathlib.Omega.{arith}
 use borrow.Author.Tests.{eqb-true}
-use Rattle.protocol.specs.Stamps.{stamp}
-use Rattle.protocol.specs.Machine.{Pieces}
+use Rattle.protocol.specs.{Stamps.stamp, Machine.Pieces}
 use Rattle.protocol.specs.Tables.{loadOwned, loadShared, storeTable, evictTable, sameVersion, leasedTo, serveLoad, yieldTable}
-use Rattle.protocol.specs.declared.{Stamp.Stamp, Copy.Copy, Held.Held, Slot.Slot, Manager.Manager, Writeback.Writeback, Answer.Answer}
-use Rattle.protocol.specs.declared.Copy.the-variants.{None as NoCopy, Shared as CopyShared, Owned as CopyOwned}
-use Rattle.protocol.specs.declared.Held.the-variants.{None as NothingHeld, Version}
-use Rattle.protocol.specs.declared.Slot.the-variants.{Empty, Asked, Answered}
-use Rattle.protocol.specs.declared.Manager.the-variants.{Shared, Owned}
-use Rattle.protocol.specs.declared.Writeback.the-variants.{None as NoWriteback, Flight}
-use Rattle.protocol.specs.declared.Answer.the-variants.{Refused, Done, Commit}
-use Rattle.protocol.specs.declared.Move.the-variants.{Writeback as MoveWriteback}
+use Rattle.protocol.specs.declared.{Stamp.Stamp, Copy.{Copy, the-variants.{None as NoCopy, Shared as CopyShared, Owned as CopyOwned}}}
+use Rattle.protocol.specs.declared.Held.{Held, the-variants.{None as NothingHeld, Version}}
+use Rattle.protocol.specs.declared.{Slot.{Slot, the-variants.{Empty, Asked, Answered}}, Manager.{Manager, the-variants.{Shared, Owned}}}
+use Rattle.protocol.specs.declared.Writeback.{Writeback, the-variants.{None as NoWriteback, Flight}}
+use Rattle.protocol.specs.declared.{Answer.{Answer, the-variants.{Refused, Done, Commit}}, Move.the-variants.Writeback as MoveWriteback}
 use Rattle.protocol.proofs.Tests.{never}
 
 -- ---- the timestamps in a row

@@ -1,48 +1,30 @@
 -- Every call, with any numbers and any bytes, keeps the invariant, and what it commits extends the log: one function over the rows of the tables.
 use Prim.Native.Nat.{ℕ, _≤_, _<_}
-use mathlib.Core.Path.{_≡_, refl, sym, _∙_, ap}
-use mathlib.Core.Logic.{_⊎_, inl, inr}
-use mathlib.Core.Bool.{Bool, true, false}
-use mathlib.Core.List.{List, [], _∷_}
+use mathlib.Core.{Path.{_≡_, refl, sym, _∙_, ap}, Logic.{_⊎_, inl, inr}, Bool.{Bool, true, false}, List.{List, [], _∷_}}
 use native.Mathlib.Omega.{arith}
-use lib.Dec.{eqb}
+use lib.{Dec.eqb, ListN.length}
 use borrow.Author.Tests.{eq-eqb}
-use lib.ListN.{length}
-use Rattle.protocol.specs.Stamps.{later}
-use Rattle.protocol.specs.Clock.{storeTime}
-use Rattle.protocol.specs.Buffers.{Bytes, Placed, copyBytes, managerBytes, writebackBytes, answerBytes}
-use Rattle.protocol.specs.Machine.{Machine, Pieces, piecesAt, coreAt, copyAt, lineAt, applied}
-use Rattle.protocol.specs.Refusals.{isOwned}
+use Rattle.protocol.specs.{Stamps.later, Clock.storeTime, Buffers.{Bytes, Placed, copyBytes, managerBytes, writebackBytes, answerBytes}}
+use Rattle.protocol.specs.{Machine.{Machine, Pieces, piecesAt, coreAt, copyAt, lineAt, applied}, Refusals.isOwned}
 use Rattle.protocol.specs.Tables.{row, heldOf, loadOwned, earliest, storeTable, fenceTable, advanceTable, evictTable, leasedTo, serveLoad}
 use Rattle.protocol.specs.Tables.{serveAsked, receiveRenew, receiveGrant, yielded, yieldTable, takeTable, writtenBack}
 use Rattle.protocol.specs.Step.{Op, load, store, fence, Reply, refused, done, commit, meaning, Outcome, accepted, step}
-use Rattle.protocol.specs.Run.{place, Commit, commitAt}
-use Rattle.protocol.specs.Order.{TsoKeeps, Loads, Stores}
-use Rattle.protocol.specs.declared.{Stamp.Stamp, Clocks.Clocks, Copy.Copy, Want.Want, Held.Held, Grant.Grant, Core.Core, Manager.Manager}
-use Rattle.protocol.specs.declared.{Recall.Recall, Writeback.Writeback, Opening.Opening, Call.Call, Answer.Answer, Move.Move, Effect.Effect}
-use Rattle.protocol.specs.declared.Copy.the-variants.{None as NoCopy, Shared as CopyShared, Owned as CopyOwned}
-use Rattle.protocol.specs.declared.Want.the-variants.{Load as WantLoad, Store as WantStore}
-use Rattle.protocol.specs.declared.Held.the-variants.{Version}
-use Rattle.protocol.specs.declared.Grant.the-variants.{Share as GrantShare, Renew as GrantRenew, Own as GrantOwn}
-use Rattle.protocol.specs.declared.Slot.the-variants.{Asked, Answered}
-use Rattle.protocol.specs.declared.Manager.the-variants.{Shared}
-use Rattle.protocol.specs.declared.Recall.the-variants.{None as NoRecall, Downgrade, Flush}
-use Rattle.protocol.specs.declared.Writeback.the-variants.{Flight}
-use Rattle.protocol.specs.declared.Answer.the-variants.{Done}
-use Rattle.protocol.specs.declared.Call.the-variants.{Load}
-use Rattle.protocol.specs.declared.Name.the-variants.{Evict as Evicted, Yield as Yielded}
-use Rattle.protocol.specs.declared.Move.the-variants.{Writeback as MoveWriteback}
-use Rattle.protocol.proofs.Tests.{never}
-use Rattle.protocol.proofs.Refusals.{Fit, machine-fit}
-use Rattle.protocol.proofs.Written.{core-at}
+use Rattle.protocol.specs.{Run.{place, Commit, commitAt}, Order.{TsoKeeps, Loads, Stores}, declared.{Stamp.Stamp, Clocks.Clocks}}
+use Rattle.protocol.specs.declared.Copy.{Copy, the-variants.{None as NoCopy, Shared as CopyShared, Owned as CopyOwned}}
+use Rattle.protocol.specs.declared.{Want.{Want, the-variants.{Load as WantLoad, Store as WantStore}}, Held.{Held, the-variants.Version}}
+use Rattle.protocol.specs.declared.{Grant.{Grant, the-variants.{Share as GrantShare, Renew as GrantRenew, Own as GrantOwn}}, Core.Core}
+use Rattle.protocol.specs.declared.{Manager.{Manager, the-variants.Shared}, Recall.{Recall, the-variants.{None as NoRecall, Downgrade, Flush}}}
+use Rattle.protocol.specs.declared.{Writeback.{Writeback, the-variants.Flight}, Opening.Opening, Call.{Call, the-variants.Load}}
+use Rattle.protocol.specs.declared.{Answer.{Answer, the-variants.Done}, Move.{Move, the-variants.Writeback as MoveWriteback}, Effect.Effect}
+use Rattle.protocol.specs.declared.{Slot.the-variants.{Asked, Answered}, Name.the-variants.{Evict as Evicted, Yield as Yielded}}
+use Rattle.protocol.proofs.{Tests.never, Refusals.{Fit, machine-fit}, Written.core-at}
 use Rattle.protocol.proofs.Cases.{Row, asks-load, reads-shared, reads-dirty, reads-clean, asks-store, writes, fences, advances, evicts-shared}
 use Rattle.protocol.proofs.Cases.{evicts-owned, recalls, renews, shares, grants, gets-share, gets-own, gets-renewal, drops-none, drops-owned}
-use Rattle.protocol.proofs.Cases.{yields, takes, Case, refuses, makes, case-of}
-use Rattle.protocol.proofs.Keep.{EffectFits, made-fits}
+use Rattle.protocol.proofs.{Cases.{yields, takes, Case, refuses, makes, case-of}, Keep.{EffectFits, made-fits}}
 use Rattle.protocol.proofs.Order.Log.{more, all-map, Touches, Reading, Extends}
 use Rattle.protocol.proofs.Order.Versions.{Spot, atManager, atWriteback, atCopy, atSlot, kind, HeldBy, Elsewhere, not-here, mine, newest}
-use Rattle.protocol.proofs.Order.Versions.{Newest, version, IsAt, here, carry, goes-to, quiet, write-version, write-marks, write-past, Written}
-use Rattle.protocol.proofs.Order.Versions.{marks-stay, MarksAgree, lease-of, lease-renewed, reads-snapshot, reads-newest, reads-mine}
+use Rattle.protocol.proofs.Order.Versions.{Newest, version, IsAt, here, carry, goes-to, quiet, write-version, write-marks, write-past}
+use Rattle.protocol.proofs.Order.Versions.{Written, marks-stay, MarksAgree, lease-of, lease-renewed, reads-snapshot, reads-newest, reads-mine}
 use Rattle.protocol.proofs.Order.Look.{LineCell, Value, cells, marks, look, viewCopy, viewManager, viewWriteback, granted, view-at, view-none}
 use Rattle.protocol.proofs.Order.Look.{SpeaksOf, SlotStep}
 use Rattle.protocol.proofs.Order.Rows.{read-within, lease-grows, read-after, read-clocked, read-version, shared-version, shared-within}

@@ -1,38 +1,22 @@
 -- The order theorem: the sorted order of the commits of every list of calls on a fresh engine obeys TSO; that this order is one; and that
 -- the test of keys decides it.
 use Prim.Native.Nat.{ℕ, suc, _+_, _*_, _≤_, _<_}
-use mathlib.Core.Path.{_≡_, refl, sym, _∙_, ap}
-use mathlib.Core.Logic.{_⊎_, inl, inr, ⊎-elim}
-use mathlib.Core.Bool.{Bool, true, false}
-use mathlib.Core.List.{List, [], _∷_, _++_}
-use native.Mathlib.Omega.{arith}
-use native.Mathlib.Decide.{decLt}
+use mathlib.Core.{Path.{_≡_, refl, sym, _∙_, ap}, Logic.{_⊎_, inl, inr, ⊎-elim}, Bool.{Bool, true, false}, List.{List, [], _∷_, _++_}}
+use native.Mathlib.{Omega.arith, Decide.decLt}
 use lib.Dec.{ltb, eqb}
 use borrow.Author.Tests.{ltb-true, eqb-true, lt-ltb, le-ltb, eq-eqb}
-use Rattle.protocol.specs.Pick.{pick}
-use Rattle.protocol.specs.Stamps.{Precedes, precedes}
-use Rattle.protocol.specs.Limits.{openingFits}
-use Rattle.protocol.specs.Refusals.{openRefusal}
-use Rattle.protocol.specs.Buffers.{Bytes, sharedLength, managerBytes}
-use Rattle.protocol.specs.About.{about, namedCore, namedLine}
-use Rattle.protocol.specs.Machine.{Machine, freshMachine}
+use Rattle.protocol.specs.{Pick.pick, Stamps.{Precedes, precedes}, Limits.openingFits, Refusals.openRefusal}
+use Rattle.protocol.specs.{Buffers.{Bytes, sharedLength, managerBytes}, About.{about, namedCore, namedLine}, Machine.{Machine, freshMachine}}
 use Rattle.protocol.specs.Step.{Op, Reply, refused, done, commit, step}
 use Rattle.protocol.specs.Run.{Given, Record, place, run, Commit, actCommit, commitOf, commits}
 use Rattle.protocol.specs.Order.{In, here, there, Before, Earlier, TsoKeeps, Loads, Stores, LastWrite, Obeys, OpenTheorem, OrderTheorem}
-use Rattle.protocol.specs.Order.{SortTheorem, KeyTheorem}
-use Rattle.protocol.specs.declared.{Opening.Opening, Act.Act}
-use Rattle.protocol.specs.declared.Act.the-variants.{Load, Store, Fence, Advance, Transfer}
-use Rattle.protocol.proofs.Tests.{never}
-use Rattle.protocol.proofs.Bytes.{row-le, zeros, zeros-part}
-use Rattle.protocol.proofs.Places.{inside}
-use Rattle.protocol.proofs.Refusals.{opening-fit}
-use Rattle.protocol.proofs.Written.{arrays-fresh, core-fresh, line-fresh, copy-fresh}
-use Rattle.protocol.proofs.Reached.{onto, reached, from-onto, to-onto}
+use Rattle.protocol.specs.{Order.{SortTheorem, KeyTheorem}, declared.Opening.Opening}
+use Rattle.protocol.specs.declared.Act.{Act, the-variants.{Load, Store, Fence, Advance, Transfer}}
+use Rattle.protocol.proofs.{Tests.never, Bytes.{row-le, zeros, zeros-part}, Places.inside, Refusals.opening-fit}
+use Rattle.protocol.proofs.{Written.{arrays-fresh, core-fresh, line-fresh, copy-fresh}, Reached.{onto, reached, from-onto, to-onto}}
 use Rattle.protocol.proofs.Order.Log.{All, none, more, all-map, all-at, in-nil, fresh, Lawful, start, log-obeys, step as log-step}
 use Rattle.protocol.proofs.Order.Versions.{Spot, atManager, atWriteback, atCopy, atSlot, Newest, version, here as at-here}
-use Rattle.protocol.proofs.Order.Look.{LineCell, Value, cells, look}
-use Rattle.protocol.proofs.Order.Invariant.{SpotOf, Inv}
-use Rattle.protocol.proofs.Order.Steps.{Good, commitBy, step-good}
+use Rattle.protocol.proofs.Order.{Look.{LineCell, Value, cells, look}, Invariant.{SpotOf, Inv}, Steps.{Good, commitBy, step-good}}
 
 -- ---- the log of a run
 

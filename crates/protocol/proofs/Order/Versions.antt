@@ -2,9 +2,7 @@
 -- that keep it. The times and the leases are the line's, the values and the marks each cell's. Nothing here knows the machine, nor what a cell
 -- or a value is: `Wr i e x`, the commit e writes the value x to the cell i; `Tch e`, it loads from or stores to the line.
 use Prim.Native.Nat.{ℕ, _≤_, _<_}
-use mathlib.Core.Path.{_≡_, refl}
-use mathlib.Core.Logic.{_⊎_, inl, inr, ⊎-elim}
-use mathlib.Core.List.{List, _∷_}
+use mathlib.Core.{Path.{_≡_, refl}, Logic.{_⊎_, inl, inr, ⊎-elim}, List.{List, _∷_}}
 use native.Mathlib.Omega.{arith}
 use Rattle.protocol.specs.Run.{Commit}
 use Rattle.protocol.proofs.Order.Log.{All, more, all-map, Last, found, past, last-map, last-same, Reading}

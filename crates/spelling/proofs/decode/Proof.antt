@@ -1,12 +1,11 @@
 -- `spelling::decode` meets its contract. The invariant: the buffer starts with the first bytes that the data spell. Assumes nothing.
 use Prim.Native.Nat.{ℕ, _≤_, _+_, _*_, _/_, _-_, _<_}
-use mathlib.Core.{Path._≡_, Path.refl, Path._∙_, Path.ap, Path.subst, List.List}
+use mathlib.Core.{Path.{_≡_, refl, _∙_, ap, subst}, List.List}
 use native.Mathlib.Omega.{arith}
-use borrow.Author.{Needs.needs, Tests.not-true, Tests.not-false}
-use lib.{ListN.length, ListN.take, ListN.getD, ListN.length-set, Seq.take-all}
-use Rattle.spelling.specs.{Over.over, Hex.Spells, Hex.IsData, Hex.DataTest, Over.IsNibble, Over.decoded, Over.noRoom, Over.noData}
-use Rattle.spelling.proofs.{HexLaws.spells-length, HexLaws.spells-at, OverLaws.over-none, DecodeLaws.data-more}
-use Rattle.spelling.proofs.decode.Statement.{statement}
+use borrow.Author.{Needs.needs, Tests.{not-true, not-false}}
+use lib.{ListN.{length, take, getD, length-set}, Seq.take-all}
+use Rattle.spelling.specs.{Over.{over, IsNibble, decoded, noRoom, noData}, Hex.{Spells, IsData, DataTest}}
+use Rattle.spelling.proofs.{HexLaws.{spells-length, spells-at}, OverLaws.over-none, DecodeLaws.data-more, decode.Statement.statement}
 use Rattle.spelling.proofs.decode.Tie as tie
 
 abbrev Inv-loop : tie.InvT-loop
@@ -15,9 +14,6 @@ Inv-loop out₀ s i₀ p₀ out i p =
 
 abbrev μ-loop : tie.MeasureT-loop
 μ-loop out₀ s i₀ p₀ out i p = length s - p
-
-returns : tie.Need-returns Inv-loop μ-loop
-returns c = noData (subst (DataTest _) (not-true (c .before .is-data .result) (c .if1 .taken)) (c .before .is-data .ensures)) refl
 
 returns-2 : tie.Need-returns-2 Inv-loop μ-loop
 returns-2 c =
@@ -55,9 +51,6 @@ nibble-requires-2 c κs =
     let n = spells-length s (d .0) (d .1) in
     spells-at s (d .0) (l .p + 1) (d .1) (omega arith)
 
-add-out : tie.Need-add-out Inv-loop μ-loop
-add-out c = omega (arith, c .before .before .nibble .ensures .small, c .nibble2 .ensures .small)
-
 -- there is a byte more, and room for it
 one-more : (c : tie.After-nibble2 Inv-loop μ-loop) → (c .before .before .before .before .before .loop .p + 2 ≤ length (c .before .before .before .before .before .before .before .before .before .before .before .args .s .now)) × (c .before .before .before .before .before .loop .i < length (c .before .before .before .before .before .before .before .before .before .before .before .args .out .now))
 one-more c =
@@ -93,7 +86,7 @@ decode-spec =
     Inv-loop
     μ-loop
     (λ c κs. search needs)
-    returns
+    (λ c. noData (subst (DataTest _) (not-true (c .before .is-data .result) (c .if1 .taken)) (c .before .is-data .ensures)) refl)
     returns-2
     loop-holds
     (λ c. omega arith)
@@ -102,7 +95,7 @@ decode-spec =
     shared-slice-read-nibble-2
     nibble-requires-2
     (λ c. omega (arith, c .before .before .nibble .ensures .small))
-    add-out
+    (λ c. omega (arith, c .before .before .nibble .ensures .small, c .nibble2 .ensures .small))
     (λ c. let m = one-more c in omega arith) (λ c. let m = one-more c in omega arith) (λ c. let m = one-more c in omega arith) (λ c. omega arith)
     loop-again
     (λ c. c .before .loop .inv .3)

@@ -1,20 +1,8 @@
 -- `spelling::hex_digit` meets its contract. Assumes nothing.
 use mathlib.Core.Path.{refl, sym}
-use borrow.Author.{Needs.needs, Tests.lt-ltb, Tests.le-ltb}
+use borrow.Author.{Needs.needs, Tests.{lt-ltb, le-ltb}}
 use Rattle.spelling.proofs.hex_digit.Statement.{statement}
 use Rattle.spelling.proofs.hex_digit.Tie as tie
 
-add-result : tie.Need-add-result
-add-result c = search needs
-
-add-result-2 : tie.Need-add-result-2
-add-result-2 c = search needs
-
-returns : tie.Need-returns
-returns c = sym (rw (lt-ltb _ _ (c .if1 .taken)) refl)
-
-returns-2 : tie.Need-returns-2
-returns-2 c = sym (rw (le-ltb _ _ (c .if1 .left)) refl)
-
 pub hex-digit-spec : {M : Type 1} → statement M
-hex-digit-spec = tie.close (tie.spec add-result add-result-2 returns returns-2)
+hex-digit-spec = tie.close (tie.spec (λ c. search needs) (λ c. search needs) (λ c. sym (rw (lt-ltb _ _ (c .if1 .taken)) refl)) (λ c. sym (rw (le-ltb _ _ (c .if1 .left)) refl)))

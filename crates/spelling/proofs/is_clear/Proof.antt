@@ -4,8 +4,7 @@ use mathlib.Core.Path.{_≡_, subst}
 use native.Mathlib.Omega.{arith}
 use lib.ListN.{getD}
 use Rattle.spelling.specs.Bytes.{Test, Below}
-use Rattle.spelling.proofs.Tests.{test-other, test-more}
-use Rattle.spelling.proofs.is_clear.Statement.{statement}
+use Rattle.spelling.proofs.{Tests.{test-other, test-more}, is_clear.Statement.statement}
 use Rattle.spelling.proofs.is_clear.Tie as tie
 
 abbrev Inv-loop : tie.InvT-loop

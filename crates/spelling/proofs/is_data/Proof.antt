@@ -1,12 +1,11 @@
 -- `spelling::is_data` meets its contract. The invariant: whether each byte passed is a hex digit. Assumes nothing.
 use Prim.Native.Nat.{ℕ, _≤_, _-_, _%_}
-use mathlib.Core.{Path._≡_, Bool.Bool, Bool.true, Bool.false, List.List}
+use mathlib.Core.{Path._≡_, Bool.{Bool, true, false}, List.List}
 use native.Mathlib.Omega.{arith}
 use borrow.Author.Needs.{needs}
 use lib.ListN.{length, getD}
-use Rattle.spelling.specs.{Bytes.Test, Bytes.Below, Hex.HexDigit, Hex.DataTest}
-use Rattle.spelling.proofs.{Lists.all-from, Tests.test-more, HexLaws.unhex, HexLaws.spelt, HexLaws.spells-length, HexLaws.spells-at}
-use Rattle.spelling.proofs.is_data.Statement.{statement}
+use Rattle.spelling.specs.{Bytes.{Test, Below}, Hex.{HexDigit, DataTest}}
+use Rattle.spelling.proofs.{Lists.all-from, Tests.test-more, HexLaws.{unhex, spelt, spells-length, spells-at}, is_data.Statement.statement}
 use Rattle.spelling.proofs.is_data.Tie as tie
 
 abbrev digitAt : List ℕ → ℕ → Type 0
@@ -23,12 +22,6 @@ whole : (s : List ℕ) (n : ℕ) (t : Bool) → n ≡ length s → (length s ≡
 whole s n true e a b f = (unhex s, spelt s (all-from HexDigit s (λ k h. f k (omega arith))) (omega arith) (omega arith))
 whole s n false e a b f = λ (bs, x). f (λ k h. spells-at s bs k x (omega arith))
 
-returns : tie.Need-returns Inv-loop μ-loop
-returns c (bs, s) = omega (arith, spells-length _ bs s, s .some)
-
-returns-2 : tie.Need-returns-2 Inv-loop μ-loop
-returns-2 c (bs, s) = omega (arith, spells-length _ bs s, s .some)
-
 loop-again : tie.Need-loop-again Inv-loop μ-loop
 loop-again c =
     let l = c .before .before .before .loop in
@@ -42,4 +35,4 @@ returns-3 c =
 pub is-data-spec : {M : Type 1} → statement M
 is-data-spec =
     tie.close
-    (tie.spec Inv-loop μ-loop returns returns-2 (λ c. (omega arith, λ k h. absurd (omega arith))) (λ c. search needs) (λ c κs. search needs) (λ c. search needs) (λ c. search needs) loop-again returns-3)
+    (tie.spec Inv-loop μ-loop (λ c (bs, s). omega (arith, spells-length _ bs s, s .some)) (λ c (bs, s). omega (arith, spells-length _ bs s, s .some)) (λ c. (omega arith, λ k h. absurd (omega arith))) (λ c. search needs) (λ c κs. search needs) (λ c. search needs) (λ c. search needs) loop-again returns-3)

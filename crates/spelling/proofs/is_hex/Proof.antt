@@ -2,8 +2,7 @@
 use Prim.Native.Nat.{_≤_}
 use mathlib.Core.Bool.{_&&_}
 use lib.Dec.{leb}
-use Rattle.spelling.proofs.Tests.{test-within, test-either}
-use Rattle.spelling.proofs.is_hex.Statement.{statement}
+use Rattle.spelling.proofs.{Tests.{test-within, test-either}, is_hex.Statement.statement}
 use Rattle.spelling.proofs.is_hex.Tie as tie
 
 returns : tie.Need-returns

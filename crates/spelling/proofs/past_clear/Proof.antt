@@ -5,8 +5,7 @@ use native.Mathlib.Omega.{arith}
 use borrow.Author.Tests.{not-false}
 use lib.ListN.{length, drop}
 use Rattle.spelling.specs.Bytes.{upTo, Test}
-use Rattle.spelling.proofs.Split.{upTo-run}
-use Rattle.spelling.proofs.past_clear.Statement.{statement}
+use Rattle.spelling.proofs.{Split.upTo-run, past_clear.Statement.statement}
 use Rattle.spelling.proofs.past_clear.Tie as tie
 
 abbrev Inv-loop : tie.InvT-loop

@@ -1,13 +1,11 @@
 -- `spelling::put_hex` meets its contract. The invariant: there is room, and the buffer holds the digits of the bytes that were passed. Assumes nothing.
 use Prim.Native.Nat.{ℕ, _≤_, _+_, _*_, _-_}
-use mathlib.Core.{Path._≡_, Path.refl, Path._∙_, Path.ap, List.List}
+use mathlib.Core.{Path.{_≡_, refl, _∙_, ap}, List.List}
 use native.Mathlib.Omega.{arith}
 use borrow.Author.Needs.{needs}
-use lib.{ListN.length, ListN.take, ListN.length-set, Seq.take-all}
-use Rattle.spelling.specs.{Over.over, Hex.hex}
-use Rattle.spelling.specs.declared.Put.the-variants.{End}
-use Rattle.spelling.proofs.HexLaws.{hex-length}
-use Rattle.spelling.proofs.OverLaws.{over-none, hex-more, put-done, put-short, room-yes, room-no}
+use lib.{ListN.{length, take, length-set}, Seq.take-all}
+use Rattle.spelling.specs.{Over.over, Hex.hex, declared.Put.the-variants.End}
+use Rattle.spelling.proofs.{HexLaws.hex-length, OverLaws.{over-none, hex-more, put-done, put-short, room-yes, room-no}}
 use Rattle.spelling.proofs.put_hex.Statement.{statement}
 use Rattle.spelling.proofs.put_hex.Tie as tie
 
@@ -27,9 +25,6 @@ returns-2 c = let a = c .before .before .before .before .before .args in put-sho
 loop-holds : tie.Need-loop-holds Inv-loop μ-loop
 unfolding hex
 loop-holds c = let a = c .before .before .before .before .before .args in (room-yes _ _ _ _ (c .before .has-room .ensures) (c .if2 .left), omega arith, omega arith, over-none (a .out .now) (a .at), refl)
-
-hex-digit-requires : tie.Need-hex-digit-requires Inv-loop μ-loop
-hex-digit-requires c κs = omega (arith, c .shared-slice-known2 .given (c .before .before .loop .i))
 
 loop-again : tie.Need-loop-again Inv-loop μ-loop
 loop-again c =
@@ -55,7 +50,7 @@ put-hex-spec =
     returns-2
     loop-holds
     (λ c. omega arith)
-    hex-digit-requires
+    (λ c κs. omega (arith, c .shared-slice-known2 .given (c .before .before .loop .i)))
     (λ c. omega arith) (λ c κs. omega arith) (λ c. omega arith) (λ c. simp length-set (omega arith)) (λ c. omega arith) (λ c. omega arith)
     (λ c. omega arith)
     loop-again

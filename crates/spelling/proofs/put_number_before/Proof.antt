@@ -12,29 +12,8 @@ Inv-loop out₀ end n k₀ m₀ out k m = Digits out₀ end n out k m
 abbrev μ-loop : tie.MeasureT-loop
 μ-loop out₀ end n k₀ m₀ out k m = m
 
-returns : tie.Need-returns Inv-loop μ-loop
-returns c = let a = c .before .args in before-few (a .out .now) (a .end) _ (omega arith)
-
-returns-2 : tie.Need-returns-2 Inv-loop μ-loop
-returns-2 c = let a = c .before .before .args in before-past (a .out .now) (a .end) _ (omega arith)
-
 loop-holds : tie.Need-loop-holds Inv-loop μ-loop
 loop-holds c = let a = c .before .before .args in digits-start (a .out .now) (a .end) (a .n) (omega arith) (omega arith) (omega arith)
-
-sub-k : tie.Need-sub-k Inv-loop μ-loop
-sub-k c = let r = digits-room _ _ _ _ _ _ (c .before .loop .inv) in omega arith
-
-slice-write-out : tie.Need-slice-write-out Inv-loop μ-loop
-slice-write-out c = let r = digits-room _ _ _ _ _ _ (c .before .loop .inv) in omega (arith, c .before .loop .inv .within)
-
-sub-k-2 : tie.Need-sub-k-2 Inv-loop μ-loop
-sub-k-2 c = let r = digits-room _ _ _ _ _ _ (c .before .loop .inv) in omega arith
-
-slice-write-out-2 : tie.Need-slice-write-out-2 Inv-loop μ-loop
-slice-write-out-2 c = let r = digits-room _ _ _ _ _ _ (c .before .loop .inv) in omega (arith, c .before .loop .inv .within)
-
-same-length : tie.Need-same-length Inv-loop μ-loop
-same-length c = simp length-set (digits-room _ _ _ _ _ _ (c .before .loop .inv) .2)
 
 pub put-number-before-spec : {M : Type 1} → statement M
 put-number-before-spec =
@@ -42,15 +21,15 @@ put-number-before-spec =
     (tie.spec
     Inv-loop
     μ-loop
-    returns
-    returns-2
+    (λ c. let a = c .before .args in before-few (a .out .now) (a .end) _ (omega arith))
+    (λ c. let a = c .before .before .args in before-past (a .out .now) (a .end) _ (omega arith))
     loop-holds
-    sub-k
+    (λ c. let r = digits-room _ _ _ _ _ _ (c .before .loop .inv) in omega arith)
     (λ c. omega arith) (λ c. omega arith)
-    slice-write-out
+    (λ c. let r = digits-room _ _ _ _ _ _ (c .before .loop .inv) in omega (arith, c .before .loop .inv .within))
     (λ c. omega arith) (λ c. digits-next _ _ _ _ _ _ (c .before .loop .inv) (omega arith))
-    sub-k-2
+    (λ c. let r = digits-room _ _ _ _ _ _ (c .before .loop .inv) in omega arith)
     (λ c. omega arith) (λ c. omega arith)
-    slice-write-out-2
-    same-length
+    (λ c. let r = digits-room _ _ _ _ _ _ (c .before .loop .inv) in omega (arith, c .before .loop .inv .within))
+    (λ c. simp length-set (digits-room _ _ _ _ _ _ (c .before .loop .inv) .2))
     (λ c. digits-last _ _ _ _ _ _ (c .before .loop .inv) (omega arith)))

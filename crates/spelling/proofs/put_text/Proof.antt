@@ -3,11 +3,9 @@ use Prim.Native.Nat.{ℕ, _≤_, _+_, _-_}
 use mathlib.Core.Path.{_≡_, refl, _∙_, ap}
 use native.Mathlib.Omega.{arith}
 use borrow.Author.Needs.{needs}
-use lib.{ListN.length, ListN.take, ListN.length-set, Seq.take-all}
-use Rattle.spelling.specs.Over.{over}
-use Rattle.spelling.specs.declared.Put.the-variants.{End}
-use Rattle.spelling.proofs.OverLaws.{over-none, text-more, put-done, put-short, room-yes, room-no}
-use Rattle.spelling.proofs.put_text.Statement.{statement}
+use lib.{ListN.{length, take, length-set}, Seq.take-all}
+use Rattle.spelling.specs.{Over.over, declared.Put.the-variants.End}
+use Rattle.spelling.proofs.{OverLaws.{over-none, text-more, put-done, put-short, room-yes, room-no}, put_text.Statement.statement}
 use Rattle.spelling.proofs.put_text.Tie as tie
 
 abbrev Inv-loop : tie.InvT-loop

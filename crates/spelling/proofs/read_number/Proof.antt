@@ -16,25 +16,10 @@ Inv-loop s first v₀ i₀ v i = (1 ≤ i) × (i ≤ length s) × (v ≤ 4294967
 abbrev μ-loop : tie.MeasureT-loop
 μ-loop s first v₀ i₀ v i = length s - i
 
-returns : tie.Need-returns Inv-loop μ-loop
-returns c (n, h, e) = not-empty _ n h e (omega arith)
-
-returns-2 : tie.Need-returns-2 Inv-loop μ-loop
-returns-2 c (n, h, e) = omega (arith, not-digit _ 0 n h e (omega arith))
-
-returns-3 : tie.Need-returns-3 Inv-loop μ-loop
-returns-3 c (n, h, e) = omega (arith, not-digit _ 0 n h e (omega arith))
-
 loop-holds : tie.Need-loop-holds Inv-loop μ-loop
 loop-holds c =
     let d = first-digit (c .before .before .before .before .before .before .args .s .now) (omega arith) (omega arith, omega arith) in
     (omega arith, omega arith, omega arith, rw (c .wide .ensures) d)
-
-returns-4 : tie.Need-returns-4 Inv-loop μ-loop
-returns-4 c (n, h, e) = omega (arith, not-digit _ (c .before .before .before .loop .i) n h e (omega arith))
-
-returns-5 : tie.Need-returns-5 Inv-loop μ-loop
-returns-5 c (n, h, e) = omega (arith, not-digit _ (c .before .before .before .before .loop .i) n h e (omega arith))
 
 returns-6 : tie.Need-returns-6 Inv-loop μ-loop
 returns-6 c (n, h, e) = let l = c .before .before .before .before .before .loop in not-lead _ (l .i) n h e (l .inv .0) (omega arith) (l .inv .3 ∙ ap decimal (c .if6 .taken))
@@ -49,28 +34,25 @@ loop-again c =
     let d = c .before .wide2 .ensures in
     (omega arith, omega arith, omega arith, rw d (next-digit s (l .i) (l .v) (omega arith) (omega arith, omega arith) (omega arith) (omega arith) (l .inv .3)))
 
-returns-8 : tie.Need-returns-8 Inv-loop μ-loop
-returns-8 c = (omega arith, whole _ (c .before .loop .i) _ (omega arith) (c .before .loop .inv .3))
-
 pub read-number-spec : {M : Type 1} → statement M
 read-number-spec =
     tie.close
     (tie.spec
     Inv-loop
     μ-loop
-    returns
+    (λ c (n, h, e). not-empty _ n h e (omega arith))
     (λ c. omega arith)
-    returns-2
-    returns-3
+    (λ c (n, h, e). omega (arith, not-digit _ 0 n h e (omega arith)))
+    (λ c (n, h, e). omega (arith, not-digit _ 0 n h e (omega arith)))
     (λ c κs. search needs)
     loop-holds
     (λ c. omega arith)
-    returns-4
-    returns-5
+    (λ c (n, h, e). omega (arith, not-digit _ (c .before .before .before .loop .i) n h e (omega arith)))
+    (λ c (n, h, e). omega (arith, not-digit _ (c .before .before .before .before .loop .i) n h e (omega arith)))
     returns-6
     (λ c. omega arith) (λ c κs. search needs) (λ c. omega arith)
     returns-7
     (λ c. omega arith) (λ c. omega arith)
     loop-again
     (λ c. omega arith)
-    returns-8)
+    (λ c. (omega arith, whole _ (c .before .loop .i) _ (omega arith) (c .before .loop .inv .3))))

@@ -5,8 +5,7 @@ use borrow.Author.Needs.{needs}
 use native.Mathlib.Omega.{arith}
 use lib.ListN.{length, drop}
 use Rattle.spelling.specs.Bytes.{upTo}
-use Rattle.spelling.proofs.Split.{upTo-at, upTo-stop, upTo-end}
-use Rattle.spelling.proofs.run_end.Statement.{statement}
+use Rattle.spelling.proofs.{Split.{upTo-at, upTo-stop, upTo-end}, run_end.Statement.statement}
 use Rattle.spelling.proofs.run_end.Tie as tie
 
 abbrev Inv-loop : tie.InvT-loop

@@ -3,9 +3,8 @@ use native.Mathlib.Omega.{arith}
 use Rattle.protocol.proofs.Places.{Inside, inside, copies-most, private-most, rows-most, shared-most}
 use Rattle.driver.proofs.Starting.{start-fits}
 use Rattle.steps.specs.Listed.{part}
-use Rattle.steps.proofs.Calling.{list-finished, list-more, list-resumable, list-short, list-unfit, part-zeros}
+use Rattle.steps.proofs.{Calling.{list-finished, list-more, list-resumable, list-short, list-unfit, part-zeros}, list.Statement.statement}
 use borrow.Author.Needs.{needs}
-use Rattle.steps.proofs.list.Statement.{statement}
 use Rattle.steps.proofs.list.Tie as tie
 
 -- the sizes of the engine that was opened

@@ -3,8 +3,7 @@ use Prim.Native.Nat.{_+_, _-_, _≤_}
 use mathlib.Core.Path.{_≡_, refl, _∙_}
 use native.Mathlib.Omega.{arith}
 use lib.ListN.{length}
-use borrow.Author.Needs.{needs}
-use borrow.Rule.Slice.PartMut.{putMid, mid-len}
+use borrow.{Author.Needs.needs, Rule.Slice.PartMut.{putMid, mid-len}}
 use Rattle.protocol.specs.Buffers.{Bytes}
 use Rattle.io.proofs.Counting.{counts}
 use Rattle.steps.proofs.read_input.Statement.{statement}

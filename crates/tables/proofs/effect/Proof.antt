@@ -1,7 +1,6 @@
 -- The number, or the row.
-use borrow.Author.Tests.{ne-eqb}
+use borrow.Author.{Tests.ne-eqb, Needs.needs}
 use Rattle.tables.specs.Found.{effectWith}
-use borrow.Author.Needs.{needs}
 use Rattle.tables.proofs.effect.Statement.{statement}
 use Rattle.tables.proofs.effect.Tie as tie
 

@@ -1,10 +1,8 @@
 -- After i turns the first i bytes are those of the source.
 use Prim.Native.Nat.{_≤_, _<_, _-_}
 use mathlib.Core.Path.{_≡_, sym, _∙_}
-use native.Mathlib.Omega.{arith}
-use native.Mathlib.Numerals.{add-one}
-use lib.ListN.{length, take, length-set}
-use lib.Seq.{take-suc, take-suc-set, take-all}
+use native.Mathlib.{Omega.arith, Numerals.add-one}
+use lib.{ListN.{length, take, length-set}, Seq.{take-suc, take-suc-set, take-all}}
 use borrow.Author.Needs.{needs}
 use Rattle.buffers.proofs.lines.copy_line.Statement.{statement}
 use Rattle.buffers.proofs.lines.copy_line.Tie as tie

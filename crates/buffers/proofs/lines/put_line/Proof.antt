@@ -1,13 +1,9 @@
 -- The part that was lent holds the source; what is before and after it stays.
 use native.Mathlib.Nat.{add-sub-cancel-left}
-use Rattle.protocol.specs.Buffers.{splice}
+use lib.Seq.{drop-drop}
 use borrow.Author.Needs.{needs}
 use Rattle.buffers.proofs.lines.put_line.Statement.{statement}
 use Rattle.buffers.proofs.lines.put_line.Tie as tie
-
-returns : tie.Need-returns
-unfolding splice
-returns c = rw (add-sub-cancel-left, c .before .before .copy-line .ensures)
 
 pub put-line-spec : {M : Type 1} → statement M
 put-line-spec =
@@ -19,4 +15,4 @@ put-line-spec =
     (λ c. search needs)
     (λ c κs. search needs)
     (λ c. search needs)
-    returns)
+    (λ c. rw (add-sub-cancel-left, drop-drop, c .before .before .copy-line .ensures)))

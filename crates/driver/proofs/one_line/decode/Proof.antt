@@ -1,7 +1,6 @@
 -- `driver::one_line::decode` meets its contract: a step's digits are data and have room. Assumes nothing.
-use Rattle.driver.proofs.Decoding.{decodes-none, decodes-some, decodes-room, decodes-right}
+use Rattle.driver.proofs.{Decoding.{decodes-none, decodes-some, decodes-room, decodes-right}, one_line.decode.Statement.statement}
 use borrow.Author.Needs.{needs}
-use Rattle.driver.proofs.one_line.decode.Statement.{statement}
 use Rattle.driver.proofs.one_line.decode.Tie as tie
 
 returns-3 : tie.Need-returns-3

@@ -2,7 +2,7 @@
 use mathlib.Core.Path.{subst}
 use native.Mathlib.Omega.{arith}
 use Rattle.journal.specs.Journal.{NextOf}
-use Rattle.driver.specs.{Listing.atEnd, Listing.atRefusal, Pieces.aStep, Pieces.theEnd, declared.Last.the-variants.Refused}
+use Rattle.driver.specs.{Listing.{atEnd, atRefusal}, Pieces.{aStep, theEnd}, declared.Last.the-variants.Refused}
 use Rattle.driver.proofs.{Reading.known, one_line.due.Statement.statement}
 use borrow.Author.Needs.{needs}
 use Rattle.driver.proofs.one_line.due.Tie as tie

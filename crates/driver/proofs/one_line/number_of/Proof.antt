@@ -1,6 +1,5 @@
 -- `driver::one_line::number_of` meets its contract: 1 and 2 come first. Assumes nothing.
-use borrow.Author.Tests.{eq-eqb, ne-eqb}
-use borrow.Author.Needs.{needs}
+use borrow.Author.{Tests.{eq-eqb, ne-eqb}, Needs.needs}
 use Rattle.driver.proofs.one_line.number_of.Statement.{statement}
 use Rattle.driver.proofs.one_line.number_of.Tie as tie
 

@@ -1,6 +1,6 @@
 -- `driver::one_line::plus` meets its contract: no sum passes the greatest number. Assumes nothing.
 use native.Mathlib.Omega.{arith}
-use Rattle.driver.proofs.{Counting.Each, Counting.each, one_line.plus.Statement.statement}
+use Rattle.driver.proofs.{Counting.{Each, each}, one_line.plus.Statement.statement}
 use borrow.Author.Needs.{needs}
 use Rattle.driver.proofs.one_line.plus.Tie as tie
 

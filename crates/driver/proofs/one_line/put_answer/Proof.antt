@@ -3,7 +3,7 @@ use Prim.Native.Nat.{_+_, _-_, _≤_}
 use lib.ListN.{length}
 use mathlib.Core.Path.{_≡_, sym, _∙_}
 use native.Mathlib.Omega.{arith}
-use Rattle.driver.proofs.{Decoding.store-bytes, Decoding.copy-bytes, one_line.put_answer.Statement.statement}
+use Rattle.driver.proofs.{Decoding.{store-bytes, copy-bytes}, one_line.put_answer.Statement.statement}
 use borrow.Author.Needs.{needs}
 use Rattle.driver.proofs.one_line.put_answer.Tie as tie
 

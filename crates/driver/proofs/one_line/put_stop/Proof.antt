@@ -1,9 +1,8 @@
 -- `driver::one_line::put_stop` meets its contract: both lines fit the local buffer, and are put in one piece. Assumes nothing.
 use mathlib.Core.Path.{refl}
 use Rattle.protocol.specs.Step.{meaning}
-use Rattle.driver.proofs.Putting.{first-fits, second-fits, last-place, last-text}
+use Rattle.driver.proofs.{Putting.{first-fits, second-fits, last-place, last-text}, one_line.put_stop.Statement.statement}
 use borrow.Author.Needs.{needs}
-use Rattle.driver.proofs.one_line.put_stop.Statement.{statement}
 use Rattle.driver.proofs.one_line.put_stop.Tie as tie
 
 part-put-text-end : tie.Need-part-put-text-end

@@ -3,8 +3,5 @@ use borrow.Author.Needs.{needs}
 use Rattle.protocol.proofs.Clocks.store.Statement.{statement}
 use Rattle.protocol.proofs.Clocks.store.Tie as tie
 
-returns : tie.Need-returns
-returns c = rw (c .later2 .ensures, c .before .later .ensures)
-
 pub store-spec : {M : Type 1} → statement M
-store-spec = tie.close (tie.spec (λ c κs. search needs) (λ c κs. search needs) returns)
+store-spec = tie.close (tie.spec (λ c κs. search needs) (λ c κs. search needs) (λ c. rw (c .later2 .ensures, c .before .later .ensures)))

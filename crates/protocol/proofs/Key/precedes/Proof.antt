@@ -4,18 +4,6 @@ use borrow.Author.Needs.{needs}
 use Rattle.protocol.proofs.Key.precedes.Statement.{statement}
 use Rattle.protocol.proofs.Key.precedes.Tie as tie
 
-earlier-requires : tie.Need-earlier-requires
-earlier-requires c κs = search needs
-
-returns : tie.Need-returns
-returns c = rw (sym (c .before .earlier .ensures) ∙ c .if1 .taken)
-
-same-requires : tie.Need-same-requires
-same-requires c κs = search needs
-
-made-earlier-requires : tie.Need-made-earlier-requires
-made-earlier-requires c κs = search needs
-
 returns-2 : tie.Need-returns-2
 returns-2 c =
     let b = c .before .before .before in
@@ -27,4 +15,4 @@ returns-3 c =
     rw (sym (b .before .earlier .ensures) ∙ b .if1 .left, sym (c .before .same .ensures) ∙ c .if2 .left)
 
 pub precedes-spec : {M : Type 1} → statement M
-precedes-spec = tie.close (tie.spec earlier-requires returns same-requires made-earlier-requires returns-2 returns-3)
+precedes-spec = tie.close (tie.spec (λ c κs. search needs) (λ c. rw (sym (c .before .earlier .ensures) ∙ c .if1 .taken)) (λ c κs. search needs) (λ c κs. search needs) returns-2 returns-3)

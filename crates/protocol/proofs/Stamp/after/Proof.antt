@@ -1,8 +1,7 @@
 -- The sum fits exactly if the summand is at most what is left.
 use Prim.Native.Nat.{_+_}
 use native.Mathlib.Omega.{arith}
-use borrow.Author.Needs.{needs}
-use borrow.Author.Tests.{le-leb, lt-leb}
+use borrow.Author.{Needs.needs, Tests.{le-leb, lt-leb}}
 use Rattle.protocol.proofs.Stamp.after.Statement.{statement}
 use Rattle.protocol.proofs.Stamp.after.Tie as tie
 

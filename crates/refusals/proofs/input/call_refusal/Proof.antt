@@ -1,6 +1,5 @@
 -- The tests in their order, of what the call is about.
-use Rattle.protocol.specs.Pick.{first}
-use Rattle.protocol.specs.Refusals.{callRules, callRefusal}
+use Rattle.protocol.specs.{Pick.first, Refusals.{callRules, callRefusal}}
 use borrow.Author.Needs.{needs}
 use Rattle.refusals.proofs.input.call_refusal.Statement.{statement}
 use Rattle.refusals.proofs.input.call_refusal.Tie as tie

@@ -4,17 +4,5 @@ use Rattle.protocol.proofs.Tests.{was-false, was-true}
 use Rattle.refusals.proofs.input.lengths_fit.Statement.{statement}
 use Rattle.refusals.proofs.input.lengths_fit.Tie as tie
 
-fits-requires : tie.Need-fits-requires
-fits-requires c κs = search needs
-
-returns : tie.Need-returns
-returns c = rw (was-false (c .before .fits2 .ensures) (c .if1 .taken))
-
-buffers-fit-requires : tie.Need-buffers-fit-requires
-buffers-fit-requires c κs = was-true (c .before .fits2 .ensures) (c .if1 .left)
-
-returns-2 : tie.Need-returns-2
-returns-2 c = rw (was-true (c .before .before .fits2 .ensures) (c .before .if1 .left)) (c .buffers-fit .ensures)
-
 pub lengths-fit-spec : {M : Type 1} → statement M
-lengths-fit-spec = tie.close (tie.spec fits-requires returns buffers-fit-requires returns-2)
+lengths-fit-spec = tie.close (tie.spec (λ c κs. search needs) (λ c. rw (was-false (c .before .fits2 .ensures) (c .if1 .taken))) (λ c κs. was-true (c .before .fits2 .ensures) (c .if1 .left)) (λ c. rw (was-true (c .before .before .fits2 .ensures) (c .before .if1 .left)) (c .buffers-fit .ensures)))

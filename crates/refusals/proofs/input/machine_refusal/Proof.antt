@@ -1,14 +1,9 @@
 -- 1, then 2.
 use borrow.Author.Needs.{needs}
 use lib.ListN.{length-replicate}
-use Rattle.protocol.specs.Pick.{first}
-use Rattle.protocol.specs.Refusals.{machineRefusal, stateFits}
-use Rattle.protocol.proofs.Tests.{both-true, was-false, was-true}
+use Rattle.protocol.{specs.{Pick.first, Refusals.{machineRefusal, stateFits}}, proofs.Tests.{both-true, was-false, was-true}}
 use Rattle.refusals.proofs.input.machine_refusal.Statement.{statement}
 use Rattle.refusals.proofs.input.machine_refusal.Tie as tie
-
-state-fits-requires : tie.Need-state-fits-requires
-state-fits-requires c κs = search needs
 
 returns : tie.Need-returns
 unfolding machineRefusal first
@@ -30,4 +25,4 @@ returns-3 c =
 
 pub machine-refusal-spec : {M : Type 1} → statement M
 machine-refusal-spec =
-    tie.close (tie.spec state-fits-requires returns buffers-fit-requires returns-2 returns-3)
+    tie.close (tie.spec (λ c κs. search needs) returns buffers-fit-requires returns-2 returns-3)

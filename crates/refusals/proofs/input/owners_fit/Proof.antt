@@ -3,7 +3,7 @@ use Prim.Native.Nat.{_≤_, _-_}
 use native.Mathlib.Omega.{arith}
 use borrow.Author.Needs.{needs}
 use lib.ListN.{length}
-use Rattle.protocol.specs.{Fresh.freshLine, Refusals.ownerFits, Refusals.ownersFit, declared.Line.Line}
+use Rattle.protocol.specs.{Fresh.freshLine, Refusals.{ownerFits, ownersFit}, declared.Line.Line}
 use Rattle.protocol.proofs.Scan.{Scanned, scan-on, scan-fails, scan-ends}
 use Rattle.refusals.proofs.input.owners_fit.Statement.{statement}
 use Rattle.refusals.proofs.input.owners_fit.Tie as tie

@@ -1,20 +1,12 @@
 -- The opening, the owners and the slots, one after the other.
 use borrow.Author.Needs.{needs}
-use Rattle.protocol.specs.Refusals.{stateFits}
-use Rattle.protocol.proofs.Tests.{was-false, was-true}
-use Rattle.protocol.proofs.Places.{inside}
+use Rattle.protocol.{specs.Refusals.stateFits, proofs.{Tests.{was-false, was-true}, Places.inside}}
 use Rattle.refusals.proofs.input.state_fits.Statement.{statement}
 use Rattle.refusals.proofs.input.state_fits.Tie as tie
-
-fits-requires : tie.Need-fits-requires
-fits-requires c κs = search needs
 
 returns : tie.Need-returns
 unfolding stateFits
 returns c = rw (was-false (c .before .fits2 .ensures) (c .if1 .taken))
-
-owners-fit-requires : tie.Need-owners-fit-requires
-owners-fit-requires c κs = inside _ (was-true (c .before .fits2 .ensures) (c .if1 .left)) .mostLines
 
 returns-2 : tie.Need-returns-2
 unfolding stateFits
@@ -34,4 +26,4 @@ returns-3 c =
 pub state-fits-spec : {M : Type 1} → statement M
 state-fits-spec =
     tie.close
-    (tie.spec fits-requires returns owners-fit-requires returns-2 slots-fit-requires returns-3)
+    (tie.spec (λ c κs. search needs) returns (λ c κs. inside _ (was-true (c .before .fits2 .ensures) (c .if1 .left)) .mostLines) returns-2 slots-fit-requires returns-3)

@@ -1,7 +1,6 @@
 -- By the two tests.
 use native.Mathlib.Omega.{arith}
 use borrow.Author.Tests.{le-leb, lt-leb, lt-ltb, le-ltb}
-use borrow.Author.Needs.{needs}
 use Rattle.tables.proofs.about.found.Statement.{statement}
 use Rattle.tables.proofs.about.found.Tie as tie
 

@@ -1,8 +1,6 @@
 -- By the slot: 22, or the grant in it.
 use borrow.Author.Needs.{needs}
-use Rattle.protocol.specs.Pick.{first}
-use Rattle.protocol.specs.Refusals.{stateRules, stateRefusal}
-use Rattle.protocol.specs.Tables.{receiveTable, tableOf, effectOf}
+use Rattle.protocol.specs.{Pick.first, Refusals.{stateRules, stateRefusal}, Tables.{receiveTable, tableOf, effectOf}}
 use Rattle.transfer_rows.proofs.requests.receive.Statement.{statement}
 use Rattle.transfer_rows.proofs.requests.receive.Tie as tie
 

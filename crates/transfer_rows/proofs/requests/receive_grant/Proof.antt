@@ -4,18 +4,6 @@ use Rattle.protocol.specs.Tables.{receiveGrant}
 use Rattle.transfer_rows.proofs.requests.receive_grant.Statement.{statement}
 use Rattle.transfer_rows.proofs.requests.receive_grant.Tie as tie
 
-enum-told : tie.Need-enum-told
-enum-told c = search needs
-
-enum-told-2 : tie.Need-enum-told-2
-enum-told-2 c = search needs
-
-receive-renew-requires : tie.Need-receive-renew-requires
-receive-renew-requires c κs = search needs
-
-enum-told-3 : tie.Need-enum-told-3
-enum-told-3 c = search needs
-
 returns : tie.Need-returns
 unfolding receiveGrant
 returns c = rw (c .enum-told .given .1)
@@ -31,4 +19,4 @@ returns-3 c = rw (c .enum-told3 .given .1)
 pub receive-grant-spec : {M : Type 1} → statement M
 receive-grant-spec =
     tie.close
-    (tie.spec enum-told enum-told-2 receive-renew-requires enum-told-3 returns returns-2 returns-3)
+    (tie.spec (λ c. search needs) (λ c. search needs) (λ c κs. search needs) (λ c. search needs) returns returns-2 returns-3)

@@ -1,10 +1,8 @@
 -- By the manager and the request: the row, or 27.
 use mathlib.Core.Path.{sym, _∙_}
 use borrow.Author.Needs.{needs}
-use Rattle.protocol.specs.Tables.{serveAsked}
-use Rattle.protocol.proofs.Stamps.{sum-at, sum-passes}
-use Rattle.transfer_rows.proofs.Laws.{owned-passes}
-use Rattle.transfer_rows.proofs.requests.serve_asked.Statement.{statement}
+use Rattle.protocol.{specs.Tables.serveAsked, proofs.Stamps.{sum-at, sum-passes}}
+use Rattle.transfer_rows.proofs.{Laws.owned-passes, requests.serve_asked.Statement.statement}
 use Rattle.transfer_rows.proofs.requests.serve_asked.Tie as tie
 
 returns : tie.Need-returns

@@ -1,8 +1,6 @@
 -- By the copy: 26, or the row.
 use borrow.Author.Needs.{needs}
-use Rattle.protocol.specs.Pick.{first}
-use Rattle.protocol.specs.Refusals.{stateRules, stateRefusal}
-use Rattle.protocol.specs.Tables.{evictTable, tableOf, effectOf}
+use Rattle.protocol.specs.{Pick.first, Refusals.{stateRules, stateRefusal}, Tables.{evictTable, tableOf, effectOf}}
 use Rattle.transfer_rows.proofs.writebacks.evict.Statement.{statement}
 use Rattle.transfer_rows.proofs.writebacks.evict.Tie as tie
 

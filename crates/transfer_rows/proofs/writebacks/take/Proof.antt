@@ -1,8 +1,6 @@
 -- By the writeback: 25, or the row.
 use borrow.Author.Needs.{needs}
-use Rattle.protocol.specs.Pick.{first}
-use Rattle.protocol.specs.Refusals.{stateRules, stateRefusal}
-use Rattle.protocol.specs.Tables.{takeTable, tableOf, effectOf}
+use Rattle.protocol.specs.{Pick.first, Refusals.{stateRules, stateRefusal}, Tables.{takeTable, tableOf, effectOf}}
 use Rattle.transfer_rows.proofs.writebacks.take.Statement.{statement}
 use Rattle.transfer_rows.proofs.writebacks.take.Tie as tie
 
