@@ -24,8 +24,11 @@ few k n = both (leb (k .steps) n) (both (leb (k .commits) n) (leb (k .refusals) 
 
 -- a run of a journal of n bytes may have such a checkpoint: its first line was read, the place is not past the end, and no more was met than
 -- there are bytes before the place (a line has one byte or more)
+abbrev pub resumableAt : ℕ → ℕ → ℕ → Counts → Bool
+resumableAt n at form k = both (untrue (eqb form 0)) (both (leb at n) (few k at))
+
 abbrev pub resumable : ℕ → Checkpoint → Bool
-resumable n s = both (untrue (eqb (s .form) 0)) (both (leb (s .at) n) (few (s .counts) (s .at)))
+resumable n s = resumableAt n (s .at) (s .form) (s .counts)
 
 -- the steps gs lead from the checkpoint a, with the buffers p and q, to the checkpoint b, with the buffers p' and q': the lines of the journal
 -- between the two places spell them, the machine is the one after them, and they are counted
