@@ -34,7 +34,7 @@ fn held_of(copy: Copy) -> Held
 
 // The slot becomes asked, or 20 where it is in use.
 fn ask(want: Want, l: usize, core: Core, copy: Copy, line: ManagerLine) -> Effect
-    ensures { λ r. ⌜ r ≡ pick (fails (isEmpty (core .slot))) (refusedRow 20 (pieces core copy line)) (asking want l (pieces core copy line)) ⌝ }
+    ensures { λ r. ⌜ ((n : ℕ) → r ≡ pick (fails (isEmpty (core .slot))) (refusedRow 20 (pieces n core copy line)) (asking want l (pieces n core copy line))) ⌝ }
 {
     let slot = core.slot;
     match slot {
@@ -65,7 +65,7 @@ fn ask(want: Want, l: usize, core: Core, copy: Copy, line: ManagerLine) -> Effec
 
 // load: commits on an owned copy and within a shared one's lease; else asks, or 20.
 pub fn load(c: usize, l: usize, core: Core, copy: Copy, line: ManagerLine) -> Effect
-    ensures { λ r. ⌜ ((o : Opening) → r ≡ effectOf (Call.Load c l) (pieces core copy line) o) ⌝ }
+    ensures { λ r. ⌜ ((n : ℕ) (o : Opening) → r ≡ effectOf (Call.Load c l) (pieces n core copy line) o) ⌝ }
 {
     let slot = core.slot;
     let before = core.clocks;
@@ -136,7 +136,7 @@ pub fn load(c: usize, l: usize, core: Core, copy: Copy, line: ManagerLine) -> Ef
 // store: commits on an owned copy, past its lease, or 27 where that passes the greatest timestamp; else
 // asks, or 20.
 pub fn store(c: usize, l: usize, core: Core, copy: Copy, line: ManagerLine) -> Effect
-    ensures { λ r. ⌜ ((o : Opening) → r ≡ effectOf (Call.Store c l) (pieces core copy line) o) ⌝ }
+    ensures { λ r. ⌜ ((n : ℕ) (o : Opening) → r ≡ effectOf (Call.Store c l) (pieces n core copy line) o) ⌝ }
 {
     let slot = core.slot;
     let before = core.clocks;
@@ -170,7 +170,7 @@ pub fn store(c: usize, l: usize, core: Core, copy: Copy, line: ManagerLine) -> E
 
 // fence: commits at the later of the core's clocks.
 pub fn fence(c: usize, core: Core, copy: Copy, line: ManagerLine) -> Effect
-    ensures { λ r. ⌜ ((o : Opening) → r ≡ effectOf (Call.Fence c) (pieces core copy line) o) ⌝ }
+    ensures { λ r. ⌜ ((n : ℕ) (o : Opening) → r ≡ effectOf (Call.Fence c) (pieces n core copy line) o) ⌝ }
 {
     let slot = core.slot;
     let before = core.clocks;
@@ -191,7 +191,7 @@ pub fn fence(c: usize, core: Core, copy: Copy, line: ManagerLine) -> Effect
 
 // advance: lts grows, or 27 where it passes the greatest timestamp.
 pub fn advance(by: u32, core: Core, copy: Copy, line: ManagerLine) -> Effect
-    ensures { λ r. ⌜ ((c : ℕ) (o : Opening) → r ≡ effectOf (Call.Advance c by) (pieces core copy line) o) ⌝ }
+    ensures { λ r. ⌜ ((c n : ℕ) (o : Opening) → r ≡ effectOf (Call.Advance c by) (pieces n core copy line) o) ⌝ }
 {
     let slot = core.slot;
     let before = core.clocks;

@@ -164,7 +164,7 @@ pub fn play(
                 let cell = s.cell[i];
                 let line = s.line[l];
                 let copy = cell.copy;
-                let d = tables::effect(number, call, k, copy, line, opening);
+                let d = tables::effect(number, call, l, k, copy, line, opening);
                 let answer = d.answer;
                 let met = one_line::met(counts, call, answer);
                 match one_line::put_answer(

@@ -54,9 +54,9 @@ fn on_pieces(
     l: usize,
     given: &[u8],
 ) -> Made
-    ensures { λ r. ⌜ OnPieces n call opening (pieces k copy m) c l (given .entry) («private» .entry) (shared .entry) r («private» .exit) (shared .exit) ⌝ }
+    ensures { λ r. ⌜ OnPieces n call opening (pieces l k copy m) c l (given .entry) («private» .entry) (shared .entry) r («private» .exit) (shared .exit) ⌝ }
 {
-    let d = tables::effect(n, call, k, copy, m, opening);
+    let d = tables::effect(n, call, l, k, copy, m, opening);
     let answer = d.answer;
     let moves = d.moves;
     let next_core = d.core;

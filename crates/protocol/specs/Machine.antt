@@ -35,17 +35,18 @@ copyAt s c l = getD (s .cell) (cellOf c l) freshCell .copy
 abbrev pub lineAt : State → ℕ → ManagerLine
 lineAt s l = getD (s .line) l freshLine
 
--- the pieces of the machine that a step looks at, beside the opening: one core, its copy of one line, the manager's line
+-- the pieces of the machine that a step looks at, beside the opening: a line's number, one core, its copy of that line, the manager's line
 pub record Pieces : Type 0 where
+  pub number : ℕ
   pub core : Core
   pub copy : Copy
   pub line : ManagerLine
 
-abbrev pub pieces : Core → Copy → ManagerLine → Pieces
-pieces k x m = record { core = k; copy = x; line = m }
+abbrev pub pieces : ℕ → Core → Copy → ManagerLine → Pieces
+pieces l k x m = record { number = l; core = k; copy = x; line = m }
 
 abbrev pub piecesAt : State → ℕ → ℕ → Pieces
-piecesAt s c l = pieces (coreAt s c) (copyAt s c l) (lineAt s l)
+piecesAt s c l = pieces l (coreAt s c) (copyAt s c l) (lineAt s l)
 
 -- the line that a slot speaks of
 abbrev pub slotLine : Slot → ℕ

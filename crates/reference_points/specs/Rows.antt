@@ -64,7 +64,7 @@ busy m = withRecall Downgrade (withWriteback 5 6 m)
 
 -- core 1, its copy of line 2, and the manager's line 2
 abbrev pub pieces : Core → Copy → ManagerLine → Pieces
-pieces k x m = record { core = k; copy = x; line = m }
+pieces k x m = record { number = 2; core = k; copy = x; line = m }
 
 -- ---- the bytes
 

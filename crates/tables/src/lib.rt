@@ -29,10 +29,17 @@ pub struct Span {
     pub count: usize,
 }
 
-// What a call makes of the pieces that it looks at: the row of its table, or, with the pieces as they
-// are, one of 20 to 27. Each row decides.
-fn row(call: Call, core: Core, copy: Copy, line: ManagerLine, opening: Opening) -> Effect
-    ensures { λ r. ⌜ r ≡ effectOf call (pieces core copy line) opening ⌝ }
+// What a call makes of the pieces that it looks at, those of the line of this number: the row of its
+// table, or, with the pieces as they are, one of 20 to 27. Each row decides.
+fn row(
+    call: Call,
+    number: usize,
+    core: Core,
+    copy: Copy,
+    line: ManagerLine,
+    opening: Opening,
+) -> Effect
+    ensures { λ r. ⌜ r ≡ effectOf call (pieces number core copy line) opening ⌝ }
 {
     match call {
         Call::Load { core: c, line: l } => core_rows::load(c, l, core, copy, line),
@@ -47,21 +54,22 @@ fn row(call: Call, core: Core, copy: Copy, line: ManagerLine, opening: Opening) 
     }
 }
 
-// The same where `number` is the first of 1 to 6 that applies, or 0: that number comes first.
+// The same where `refusal` is the first of 1 to 6 that applies, or 0: that comes first.
 pub fn effect(
-    number: u8,
+    refusal: u8,
     call: Call,
+    number: usize,
     core: Core,
     copy: Copy,
     line: ManagerLine,
     opening: Opening,
 ) -> Effect
-    ensures { λ r. ⌜ r ≡ effectWith number call (pieces core copy line) opening ⌝ }
+    ensures { λ r. ⌜ r ≡ effectWith refusal call (pieces number core copy line) opening ⌝ }
 {
-    if number != 0 {
-        return refusals::refused(number, core, copy, line);
+    if refusal != 0 {
+        return refusals::refused(refusal, core, copy, line);
     }
-    row(call, core, copy, line, opening)
+    row(call, number, core, copy, line, opening)
 }
 
 // Where the bytes of a commit lie, if they start at `start`.

@@ -56,7 +56,7 @@ fn serve_load(
     copy: Copy,
     line: ManagerLine,
 ) -> Effect
-    ensures { λ r. ⌜ r ≡ serveLoad same l wts rts (pieces core copy line) ⌝ }
+    ensures { λ r. ⌜ ((n : ℕ) → r ≡ serveLoad same l wts rts (pieces n core copy line)) ⌝ }
 {
     let clocks = core.clocks;
     let recall = line.recall;
@@ -117,7 +117,7 @@ fn serve_asked(
     line: ManagerLine,
     opening: Opening,
 ) -> Effect
-    ensures { λ r. ⌜ r ≡ askedEffect want c l lts held (pieces core copy line) opening ⌝ }
+    ensures { λ r. ⌜ ((n : ℕ) → r ≡ askedEffect want c l lts held (pieces n core copy line) opening) ⌝ }
 {
     let clocks = core.clocks;
     let manager = line.manager;
@@ -168,7 +168,7 @@ fn serve_asked(
 
 // serve: the request in the core's slot, or 21 where it does not ask.
 pub fn serve(c: usize, core: Core, copy: Copy, line: ManagerLine, opening: Opening) -> Effect
-    ensures { λ r. ⌜ r ≡ effectOf (Call.Serve c) (pieces core copy line) opening ⌝ }
+    ensures { λ r. ⌜ ((n : ℕ) → r ≡ effectOf (Call.Serve c) (pieces n core copy line) opening) ⌝ }
 {
     let slot = core.slot;
     match slot {
@@ -199,7 +199,7 @@ fn dropped(core: Core, copy: Copy, line: ManagerLine) -> Effect
 // A renewal received: a shared copy takes the new end of its lease; with no copy, or an owned one,
 // it is dropped.
 fn receive_renew(rts: Stamp, core: Core, copy: Copy, line: ManagerLine) -> Effect
-    ensures { λ r. ⌜ r ≡ receiveRenew copy rts (pieces core copy line) ⌝ }
+    ensures { λ r. ⌜ ((n : ℕ) → r ≡ receiveRenew copy rts (pieces n core copy line)) ⌝ }
 {
     let clocks = core.clocks;
     let emptied = Core {
@@ -228,7 +228,7 @@ fn receive_grant(
     copy: Copy,
     line: ManagerLine,
 ) -> Effect
-    ensures { λ r. ⌜ r ≡ receiveGrant grant wts rts (pieces core copy line) ⌝ }
+    ensures { λ r. ⌜ ((n : ℕ) → r ≡ receiveGrant grant wts rts (pieces n core copy line)) ⌝ }
 {
     let clocks = core.clocks;
     let emptied = Core {
@@ -260,7 +260,7 @@ fn receive_grant(
 
 // receive: the grant in the core's slot, or 22 where there is no answer.
 pub fn receive(core: Core, copy: Copy, line: ManagerLine) -> Effect
-    ensures { λ r. ⌜ ((c : ℕ) (o : Opening) → r ≡ effectOf (Call.Receive c) (pieces core copy line) o) ⌝ }
+    ensures { λ r. ⌜ ((c n : ℕ) (o : Opening) → r ≡ effectOf (Call.Receive c) (pieces n core copy line) o) ⌝ }
 {
     let slot = core.slot;
     match slot {

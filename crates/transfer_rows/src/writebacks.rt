@@ -31,7 +31,7 @@ fn written_back(line: ManagerLine, wts: Stamp, rts: Stamp) -> ManagerLine
 
 // evict: a shared copy goes; an owned one becomes the writeback; 26 where there is none.
 pub fn evict(core: Core, copy: Copy, line: ManagerLine) -> Effect
-    ensures { λ r. ⌜ ((c l : ℕ) (o : Opening) → r ≡ effectOf (Call.Evict c l) (pieces core copy line) o) ⌝ }
+    ensures { λ r. ⌜ ((c l n : ℕ) (o : Opening) → r ≡ effectOf (Call.Evict c l) (pieces n core copy line) o) ⌝ }
 {
     match copy {
         Copy::None => refusals::refused(26, core, copy, line),
@@ -84,7 +84,7 @@ fn is_recalled(line: ManagerLine) -> bool
 
 // yield: the owner's copy becomes the writeback; 23 without a recall, 24 without an owned copy.
 pub fn yield_line(core: Core, copy: Copy, line: ManagerLine) -> Effect
-    ensures { λ r. ⌜ ((l : ℕ) (o : Opening) → r ≡ effectOf (Call.Yield l) (pieces core copy line) o) ⌝ }
+    ensures { λ r. ⌜ ((l n : ℕ) (o : Opening) → r ≡ effectOf (Call.Yield l) (pieces n core copy line) o) ⌝ }
 {
     if !is_recalled(line) {
         return refusals::refused(23, core, copy, line);
@@ -109,7 +109,7 @@ pub fn yield_line(core: Core, copy: Copy, line: ManagerLine) -> Effect
 
 // take: the writeback becomes the manager's version, and recall and writeback are settled; 25 without one.
 pub fn take(core: Core, copy: Copy, line: ManagerLine) -> Effect
-    ensures { λ r. ⌜ ((l : ℕ) (o : Opening) → r ≡ effectOf (Call.Take l) (pieces core copy line) o) ⌝ }
+    ensures { λ r. ⌜ ((l n : ℕ) (o : Opening) → r ≡ effectOf (Call.Take l) (pieces n core copy line) o) ⌝ }
 {
     let flight = line.writeback;
     match flight {

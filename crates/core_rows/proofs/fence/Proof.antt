@@ -6,7 +6,7 @@ use Rattle.core_rows.proofs.fence.Tie as tie
 
 returns : tie.Need-returns
 unfolding effectOf tableOf fenceTable stateRefusal stateRules first
-returns c o = rw (c .before .fence .ensures)
+returns c n o = rw (c .before .fence .ensures)
 
 pub fence-spec : {M : Type 1} → statement M
 fence-spec = tie.close (tie.spec (λ c κs. search needs) returns)

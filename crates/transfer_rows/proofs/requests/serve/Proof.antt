@@ -1,26 +1,26 @@
 -- By the slot: 21, or the request in it.
 use mathlib.Core.Path.{refl}
 use borrow.Author.Needs.{needs}
-use Rattle.protocol.specs.{Pick.first, Refusals.{servePasses, stateRules, stateRefusal}, Tables.{serveTable, tableOf, effectOf}}
+use Rattle.protocol.specs.{Machine.pieces, Pick.first, Refusals.{servePasses, stateRules, stateRefusal}, Tables.{serveTable, tableOf, effectOf}}
 use Rattle.protocol.{specs.declared.Slot.the-variants.Asked, proofs.Refusals.ruled}
 use Rattle.transfer_rows.proofs.requests.serve.Statement.{statement}
 use Rattle.transfer_rows.proofs.requests.serve.Tie as tie
 
 returns : tie.Need-returns
 unfolding effectOf stateRefusal stateRules first
-returns c = rw (c .refused .ensures, c .before .enum-told .given .1)
+returns c n = rw (c .refused .ensures, c .before .enum-told .given .1)
 
 returns-2 : tie.Need-returns-2
 unfolding effectOf tableOf serveTable stateRefusal stateRules first
-returns-2 c =
+returns-2 c n =
     let a = c .before .before .before .before .args in
     let g = c .before .before .slot .given .0 in
-    rw (c .serve-asked .ensures, c .before .before .slot .given .1)
-    (ruled (servePasses (Asked (g .0) (g .1 .0) (g .1 .1 .0) (g .1 .1 .1 .0)) (a .line .manager) (a .opening)) 27 _ _ refl)
+    rw (c .serve-asked .ensures n, c .before .before .slot .given .1)
+    (ruled (servePasses (Asked (g .0) (g .1 .0) (g .1 .1 .0) (g .1 .1 .1 .0)) (a .line .manager) (a .opening)) 27 _ (pieces n _ (a .copy) (a .line)) refl)
 
 returns-3 : tie.Need-returns-3
 unfolding effectOf stateRefusal stateRules first
-returns-3 c = rw (c .refused2 .ensures, c .before .enum-told2 .given .1)
+returns-3 c n = rw (c .refused2 .ensures, c .before .enum-told2 .given .1)
 
 pub serve-spec : {M : Type 1} → statement M
 serve-spec =

@@ -6,11 +6,11 @@ use Rattle.transfer_rows.proofs.writebacks.take.Tie as tie
 
 returns : tie.Need-returns
 unfolding effectOf stateRefusal stateRules first
-returns c l o = rw (c .refused .ensures, c .before .enum-told .given .1)
+returns c l n o = rw (c .refused .ensures, c .before .enum-told .given .1)
 
 returns-2 : tie.Need-returns-2
 unfolding effectOf tableOf takeTable stateRefusal stateRules first
-returns-2 c l o = rw (c .before .flight .given .1)
+returns-2 c l n o = rw (c .before .flight .given .1)
 
 pub take-spec : {M : Type 1} → statement M
 take-spec =
