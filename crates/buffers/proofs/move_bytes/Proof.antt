@@ -10,10 +10,6 @@ fitted :
     → (let a = c .before .before .before .before .before .args in Fitting (a .moves) (a .opening) (a .core) (a .line) (a .given .now) (a .private .now) (a .shared .now))
 fitted c = fitting _ _ _ _ _ _ _ (was-true (c .before .move-fits .ensures) (c .if1 .left))
 
-returns-2 : tie.Need-returns-2
-unfolding movedPrivate movedShared
-returns-2 c = let e = c .enum-told .given .1 in as-moved (fitted (c .before .before)) _ _ (rw e) (rw e)
-
 returns-3 : tie.Need-returns-3
 unfolding movedPrivate movedShared
 returns-3 c = let k = c .before .before in let e = k .before .before .before .enum-told2 .given .1 in as-moved (fitted (c .before .before .before .before .before .before .before)) _ _ (rw (e, ← k .before .before .copy-at .ensures) (k .put-line .ensures)) (rw e)
@@ -60,7 +56,7 @@ move-bytes-spec =
     (λ c κs. fitted (c .before .before) .there)
     (λ c κs. fitted (c .before .before .before) .there)
     (λ c κs. (fitted (c .before .before .before .before .before) .there .width, rw (c .before .writeback-at2 .ensures) ((fitted (c .before .before .before .before .before)) .writeback), rw (c .before .before .manager-at2 .ensures) ((fitted (c .before .before .before .before .before)) .manager)))
-    returns-2
+    (λ c. unfold movedPrivate movedShared in let e = c .enum-told .given .1 in as-moved (fitted (c .before .before)) _ _ (rw e) (rw e))
     (λ c. search needs)
     returns-3
     (λ c. search needs)

@@ -5,10 +5,6 @@ use Rattle.buffers.specs.Moves.{moveFits}
 use Rattle.buffers.proofs.move_fits.Statement.{statement}
 use Rattle.buffers.proofs.move_fits.Tie as tie
 
-returns : tie.Need-returns
-unfolding moveFits
-returns c = rw (was-false (c .before .is-there .ensures) (c .if1 .taken))
-
 returns-2 : tie.Need-returns-2
 unfolding moveFits
 returns-2 c =
@@ -25,7 +21,7 @@ move-fits-spec =
     tie.close
     (tie.spec
     (λ c κs. search needs)
-    returns
+    (λ c. unfold moveFits in rw (was-false (c .before .is-there .ensures) (c .if1 .taken)))
     (λ c κs. search needs)
     returns-2
     (λ c κs. search needs)

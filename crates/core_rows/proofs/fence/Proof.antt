@@ -4,9 +4,5 @@ use Rattle.protocol.specs.{Pick.first, Refusals.{stateRules, stateRefusal}, Tab
 use Rattle.core_rows.proofs.fence.Statement.{statement}
 use Rattle.core_rows.proofs.fence.Tie as tie
 
-returns : tie.Need-returns
-unfolding effectOf tableOf fenceTable stateRefusal stateRules first
-returns c n o = rw (c .before .fence .ensures)
-
 pub fence-spec : {M : Type 1} → statement M
-fence-spec = tie.close (tie.spec (λ c κs. search needs) returns)
+fence-spec = tie.close (tie.spec (λ c κs. search needs) (λ c n o. unfold effectOf tableOf fenceTable stateRefusal stateRules first in rw (c .before .fence .ensures)))

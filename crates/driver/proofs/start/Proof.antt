@@ -14,9 +14,6 @@ returns c =
     let x = subst (NextOf _ 0 0) (s .form .given .1) (s .before .before .step-at .ensures) in
     starts-refused (outside-limits x (sym (f .fits2 .ensures) ∙ not-true _ (c .before .before .before .before .if1 .taken))) (c .before .before .refuse .ensures)
 
-refuse-requires-4 : tie.Need-refuse-requires-4
-refuse-requires-4 c κs = omega (arith, known (subst (NextOf _ 0 0) (c .before .before .n .given .1) (c .before .before .before .before .step-at .ensures)))
-
 returns-2 : tie.Need-returns-2
 returns-2 c =
     let f = c .before .before .before .before .before in
@@ -40,5 +37,5 @@ start-spec =
     tie.close
     (tie.spec
     (λ c κs. search needs) (λ c. search needs) (λ c κs. search needs) (λ c κs. search needs) (λ c. search needs) returns (λ c κs. search needs)
-    (λ c. search needs) (λ c κs. search needs) (λ c. search needs) (λ c κs. search needs) (λ c. search needs) refuse-requires-4 (λ c. search needs)
+    (λ c. search needs) (λ c κs. search needs) (λ c. search needs) (λ c κs. search needs) (λ c. search needs) (λ c κs. omega (arith, known (subst (NextOf _ 0 0) (c .before .before .n .given .1) (c .before .before .before .before .step-at .ensures)))) (λ c. search needs)
     returns-2 (λ c. search needs) returns-3 (λ c. search needs) returns-4 (λ c. search needs) returns-5)

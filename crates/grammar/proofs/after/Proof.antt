@@ -35,11 +35,8 @@ found c =
 returns-2 : tie.Need-returns-2 Inv-loop μ-loop
 returns-2 c = elsewhere (λ h. subst (Test _) (not-true (c .before .before .loop .same) (c .if2 .taken)) (found (c .before)) (h .1)) refl
 
-returns-3 : tie.Need-returns-3 Inv-loop μ-loop
-returns-3 c = there (omega arith, subst (Test _) (not-false (c .before .before .loop .same) (c .if2 .left)) (found (c .before))) (omega arith)
-
 pub after-spec : {M : Type 1} → statement M
 after-spec =
     tie.close
     (tie.spec Inv-loop μ-loop (λ c. omega arith) (λ c. elsewhere (λ h. omega (arith, h .0)) refl) (λ c. (omega arith, λ k h. absurd (omega arith))) (λ c. omega arith) (λ c. omega arith)
-    (λ c. omega arith) (λ c. omega arith) (λ c. omega arith) loop-again returns-2 (λ c. omega arith) returns-3)
+    (λ c. omega arith) (λ c. omega arith) (λ c. omega arith) loop-again returns-2 (λ c. omega arith) (λ c. there (omega arith, subst (Test _) (not-false (c .before .before .loop .same) (c .if2 .left)) (found (c .before))) (omega arith)))

@@ -7,9 +7,6 @@ use Rattle.grammar.proofs.{Rows.{letters, letter-high, entry-at}, row_a
 use borrow.Author.Needs.{needs}
 use Rattle.grammar.proofs.row_at.Tie as tie
 
-high : tie.Need-sub-result
-high c = rw (c .wide3 .ensures) (letter-high 0 32 ((c .before .before .wide .result * 15 + c .before .wide2 .result) % 32) (omega arith))
-
 returns : tie.Need-returns
 returns c k h e =
     let f = ap (λ (m : ℕ). getD letters m 0) (sym e) ∙ entry-at k h .found in
@@ -18,4 +15,4 @@ returns c k h e =
 pub row-at-spec : {M : Type 1} → statement M
 row-at-spec =
     tie.close
-    (tie.spec (λ c κs. search needs) (λ c. search needs) (λ c κs. search needs) (λ c. search needs) (λ c. search needs) (λ c κs. search needs) high returns)
+    (tie.spec (λ c κs. search needs) (λ c. search needs) (λ c κs. search needs) (λ c. search needs) (λ c. search needs) (λ c κs. search needs) (λ c. rw (c .wide3 .ensures) (letter-high 0 32 ((c .before .before .wide .result * 15 + c .before .wide2 .result) % 32) (omega arith))) returns)

@@ -5,9 +5,6 @@ use borrow.Author.Needs.{needs}
 use Rattle.listing.proofs.{Laws.{data-short, data-put}, put_with_data.Statement.statement}
 use Rattle.listing.proofs.put_with_data.Tie as tie
 
-returns : tie.Need-returns
-returns c = let a = c .before .before .before .before .args in data-short (a .out .now) (a .at) (a .head .now) (a .bytes .now) (omega arith)
-
 returns-2 : tie.Need-returns-2
 returns-2 c = let a = c .before .before .before .before .before .args in data-short (a .out .now) (a .at) (a .head .now) (a .bytes .now) (omega arith)
 
@@ -25,5 +22,5 @@ pub put-with-data-spec : {M : Type 1} → statement M
 put-with-data-spec =
     tie.close
     (tie.spec
-    returns (λ c. omega arith) returns-2 (λ c. omega arith) (λ c. omega arith) returns-3 (λ c. search needs) (λ c. search needs) (λ c. search needs)
+    (λ c. let a = c .before .before .before .before .args in data-short (a .out .now) (a .at) (a .head .now) (a .bytes .now) (omega arith)) (λ c. omega arith) returns-2 (λ c. omega arith) (λ c. omega arith) returns-3 (λ c. search needs) (λ c. search needs) (λ c. search needs)
     (λ c κs. search needs) (λ c κs. search needs) (λ c. refl) (λ c κs. search needs) (λ c. search needs) returns-4)

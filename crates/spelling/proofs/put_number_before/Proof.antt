@@ -12,9 +12,6 @@ Inv-loop out₀ end n k₀ m₀ out k m = Digits out₀ end n out k m
 abbrev μ-loop : tie.MeasureT-loop
 μ-loop out₀ end n k₀ m₀ out k m = m
 
-loop-holds : tie.Need-loop-holds Inv-loop μ-loop
-loop-holds c = let a = c .before .before .args in digits-start (a .out .now) (a .end) (a .n) (omega arith) (omega arith) (omega arith)
-
 pub put-number-before-spec : {M : Type 1} → statement M
 put-number-before-spec =
     tie.close
@@ -23,7 +20,7 @@ put-number-before-spec =
     μ-loop
     (λ c. let a = c .before .args in before-few (a .out .now) (a .end) _ (omega arith))
     (λ c. let a = c .before .before .args in before-past (a .out .now) (a .end) _ (omega arith))
-    loop-holds
+    (λ c. let a = c .before .before .args in digits-start (a .out .now) (a .end) (a .n) (omega arith) (omega arith) (omega arith))
     (λ c. let r = digits-room _ _ _ _ _ _ (c .before .loop .inv) in omega arith)
     (λ c. omega arith) (λ c. omega arith)
     (λ c. let r = digits-room _ _ _ _ _ _ (c .before .loop .inv) in omega (arith, c .before .loop .inv .within))

@@ -4,19 +4,11 @@ use Rattle.tables.specs.Found.{effectWith}
 use Rattle.tables.proofs.effect.Statement.{statement}
 use Rattle.tables.proofs.effect.Tie as tie
 
-returns : tie.Need-returns
-unfolding effectWith
-returns c = rw (ne-eqb _ 0 (c .before .if1 .taken)) (c .refused .ensures)
-
-returns-2 : tie.Need-returns-2
-unfolding effectWith
-returns-2 c = rw (c .before .if1 .left) (c .row .ensures)
-
 pub effect-spec : {M : Type 1} → statement M
 effect-spec =
     tie.close
     (tie.spec
     (λ c κs. search needs)
-    returns
+    (λ c. unfold effectWith in rw (ne-eqb _ 0 (c .before .if1 .taken)) (c .refused .ensures))
     (λ c κs. search needs)
-    returns-2)
+    (λ c. unfold effectWith in rw (c .before .if1 .left) (c .row .ensures)))

@@ -4,17 +4,5 @@ use Rattle.protocol.specs.Step.{meaning}
 use Rattle.protocol.proofs.Counts.of.Statement.{statement}
 use Rattle.protocol.proofs.Counts.of.Tie as tie
 
-returns : tie.Need-returns
-unfolding meaning
-returns c = rw (c .enum-told .given .1)
-
-returns-2 : tie.Need-returns-2
-unfolding meaning
-returns-2 c = rw (c .enum-told2 .given .1)
-
-returns-3 : tie.Need-returns-3
-unfolding meaning
-returns-3 c = rw (c .enum-told3 .given .1)
-
 pub of-spec : {M : Type 1} → statement M
-of-spec = tie.close (tie.spec (λ c. search needs) (λ c. search needs) (λ c. search needs) returns returns-2 returns-3)
+of-spec = tie.close (tie.spec (λ c. search needs) (λ c. search needs) (λ c. search needs) (λ c. unfold meaning in rw (c .enum-told .given .1)) (λ c. unfold meaning in rw (c .enum-told2 .given .1)) (λ c. unfold meaning in rw (c .enum-told3 .given .1)))

@@ -4,10 +4,6 @@ use Rattle.protocol.specs.Limits.{openingFits}
 use borrow.Author.Needs.{needs}
 use Rattle.protocol.proofs.Opening.fits.Tie as tie
 
-returns : tie.Need-returns
-unfolding openingFits
-returns c = rw (was-false (c .before .within .ensures) (c .if1 .taken))
-
 returns-2 : tie.Need-returns-2
 unfolding openingFits
 returns-2 c = rw (was-true (c .before .before .before .within .ensures) (c .before .before .if1 .left), was-false (c .before .within2 .ensures) (c .if2 .taken))
@@ -27,7 +23,7 @@ fits-spec =
     (λ c. search needs)
     (λ c. search needs)
     (λ c κs. search needs)
-    returns
+    (λ c. unfold openingFits in rw (was-false (c .before .within .ensures) (c .if1 .taken)))
     (λ c κs. search needs)
     returns-2
     (λ c κs. search needs)

@@ -5,14 +5,6 @@ use Rattle.protocol.{specs.Refusals.buffersFit, proofs.Extents.{inside, copies-
 use Rattle.refusals.proofs.input.buffers_fit.Statement.{statement}
 use Rattle.refusals.proofs.input.buffers_fit.Tie as tie
 
-returns : tie.Need-returns
-unfolding buffersFit
-returns c = rw (ne-eqb _ _ (c .if1 .taken))
-
-returns-2 : tie.Need-returns-2
-unfolding buffersFit
-returns-2 c = rw (eq-eqb _ _ (c .if1 .left))
-
 pub buffers-fit-spec : {M : Type 1} → statement M
 buffers-fit-spec =
-    tie.close (tie.spec (λ c. let m = copies-most (inside _ (c .pre)) in omega arith) (λ c. let m = private-most (inside _ (c .pre)) in omega arith) returns (λ c. let m = inside _ (c .before .pre) in omega arith) (λ c. let m = rows-most (inside _ (c .before .pre)) in omega arith) (λ c. let m = shared-most (inside _ (c .before .pre)) in omega arith) returns-2)
+    tie.close (tie.spec (λ c. let m = copies-most (inside _ (c .pre)) in omega arith) (λ c. let m = private-most (inside _ (c .pre)) in omega arith) (λ c. unfold buffersFit in rw (ne-eqb _ _ (c .if1 .taken))) (λ c. let m = inside _ (c .before .pre) in omega arith) (λ c. let m = rows-most (inside _ (c .before .pre)) in omega arith) (λ c. let m = shared-most (inside _ (c .before .pre)) in omega arith) (λ c. unfold buffersFit in rw (eq-eqb _ _ (c .if1 .left))))

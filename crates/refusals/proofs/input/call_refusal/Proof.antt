@@ -4,10 +4,6 @@ use borrow.Author.Needs.{needs}
 use Rattle.refusals.proofs.input.call_refusal.Statement.{statement}
 use Rattle.refusals.proofs.input.call_refusal.Tie as tie
 
-returns : tie.Need-returns
-unfolding callRefusal callRules first
-returns c = rw (← c .before .before .about .ensures, ← c .before .no-core .ensures, c .if1 .taken)
-
 returns-2 : tie.Need-returns-2
 unfolding callRefusal callRules first
 returns-2 c = let a = c .before .before in rw (← a .before .before .about .ensures, ← a .before .no-core .ensures, a .if1 .left, ← c .before .no-line .ensures, c .if2 .taken)
@@ -30,7 +26,7 @@ call-refusal-spec =
     (tie.spec
     (λ c κs. search needs)
     (λ c κs. search needs)
-    returns
+    (λ c. unfold callRefusal callRules first in rw (← c .before .before .about .ensures, ← c .before .no-core .ensures, c .if1 .taken))
     (λ c κs. search needs)
     returns-2
     (λ c κs. search needs)

@@ -5,14 +5,6 @@ use Rattle.protocol.{specs.{Pick.first, Refusals.{machineRefusal, stateFits}}, 
 use Rattle.refusals.proofs.input.machine_refusal.Statement.{statement}
 use Rattle.refusals.proofs.input.machine_refusal.Tie as tie
 
-returns : tie.Need-returns
-unfolding machineRefusal first
-returns c = rw (was-false (c .before .state-fits .ensures) (c .if1 .taken))
-
-buffers-fit-requires : tie.Need-buffers-fit-requires
-unfolding stateFits
-buffers-fit-requires c κs = both-true _ _ (was-true (c .before .state-fits .ensures) (c .if1 .left)) .0
-
 returns-2 : tie.Need-returns-2
 unfolding machineRefusal first
 returns-2 c =
@@ -25,4 +17,4 @@ returns-3 c =
 
 pub machine-refusal-spec : {M : Type 1} → statement M
 machine-refusal-spec =
-    tie.close (tie.spec (λ c κs. search needs) returns buffers-fit-requires returns-2 returns-3)
+    tie.close (tie.spec (λ c κs. search needs) (λ c. unfold machineRefusal first in rw (was-false (c .before .state-fits .ensures) (c .if1 .taken))) (λ c κs. unfold stateFits in both-true _ _ (was-true (c .before .state-fits .ensures) (c .if1 .left)) .0) returns-2 returns-3)

@@ -4,10 +4,6 @@ use Rattle.protocol.{specs.Refusals.stateFits, proofs.{Tests.{was-false, was-tr
 use Rattle.refusals.proofs.input.state_fits.Statement.{statement}
 use Rattle.refusals.proofs.input.state_fits.Tie as tie
 
-returns : tie.Need-returns
-unfolding stateFits
-returns c = rw (was-false (c .before .fits2 .ensures) (c .if1 .taken))
-
 returns-2 : tie.Need-returns-2
 unfolding stateFits
 returns-2 c =
@@ -26,4 +22,4 @@ returns-3 c =
 pub state-fits-spec : {M : Type 1} → statement M
 state-fits-spec =
     tie.close
-    (tie.spec (λ c κs. search needs) returns (λ c κs. inside _ (was-true (c .before .fits2 .ensures) (c .if1 .left)) .mostLines) returns-2 slots-fit-requires returns-3)
+    (tie.spec (λ c κs. search needs) (λ c. unfold stateFits in rw (was-false (c .before .fits2 .ensures) (c .if1 .taken))) (λ c κs. inside _ (was-true (c .before .fits2 .ensures) (c .if1 .left)) .mostLines) returns-2 slots-fit-requires returns-3)

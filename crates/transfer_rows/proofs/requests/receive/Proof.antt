@@ -4,14 +4,6 @@ use Rattle.protocol.specs.{Pick.first, Refusals.{stateRules, stateRefusal}, Tab
 use Rattle.transfer_rows.proofs.requests.receive.Statement.{statement}
 use Rattle.transfer_rows.proofs.requests.receive.Tie as tie
 
-returns : tie.Need-returns
-unfolding effectOf stateRefusal stateRules first
-returns c k n o = rw (c .refused .ensures, c .before .enum-told .given .1)
-
-returns-2 : tie.Need-returns-2
-unfolding effectOf stateRefusal stateRules first
-returns-2 c k n o = rw (c .refused2 .ensures, c .before .enum-told2 .given .1)
-
 returns-3 : tie.Need-returns-3
 unfolding effectOf tableOf receiveTable stateRefusal stateRules first
 returns-3 c k n o = rw (c .receive-grant .ensures n, c .before .before .slot .given .1)
@@ -26,6 +18,6 @@ receive-spec =
     (λ c κs. search needs)
     (λ c. search needs)
     (λ c κs. search needs)
-    returns
-    returns-2
+    (λ c k n o. unfold effectOf stateRefusal stateRules first in rw (c .refused .ensures, c .before .enum-told .given .1))
+    (λ c k n o. unfold effectOf stateRefusal stateRules first in rw (c .refused2 .ensures, c .before .enum-told2 .given .1))
     returns-3)

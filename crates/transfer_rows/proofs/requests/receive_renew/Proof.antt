@@ -4,18 +4,6 @@ use Rattle.protocol.specs.Tables.{receiveRenew}
 use Rattle.transfer_rows.proofs.requests.receive_renew.Statement.{statement}
 use Rattle.transfer_rows.proofs.requests.receive_renew.Tie as tie
 
-returns : tie.Need-returns
-unfolding receiveRenew
-returns c n = rw (c .dropped .ensures, c .before .enum-told .given .1)
-
-returns-2 : tie.Need-returns-2
-unfolding receiveRenew
-returns-2 c n = rw (c .before .copy .given .1)
-
-returns-3 : tie.Need-returns-3
-unfolding receiveRenew
-returns-3 c n = rw (c .dropped2 .ensures, c .before .enum-told2 .given .1)
-
 pub receive-renew-spec : {M : Type 1} → statement M
 receive-renew-spec =
     tie.close
@@ -25,6 +13,6 @@ receive-renew-spec =
     (λ c. search needs)
     (λ c. search needs)
     (λ c κs. search needs)
-    returns
-    returns-2
-    returns-3)
+    (λ c n. unfold receiveRenew in rw (c .dropped .ensures, c .before .enum-told .given .1))
+    (λ c n. unfold receiveRenew in rw (c .before .copy .given .1))
+    (λ c n. unfold receiveRenew in rw (c .dropped2 .ensures, c .before .enum-told2 .given .1)))

@@ -6,10 +6,6 @@ use Rattle.protocol.{specs.declared.Slot.the-variants.Asked, proofs.Refusals.ru
 use Rattle.transfer_rows.proofs.requests.serve.Statement.{statement}
 use Rattle.transfer_rows.proofs.requests.serve.Tie as tie
 
-returns : tie.Need-returns
-unfolding effectOf stateRefusal stateRules first
-returns c n = rw (c .refused .ensures, c .before .enum-told .given .1)
-
 returns-2 : tie.Need-returns-2
 unfolding effectOf tableOf serveTable stateRefusal stateRules first
 returns-2 c n =
@@ -17,10 +13,6 @@ returns-2 c n =
     let g = c .before .before .slot .given .0 in
     rw (c .serve-asked .ensures n, c .before .before .slot .given .1)
     (ruled (servePasses (Asked (g .0) (g .1 .0) (g .1 .1 .0) (g .1 .1 .1 .0)) (a .line .manager) (a .opening)) 27 _ (pieces n _ (a .copy) (a .line)) refl)
-
-returns-3 : tie.Need-returns-3
-unfolding effectOf stateRefusal stateRules first
-returns-3 c n = rw (c .refused2 .ensures, c .before .enum-told2 .given .1)
 
 pub serve-spec : {M : Type 1} → statement M
 serve-spec =
@@ -32,6 +24,6 @@ serve-spec =
     (λ c κs. search needs)
     (λ c. search needs)
     (λ c κs. search needs)
-    returns
+    (λ c n. unfold effectOf stateRefusal stateRules first in rw (c .refused .ensures, c .before .enum-told .given .1))
     returns-2
-    returns-3)
+    (λ c n. unfold effectOf stateRefusal stateRules first in rw (c .refused2 .ensures, c .before .enum-told2 .given .1)))

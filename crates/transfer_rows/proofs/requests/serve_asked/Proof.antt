@@ -28,10 +28,6 @@ returns-3 c n =
     let s = sum-at (a .lts) (a .opening .lease) (sym (b .after .ensures) ∙ e .end .given .1) in
     rw (c .serve-load .ensures n, c .before .same-version .ensures, c .before .before .later .ensures, w .before .before .before .manager .given .1, w .enum-told2 .given .1, s .0, s .1)
 
-returns-4 : tie.Need-returns-4
-unfolding serveAsked
-returns-4 c n = rw (c .before .before .before .manager .given .1, c .enum-told4 .given .1)
-
 pub serve-asked-spec : {M : Type 1} → statement M
 serve-asked-spec =
     tie.close
@@ -51,4 +47,4 @@ serve-asked-spec =
     returns
     returns-2
     returns-3
-    returns-4)
+    (λ c n. unfold serveAsked in rw (c .before .before .before .manager .given .1, c .enum-told4 .given .1)))

@@ -4,18 +4,6 @@ use Rattle.protocol.specs.{Pick.first, Refusals.{stateRules, stateRefusal}, Tab
 use Rattle.transfer_rows.proofs.writebacks.evict.Statement.{statement}
 use Rattle.transfer_rows.proofs.writebacks.evict.Tie as tie
 
-returns : tie.Need-returns
-unfolding effectOf stateRefusal stateRules first
-returns c k l n o = rw (c .refused .ensures, c .before .enum-told .given .1)
-
-returns-2 : tie.Need-returns-2
-unfolding effectOf tableOf evictTable stateRefusal stateRules first
-returns-2 c k l n o = rw (c .enum-told2 .given .1)
-
-returns-3 : tie.Need-returns-3
-unfolding effectOf tableOf evictTable stateRefusal stateRules first
-returns-3 c k l n o = rw (c .before .before .copy .given .1, c .written-back .ensures)
-
 pub evict-spec : {M : Type 1} → statement M
 evict-spec =
     tie.close
@@ -25,6 +13,6 @@ evict-spec =
     (λ c. search needs)
     (λ c. search needs)
     (λ c κs. search needs)
-    returns
-    returns-2
-    returns-3)
+    (λ c k l n o. unfold effectOf stateRefusal stateRules first in rw (c .refused .ensures, c .before .enum-told .given .1))
+    (λ c k l n o. unfold effectOf tableOf evictTable stateRefusal stateRules first in rw (c .enum-told2 .given .1))
+    (λ c k l n o. unfold effectOf tableOf evictTable stateRefusal stateRules first in rw (c .before .before .copy .given .1, c .written-back .ensures)))
