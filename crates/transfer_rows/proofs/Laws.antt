@@ -1,9 +1,29 @@
--- What does not add to a timestamp: a request for a line that is owned.
+-- What the rows of the calls rest on: that a request for a line that is owned does not add to a timestamp, and what giving a copy up is.
 use Prim.Native.Nat.{ℕ}
-use mathlib.Core.{Path.{_≡_, refl}, Bool.false}
-use Rattle.protocol.specs.{Refusals.servePasses, declared.{Stamp.Stamp, Want.{Want, the-variants.{Load as WantLoad, Store as WantStore}}, Held.Held}}
-use Rattle.protocol.specs.declared.{Slot.the-variants.Asked, Manager.the-variants.Owned, Opening.Opening}
+use mathlib.Core.Path.{_≡_, refl}
+use mathlib.Core.Bool.{false}
+use Rattle.protocol.specs.Pick.{first}
+use Rattle.protocol.specs.Machine.{pieces}
+use Rattle.protocol.specs.Refusals.{servePasses, stateRules, stateRefusal}
+use Rattle.protocol.specs.Tables.{evictTable, tableOf, effectOf}
+use Rattle.protocol.specs.declared.Stamp.{Stamp}
+use Rattle.protocol.specs.declared.Want.{Want}
+use Rattle.protocol.specs.declared.Want.the-variants.{Load as WantLoad, Store as WantStore}
+use Rattle.protocol.specs.declared.Held.{Held}
+use Rattle.protocol.specs.declared.Slot.the-variants.{Asked}
+use Rattle.protocol.specs.declared.Manager.the-variants.{Owned}
+use Rattle.protocol.specs.declared.{Opening.Opening, Core.Core, Copy.Copy, Line.Line}
+use Rattle.protocol.specs.declared.Copy.the-variants.{None as NoCopy, Shared as CopyShared, Owned as CopyOwned}
+use Rattle.protocol.specs.declared.Call.the-variants.{Evict}
+use Rattle.protocol.specs.declared.Name.the-variants.{Evict as Evicted}
 
 pub owned-passes : (a : Want) (l : ℕ) (t : Stamp) (h : Held) (k : ℕ) (o : Opening) → servePasses (Asked a l t h) (Owned k) o ≡ false
 owned-passes WantLoad l t h k o = refl
 owned-passes WantStore l t h k o = refl
+
+-- evict takes either copy
+pub evict-effect : (k : Core) (v : Copy) (m : Line) (c l : ℕ) (o : Opening) → evictTable Evicted v (pieces k v m) ≡ effectOf (Evict c l) (pieces k v m) o
+unfolding effectOf tableOf evictTable stateRefusal stateRules first
+evict-effect k NoCopy m c l o = refl
+evict-effect k (CopyShared w r) m c l o = refl
+evict-effect k (CopyOwned d w r) m c l o = refl
