@@ -1,21 +1,10 @@
 -- What the rows of the calls rest on: that a request for a line that is owned does not add to a timestamp, and what giving a copy up is.
 use Prim.Native.Nat.{ℕ}
-use mathlib.Core.Path.{_≡_, refl}
-use mathlib.Core.Bool.{false}
-use Rattle.protocol.specs.Pick.{first}
-use Rattle.protocol.specs.Machine.{pieces}
-use Rattle.protocol.specs.Refusals.{servePasses, stateRules, stateRefusal}
-use Rattle.protocol.specs.Tables.{evictTable, tableOf, effectOf}
-use Rattle.protocol.specs.declared.Stamp.{Stamp}
-use Rattle.protocol.specs.declared.Want.{Want}
-use Rattle.protocol.specs.declared.Want.the-variants.{Load as WantLoad, Store as WantStore}
-use Rattle.protocol.specs.declared.Held.{Held}
-use Rattle.protocol.specs.declared.Slot.the-variants.{Asked}
-use Rattle.protocol.specs.declared.Manager.the-variants.{Owned}
-use Rattle.protocol.specs.declared.{Opening.Opening, Core.Core, Copy.Copy, Line.Line}
-use Rattle.protocol.specs.declared.Copy.the-variants.{None as NoCopy, Shared as CopyShared, Owned as CopyOwned}
-use Rattle.protocol.specs.declared.Call.the-variants.{Evict}
-use Rattle.protocol.specs.declared.Name.the-variants.{Evict as Evicted}
+use mathlib.Core.{Path.{_≡_, refl}, Bool.false}
+use Rattle.protocol.specs.{Pick.first, Machine.pieces, Refusals.{servePasses, stateRules, stateRefusal}, Tables.{evictTable, tableOf, effectOf}}
+use Rattle.protocol.specs.declared.{Stamp.Stamp, Want.{Want, the-variants.{Load as WantLoad, Store as WantStore}}, Held.Held, Opening.Opening, Core.Core}
+use Rattle.protocol.specs.declared.{Slot.the-variants.Asked, Manager.the-variants.Owned, Line.Line, Call.the-variants.Evict, Name.the-variants.Evict as Evicted}
+use Rattle.protocol.specs.declared.Copy.{Copy, the-variants.{None as NoCopy, Shared as CopyShared, Owned as CopyOwned}}
 
 pub owned-passes : (a : Want) (l : ℕ) (t : Stamp) (h : Held) (k : ℕ) (o : Opening) → servePasses (Asked a l t h) (Owned k) o ≡ false
 owned-passes WantLoad l t h k o = refl
