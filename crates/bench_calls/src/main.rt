@@ -4,7 +4,7 @@
 // Its arguments are the count of calls, and the engine's cores, lines and width. The lease is 10 and
 // the buffers are zeros. Whether the calls are made by `engine::step` or by their names is no argument
 // but a constant: the compiler puts `step` in line where a program calls it at one place only.
-use engine::Done;
+use engine::Returned;
 use libc::STDERR_FILENO;
 use libc::STDOUT_FILENO;
 use protocol::Answer;
@@ -61,7 +61,7 @@ fn call_of(kind: u64, core: usize, line: usize) -> Call {
 const NAMED: bool = false;
 
 // Makes a call by its name.
-fn named(s: State, private: &mut [u8], shared: &mut [u8], call: Call, given: &[u8]) -> Done {
+fn named(s: State, private: &mut [u8], shared: &mut [u8], call: Call, given: &[u8]) -> Returned {
     match call {
         Call::Load { core, line } => engine::load(s, private, shared, core, line),
         Call::Store { core, line } => engine::store(s, private, shared, core, line, given),
@@ -92,7 +92,7 @@ fn calls(count: u64, opening: Opening, private: &mut [u8], shared: &mut [u8], gi
     let o = engine::open(opening);
     let answer = o.answer;
     let state = o.state;
-    let mut d = Done {
+    let mut d = Returned {
         answer,
         start: 0,
         count: 0,

@@ -4,19 +4,19 @@ use mathlib.Core.{Path._≡_, Bool.true}
 use lib.{Dec.eqb, ListN.length}
 use borrow.Author.Tests.{eqb-true}
 use Rattle.protocol.specs.Limits.{openingFits}
-use Rattle.protocol.specs.Buffers.{Bytes, privateLength, sharedLength, copyStart, managerStart, writebackStart, answerStart, Placed, givenFits}
+use Rattle.protocol.specs.Buffers.{Bytes, privateLength, sharedLength, copyStart, managerStart, writebackStart, answerStart, There, givenFits}
 use Rattle.protocol.specs.{Buffers.{movedPrivate, movedShared}, Refusals.buffersFit, declared.{Opening.Opening, Move.{Move, the-variants.Store}}}
-use Rattle.protocol.proofs.{Tests.both-true, Places.{copy-ends, manager-ends, writeback-ends, answer-ends}}
+use Rattle.protocol.proofs.{Tests.both-true, Extents.{copy-ends, manager-ends, writeback-ends, answer-ends}}
 use Rattle.refusals.specs.Input.{lengthsFit}
-use Rattle.buffers.specs.Moves.{placeFits, moveFits, Moves}
-use Rattle.buffers.proofs.Laws.{place-placed}
+use Rattle.buffers.specs.Moves.{isThere, moveFits, Moves}
+use Rattle.buffers.proofs.Laws.{to-there}
 
 -- lengths np, nq and n of the buffers and of a store's bytes that fit
 module _ (v : Move) (o : Opening) (np nq c l n : ℕ) (fits : moveFits v o np nq c l n ≡ true) where
-  tests : (placeFits o c l ≡ true) × (buffersFit o np nq ≡ true) × (givenFits v (o .width) n ≡ true)
+  tests : (isThere o c l ≡ true) × (buffersFit o np nq ≡ true) × (givenFits v (o .width) n ≡ true)
   unfolding moveFits
   tests =
-      let a = both-true (placeFits o c l) _ fits in
+      let a = both-true (isThere o c l) _ fits in
       let b = both-true (lengthsFit o np nq) _ (a .1) in
       (a .0, both-true (openingFits o) _ (b .0) .1, b .1)
 
@@ -27,7 +27,7 @@ module _ (v : Move) (o : Opening) (np nq c l n : ℕ) (fits : moveFits v o np nq
 -- what is known of a move whose places and lengths fit: each place lies in its buffer, and a store's bytes are a line's
 pub record Fitting (v : Move) (o : Opening) (c l : ℕ) (given p q : Bytes) : Type 0 where
   pub tested : moveFits v o (length p) (length q) c l (length given) ≡ true
-  pub placed : Placed o c l
+  pub there : There o c l
   pub copy : copyStart o c l + o .width ≤ length p
   pub manager : managerStart o l + o .width ≤ length q
   pub writeback : writebackStart o l + o .width ≤ length q
@@ -36,12 +36,12 @@ pub record Fitting (v : Move) (o : Opening) (c l : ℕ) (given p q : Bytes) : Ty
 
 pub fitting : (v : Move) (o : Opening) (c l : ℕ) (given p q : Bytes) → moveFits v o (length p) (length q) c l (length given) ≡ true → Fitting v o c l given p q
 fitting v o c l given p q h =
-    let at = place-placed o c l (tests v o _ _ c l _ h .0) in
+    let at = to-there o c l (tests v o _ _ c l _ h .0) in
     let np = lengths v o _ _ c l _ h .0 in
     let nq = lengths v o _ _ c l _ h .1 in
     record {
       tested = h;
-      placed = at;
+      there = at;
       copy = rw np (copy-ends at);
       manager = rw nq (manager-ends at);
       writeback = rw nq (writeback-ends at);

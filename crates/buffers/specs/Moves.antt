@@ -8,13 +8,13 @@ use Rattle.protocol.specs.declared.Move.{Move}
 use Rattle.refusals.specs.Input.{lengthsFit}
 
 -- the opening lies inside the limits, and core c and line l are there
-abbrev pub placeFits : Opening → ℕ → ℕ → Bool
-placeFits o c l = both (openingFits o) (both (ltb c (o .cores)) (ltb l (o .lines)))
+abbrev pub isThere : Opening → ℕ → ℕ → Bool
+isThere o c l = both (openingFits o) (both (ltb c (o .cores)) (ltb l (o .lines)))
 
 -- the places and lengths of a move fit: the core and the line are there, both buffers have their exact lengths, and a store's bytes are one
 -- line's
 unfoldable pub moveFits : Move → Opening → ℕ → ℕ → ℕ → ℕ → ℕ → Bool
-moveFits v o private shared c l n = both (placeFits o c l) (both (lengthsFit o private shared) (givenFits v (o .width) n))
+moveFits v o private shared c l n = both (isThere o c l) (both (lengthsFit o private shared) (givenFits v (o .width) n))
 
 -- the buffers p and q after a move: as the move leaves them if its places and lengths fit, else as they were
 pub record Moves (v : Move) (o : Opening) (c l : ℕ) (given p q p' q' : Bytes) : Type 0 where

@@ -5,14 +5,14 @@
 mod lines;
 
 ghost use mathlib.Core.Path.{_≡_};
-ghost use Rattle.protocol.specs.{Pick.pick, Buffers.{copyStart, managerStart, writebackStart, answerStart, Placed, givenFits}};
-ghost use Rattle.buffers.specs.Moves.{placeFits, moveFits, Moved};
+ghost use Rattle.protocol.specs.{Pick.pick, Buffers.{copyStart, managerStart, writebackStart, answerStart, There, givenFits}};
+ghost use Rattle.buffers.specs.Moves.{isThere, moveFits, Moved};
 use protocol::Move;
 use protocol::Opening;
 
 // Where a core's copy of a line starts in the private buffer.
 fn copy_at(opening: Opening, core: usize, line: usize) -> usize
-    requires { ⌜ Placed opening core line ⌝ }
+    requires { ⌜ There opening core line ⌝ }
     ensures { λ r. ⌜ r ≡ copyStart opening core line ⌝ }
 {
     let lines = opening.lines;
@@ -22,7 +22,7 @@ fn copy_at(opening: Opening, core: usize, line: usize) -> usize
 
 // Where the manager's line starts in the shared buffer.
 fn manager_at(opening: Opening, core: usize, line: usize) -> usize
-    requires { ⌜ Placed opening core line ⌝ }
+    requires { ⌜ There opening core line ⌝ }
     ensures { λ r. ⌜ r ≡ managerStart opening line ⌝ }
 {
     let width = opening.width;
@@ -31,7 +31,7 @@ fn manager_at(opening: Opening, core: usize, line: usize) -> usize
 
 // Where a line's writeback starts in the shared buffer.
 fn writeback_at(opening: Opening, core: usize, line: usize) -> usize
-    requires { ⌜ Placed opening core line ⌝ }
+    requires { ⌜ There opening core line ⌝ }
     ensures { λ r. ⌜ r ≡ writebackStart opening line ⌝ }
 {
     let lines = opening.lines;
@@ -41,7 +41,7 @@ fn writeback_at(opening: Opening, core: usize, line: usize) -> usize
 
 // Where the answer to a core starts in the shared buffer.
 fn answer_at(opening: Opening, core: usize, line: usize) -> usize
-    requires { ⌜ Placed opening core line ⌝ }
+    requires { ⌜ There opening core line ⌝ }
     ensures { λ r. ⌜ r ≡ answerStart opening core ⌝ }
 {
     let lines = opening.lines;
@@ -50,8 +50,8 @@ fn answer_at(opening: Opening, core: usize, line: usize) -> usize
 }
 
 // Whether an opening lies inside the limits and has the core and the line.
-fn place_fits(opening: Opening, core: usize, line: usize) -> bool
-    ensures { λ r. ⌜ r ≡ placeFits opening core line ⌝ }
+fn is_there(opening: Opening, core: usize, line: usize) -> bool
+    ensures { λ r. ⌜ r ≡ isThere opening core line ⌝ }
 {
     let cores = opening.cores;
     let lines = opening.lines;
@@ -66,9 +66,9 @@ fn place_fits(opening: Opening, core: usize, line: usize) -> bool
 
 // Where a core's copy of a line starts in the private buffer; 0 where the opening has no such place.
 pub fn copy_start(opening: Opening, core: usize, line: usize) -> usize
-    ensures { λ r. ⌜ r ≡ pick (placeFits opening core line) (copyStart opening core line) 0 ⌝ }
+    ensures { λ r. ⌜ r ≡ pick (isThere opening core line) (copyStart opening core line) 0 ⌝ }
 {
-    if !place_fits(opening, core, line) {
+    if !is_there(opening, core, line) {
         return 0;
     }
     copy_at(opening, core, line)
@@ -76,9 +76,9 @@ pub fn copy_start(opening: Opening, core: usize, line: usize) -> usize
 
 // Where the manager's line starts in the shared buffer; 0 where the opening has no such place.
 pub fn manager_start(opening: Opening, core: usize, line: usize) -> usize
-    ensures { λ r. ⌜ r ≡ pick (placeFits opening core line) (managerStart opening line) 0 ⌝ }
+    ensures { λ r. ⌜ r ≡ pick (isThere opening core line) (managerStart opening line) 0 ⌝ }
 {
-    if !place_fits(opening, core, line) {
+    if !is_there(opening, core, line) {
         return 0;
     }
     manager_at(opening, core, line)
@@ -110,7 +110,7 @@ fn move_fits(
 ) -> bool
     ensures { λ r. ⌜ r ≡ moveFits moves opening «private» shared core line count ⌝ }
 {
-    if !place_fits(opening, core, line) {
+    if !is_there(opening, core, line) {
         return false;
     }
     if !refusals::lengths_fit(opening, private, shared) {

@@ -13,7 +13,7 @@ use protocol::Core;
 use protocol::Effect;
 use protocol::Held;
 use protocol::Kind;
-use protocol::Line;
+use protocol::ManagerLine;
 use protocol::Move;
 use protocol::Name;
 use protocol::Opening;
@@ -33,7 +33,7 @@ fn held_of(copy: Copy) -> Held
 }
 
 // The slot becomes asked, or 20 where it is in use.
-fn ask(want: Want, l: usize, core: Core, copy: Copy, line: Line) -> Effect
+fn ask(want: Want, l: usize, core: Core, copy: Copy, line: ManagerLine) -> Effect
     ensures { λ r. ⌜ r ≡ pick (fails (isEmpty (core .slot))) (refusedRow 20 (pieces core copy line)) (asking want l (pieces core copy line)) ⌝ }
 {
     let slot = core.slot;
@@ -64,7 +64,7 @@ fn ask(want: Want, l: usize, core: Core, copy: Copy, line: Line) -> Effect
 }
 
 // load: commits on an owned copy and within a shared one's lease; else asks, or 20.
-pub fn load(c: usize, l: usize, core: Core, copy: Copy, line: Line) -> Effect
+pub fn load(c: usize, l: usize, core: Core, copy: Copy, line: ManagerLine) -> Effect
     ensures { λ r. ⌜ ((o : Opening) → r ≡ effectOf (Call.Load c l) (pieces core copy line) o) ⌝ }
 {
     let slot = core.slot;
@@ -135,7 +135,7 @@ pub fn load(c: usize, l: usize, core: Core, copy: Copy, line: Line) -> Effect
 
 // store: commits on an owned copy, past its lease, or 27 where that passes the greatest timestamp; else
 // asks, or 20.
-pub fn store(c: usize, l: usize, core: Core, copy: Copy, line: Line) -> Effect
+pub fn store(c: usize, l: usize, core: Core, copy: Copy, line: ManagerLine) -> Effect
     ensures { λ r. ⌜ ((o : Opening) → r ≡ effectOf (Call.Store c l) (pieces core copy line) o) ⌝ }
 {
     let slot = core.slot;
@@ -169,7 +169,7 @@ pub fn store(c: usize, l: usize, core: Core, copy: Copy, line: Line) -> Effect
 }
 
 // fence: commits at the later of the core's clocks.
-pub fn fence(c: usize, core: Core, copy: Copy, line: Line) -> Effect
+pub fn fence(c: usize, core: Core, copy: Copy, line: ManagerLine) -> Effect
     ensures { λ r. ⌜ ((o : Opening) → r ≡ effectOf (Call.Fence c) (pieces core copy line) o) ⌝ }
 {
     let slot = core.slot;
@@ -190,7 +190,7 @@ pub fn fence(c: usize, core: Core, copy: Copy, line: Line) -> Effect
 }
 
 // advance: lts grows, or 27 where it passes the greatest timestamp.
-pub fn advance(by: u32, core: Core, copy: Copy, line: Line) -> Effect
+pub fn advance(by: u32, core: Core, copy: Copy, line: ManagerLine) -> Effect
     ensures { λ r. ⌜ ((c : ℕ) (o : Opening) → r ≡ effectOf (Call.Advance c by) (pieces core copy line) o) ⌝ }
 {
     let slot = core.slot;

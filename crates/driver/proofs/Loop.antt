@@ -6,7 +6,7 @@ use lib.{Dec.{eqb, leb}, ListN.{length, take, drop}, Seq.{length-take-le, drop-d
 use borrow.Author.Tests.{leb-true, eqb-false}
 use Rattle.protocol.specs.{Pick.fails, Limits.{mostCores, mostLines}, Buffers.Bytes, About.{about, namedLine}, Refusals.machineRefusal}
 use Rattle.protocol.specs.Machine.{Machine, machine, coreAt, lineAt, piecesAt, theCore, theLine, written, applied}
-use Rattle.protocol.specs.{Step.{Reply, meaning, actBytes, Outcome, accepted, step}, Run.{Given, place, run}, Counts.{countsOf, plus}}
+use Rattle.protocol.specs.{Step.{Reply, meaning, actBytes, Outcome, accepted, step}, Run.{Entry, place, run}, Counts.{countsOf, plus}}
 use Rattle.protocol.specs.declared.{Opening.Opening as Sizes, State.State, Call.Call, About.About, Counts.Counts, Effect.Effect}
 use Rattle.protocol.proofs.{Tests.both-true, Keep.still}
 use Rattle.spelling.specs.{Over.PutAt, declared.Put.{Put, the-variants.{End as PutEnd, Short as NoRoom}}}
@@ -30,7 +30,7 @@ pub record Reached (j : Bytes) (from : Checkpoint) (p₀ q₀ old : Bytes) (o : 
   pub few : few (there .counts) (there .at) ≡ true
   pub opening : there .state .opening ≡ o
   pub based : base ≡ machineRefusal (machine (there .state) p q)
-  pub gs : List Given
+  pub gs : List Entry
   pub leads : Leads j from p₀ q₀ gs there p q
   pub text : take used out ≡ lines (runFrom from p₀ q₀ gs .records)
   pub size : length out ≡ length old

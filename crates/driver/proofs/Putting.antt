@@ -5,7 +5,7 @@ use native.Mathlib.Omega.{arith}
 use lib.{ListN.{length, take, drop, length-append, length-take, length-drop}, Seq.{drop-at, take-at}}
 use borrow.Author.Tests.{leb-true, leb-false}
 use Rattle.protocol.specs.{Buffers.Bytes, Step.{refused, meaning}, declared.{Answer.the-variants.Refused, Place.Place, Counts.Counts}, Run.place}
-use Rattle.spelling.specs.{Over.{fits, over, PutAt}, declared.Put.{Put, the-variants.{End, Short}}}
+use Rattle.spelling.specs.{Over.{hasRoom, over, PutAt}, declared.Put.{Put, the-variants.{End, Short}}}
 use Rattle.listing.{specs.Record.{recordText, endText}, proofs.Lengths.{record-length, end-length}}
 use Rattle.driver.specs.Listing.{stopLines}
 
@@ -31,9 +31,9 @@ over-written old at t h =
 
 -- the text was put
 pub put-written : {old : Bytes} {at : ℕ} {t new : Bytes} {r : Put} {e : ℕ} → PutAt old at t new r → r ≡ End e → Written old at t new e
-put-written {old} {at} {t} {new} {r} {e} p x = go (fits (length old) at (length t)) refl (p .answer) (p .bytes)
+put-written {old} {at} {t} {new} {r} {e} p x = go (hasRoom (length old) at (length t)) refl (p .answer) (p .bytes)
   where
-    go : (b : Bool) → fits (length old) at (length t) ≡ b → r ≡ cond b (End (at + length t)) Short → new ≡ cond b (over old at t) old → Written old at t new e
+    go : (b : Bool) → hasRoom (length old) at (length t) ≡ b → r ≡ cond b (End (at + length t)) Short → new ≡ cond b (over old at t) old → Written old at t new e
     go true h a n =
         let q : at + length t ≡ e = cc in
         rw (n, sym q) (over-written old at t (leb-true _ _ h))
@@ -41,9 +41,9 @@ put-written {old} {at} {t} {new} {r} {e} p x = go (fits (length old) at (length 
 
 -- there was no room for it, and the output is as it was
 pub put-short : {old : Bytes} {at : ℕ} {t new : Bytes} {r : Put} → PutAt old at t new r → r ≡ Short → (length old < at + length t) × (new ≡ old)
-put-short {old} {at} {t} {new} {r} p x = go (fits (length old) at (length t)) refl (p .answer) (p .bytes)
+put-short {old} {at} {t} {new} {r} p x = go (hasRoom (length old) at (length t)) refl (p .answer) (p .bytes)
   where
-    go : (b : Bool) → fits (length old) at (length t) ≡ b → r ≡ cond b (End (at + length t)) Short → new ≡ cond b (over old at t) old → (length old < at + length t) × (new ≡ old)
+    go : (b : Bool) → hasRoom (length old) at (length t) ≡ b → r ≡ cond b (End (at + length t)) Short → new ≡ cond b (over old at t) old → (length old < at + length t) × (new ≡ old)
     go true h a n = absurd (let z : _≡_ {A = ℕ} 0 1 = cc in omega arith)
     go false h a n = (leb-false _ _ h, n)
 

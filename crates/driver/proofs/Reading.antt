@@ -10,7 +10,7 @@ use Rattle.grammar.specs.Table.{Numbered, Says, opens as saysOpening, calls, ro
 use Rattle.grammar.specs.Line.{said, Spelt, LineOf, tooLong, noForm, wrongNumber, wrongData, spelt}
 use Rattle.grammar.{specs.declared.Line.{Line, the-variants.{Opening as OpeningLine, Step as StepLine, Refused as RefusedLine}}, proofs.Fit.Shaped}
 use Rattle.grammar.proofs.Forms.{SaysIn, row-says, row-shape}
-use Rattle.journal.specs.Journal.{placed, LineAt, NextOf, tooMuch, empty, ended, unended, aLine as wholeLine}
+use Rattle.journal.specs.Journal.{inJournal, LineAt, NextOf, tooMuch, empty, ended, unended, aLine as wholeLine}
 use Rattle.journal.specs.declared.Next.{Next, the-variants.{Opening, Step, End, Refused}}
 use Rattle.driver.specs.{Listing.{Data, noData, someData}, Pieces.Digits}
 
@@ -103,7 +103,7 @@ step-known j at l next start end h i e s bs d =
       digits = record { order = omega arith; inside = omega arith; short = omega arith; bytes = bs; spelt = rw p d };
     }
 
-placed-known : (j : Bytes) (at form : ℕ) (l : Bytes) (next : ℕ) (a : Line) → LineAt j at l next → LineKnown form l a → Known j at form (placed a at next)
+placed-known : (j : Bytes) (at form : ℕ) (l : Bytes) (next : ℕ) (a : Line) → LineAt j at l next → LineKnown form l a → Known j at form (inJournal a at next)
 placed-known j at form l next (OpeningLine f o) h k = k
 placed-known j at form l next (StepLine call start end) h k =
     (k .0, step-known j at l next start end h (k .1) (k .2) (k .3) (k .4 .0) (k .4 .1))

@@ -3,7 +3,7 @@ use Prim.Native.Nat.{ℕ, suc, _+_, _-_}
 use mathlib.Core.{Path.{_≡_, refl, sym, _∙_, ap}, List.{List, [], _∷_, _++_, append-assoc, append-nil}}
 use native.Mathlib.Omega.{arith}
 use lib.ListN.{length}
-use Rattle.protocol.specs.{Buffers.{Bytes, part}, Machine.{Machine, machine}, Step.{Reply, step}, Run.{Given, Record, place, run}}
+use Rattle.protocol.specs.{Buffers.{Bytes, part}, Machine.{Machine, machine}, Step.{Reply, step}, Run.{Entry, Record, place, run}}
 use Rattle.protocol.specs.{Counts.{countsOf, plus, total}, declared.{Call.Call, Counts.Counts}}
 use Rattle.journal.specs.{Journal.NextOf, declared.Next.the-variants.Step}
 use Rattle.listing.specs.Record.{recordText}
@@ -13,7 +13,7 @@ use Rattle.driver.proofs.Counting.{plus-assoc, plus-none, total-append,
 -- ---- one list of steps after another
 
 -- lines that spell steps and then steps
-pub steps-append : {j : Bytes} {form a b d : ℕ} {gs hs : List Given} → Between j form a gs b → Between j form b hs d → Between j form a (gs ++ hs) d
+pub steps-append : {j : Bytes} {form a b d : ℕ} {gs hs : List Entry} → Between j form a gs b → Between j form b hs d → Between j form a (gs ++ hs) d
 steps-append noLine y = y
 steps-append (aLine x b r) y = aLine x b (steps-append r y)
 
@@ -22,21 +22,21 @@ unfolding lines
 lines-append [] ts = refl
 lines-append (r ∷ rs) ts = ap (λ (l : Bytes). recordText (r .place) (r .reply) ++ l) (lines-append rs ts) ∙ sym (append-assoc (recordText (r .place) (r .reply)) (lines rs) (lines ts))
 
-pub run-records : (gs hs : List Given) (p : ℕ) (m : Machine) → run (gs ++ hs) p m .records ≡ run gs p m .records ++ run hs (p + length gs) (run gs p m .last) .records
+pub run-records : (gs hs : List Entry) (p : ℕ) (m : Machine) → run (gs ++ hs) p m .records ≡ run gs p m .records ++ run hs (p + length gs) (run gs p m .last) .records
 unfolding run
 run-records [] hs p m = ap (λ (k : ℕ). run hs k m .records) (omega arith)
 run-records (g ∷ gs) hs p m =
     let n : suc p + length gs ≡ p + suc (length gs) = omega arith in
     rw (run-records gs hs (suc p) (step m (g .call) (g .bytes) .machine), n)
 
-run-last : (gs hs : List Given) (p : ℕ) (m : Machine) → run (gs ++ hs) p m .last ≡ run hs (p + length gs) (run gs p m .last) .last
+run-last : (gs hs : List Entry) (p : ℕ) (m : Machine) → run (gs ++ hs) p m .last ≡ run hs (p + length gs) (run gs p m .last) .last
 unfolding run
 run-last [] hs p m = ap (λ (k : ℕ). run hs k m .last) (omega arith)
 run-last (g ∷ gs) hs p m =
     let n : suc p + length gs ≡ p + suc (length gs) = omega arith in
     rw (run-last gs hs (suc p) (step m (g .call) (g .bytes) .machine), n)
 
-pub run-length : (gs : List Given) (p : ℕ) (m : Machine) → length (run gs p m .records) ≡ length gs
+pub run-length : (gs : List Entry) (p : ℕ) (m : Machine) → length (run gs p m .records) ≡ length gs
 unfolding run
 run-length [] p m = refl
 run-length (g ∷ gs) p m = ap suc (run-length gs (suc p) (step m (g .call) (g .bytes) .machine))
@@ -48,14 +48,14 @@ unfolding run total
 leads-none j s p q = record { steps = noLine; form = refl; machine = refl; counts = sym (plus-none (s .counts)) }
 
 -- a call with its bytes, and the record of it at a checkpoint
-abbrev pub given : Call → Bytes → Given
+abbrev pub given : Call → Bytes → Entry
 given call bs = record { call = call; bytes = bs }
 
 abbrev recordAt : Checkpoint → Bytes → Bytes → Call → Bytes → Record
 recordAt b p q call bs = record { place = place (b .counts .steps + 1); given = given call bs; reply = step (machine (b .state) p q) call bs .reply }
 
 -- a step more
-module _ {j : Bytes} {a b : Checkpoint} {p q p' q' : Bytes} {gs : List Given} (l : Leads j a p q gs b p' q') (call : Call) (bs : Bytes) where
+module _ {j : Bytes} {a b : Checkpoint} {p q p' q' : Bytes} {gs : List Entry} (l : Leads j a p q gs b p' q') (call : Call) (bs : Bytes) where
   abbrev reply : Reply
   reply = step (machine (b .state) p' q') call bs .reply
 

@@ -2,7 +2,7 @@
 -- last lines, whose counts are those of the records.
 use Prim.Native.Nat.{ℕ, _-_}
 use mathlib.Core.{Path._≡_, List.{List, [], _∷_, _++_}}
-use Rattle.protocol.specs.{Buffers.{Bytes, part}, Refusals.openRefusal, Step.refused, Run.{Given, Record, place}, Counts.{counts, plus}}
+use Rattle.protocol.specs.{Buffers.{Bytes, part}, Refusals.openRefusal, Step.refused, Run.{Entry, Record, place}, Counts.{counts, plus}}
 use Rattle.protocol.specs.declared.{Opening.Opening as Sizes, Call.Call, Counts.Counts}
 use Rattle.spelling.specs.Hex.{Spells}
 use Rattle.journal.specs.{Journal.NextOf, declared.Next.the-variants.{Opening, Step, End, Refused}}
@@ -21,10 +21,10 @@ pub data Data (digits : Bytes) : Bytes → Type 0 where
   someData : {bs : Bytes} → Spells digits bs → Data digits bs
 
 -- the lines of a journal of some form from one place up to another spell these steps, one after the other
-pub data Between (journal : Bytes) (form : ℕ) : ℕ → List Given → ℕ → Type 0 where
+pub data Between (journal : Bytes) (form : ℕ) : ℕ → List Entry → ℕ → Type 0 where
   noLine : {at : ℕ} → Between journal form at [] at
   aLine :
-      {at to : ℕ} {call : Call} {start end next : ℕ} {bs : Bytes} {gs : List Given} → NextOf journal at form (Step call start end next)
+      {at to : ℕ} {call : Call} {start end next : ℕ} {bs : Bytes} {gs : List Entry} → NextOf journal at form (Step call start end next)
       → Data (part journal start (end - start)) bs → Between journal form next gs to
       → Between journal form at (record { call = call; bytes = bs } ∷ gs) to
 

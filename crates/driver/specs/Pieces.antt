@@ -7,12 +7,12 @@ use Rattle.protocol.specs.declared.{Opening.Opening as Sizes, State.State, Call
 use Rattle.protocol.specs.declared.{Act.{Act, the-variants.{Load, Store, Fence, Advance, Transfer}}, Answer.Answer, Counts.Counts}
 use Rattle.spelling.specs.{declared.Put.{Put, the-variants.{End as PutEnd, Short}}, Over.PutAt}
 use Rattle.journal.specs.{Journal.NextOf, declared.Next.the-variants.Step as StepLine}
-use Rattle.buffers.specs.Moves.{placeFits}
+use Rattle.buffers.specs.Moves.{isThere}
 use Rattle.listing.specs.Record.{recordText}
 use Rattle.tables.specs.{Spans.spanOf, declared.Span.Span}
 use Rattle.driver.specs.{Listing.{Ending, ended, stopped, Data, EndsAt}, Play.{firstCheckpoint, unopened}, declared.Checkpoint.Checkpoint}
 use Rattle.driver.specs.declared.{Played.Played, Last.{Last, the-variants.{End, Refused}}, Due.{Due, the-variants.{Step, Last as AtLast}}}
-use Rattle.driver.specs.declared.Progress.the-variants.{Finished, More, Short as TooShort}
+use Rattle.driver.specs.declared.Progress.{Progress, the-variants.{Finished, More, Short as TooShort}}
 
 -- ---- what is due
 
@@ -66,7 +66,7 @@ isStore Transfer = false
 
 -- where the bytes beside an answer lie in the private buffer, those of a store's commit apart
 abbrev pub shownAt : Answer → Sizes → ℕ → ℕ → Span
-shownAt a o c l = spanOf a (pick (placeFits o c l) (copyStart o c l) 0) (o .width)
+shownAt a o c l = spanOf a (pick (isThere o c l) (copyStart o c l) 0) (o .width)
 
 abbrev pub shown : Answer → Sizes → Bytes → ℕ → ℕ → Bytes
 shown a o p c l = part p (shownAt a o c l .start) (shownAt a o c l .count)
@@ -86,9 +86,16 @@ abbrev pub checkpointAt : ℕ → ℕ → Counts → State → Checkpoint
 checkpointAt at form k s = record { at = at; form = form; counts = k; state = s }
 
 -- the next piece was put, or had no room
+abbrev pub progressBy : Put → Progress
+progressBy (PutEnd e) = Finished
+progressBy Short = More
+
+abbrev pub writtenBy : Put → ℕ → ℕ
+writtenBy (PutEnd e) used = e
+writtenBy Short used = used
+
 abbrev pub playedBy : Put → ℕ → Checkpoint → Played
-playedBy (PutEnd e) used s = record { progress = Finished; written = e; checkpoint = s }
-playedBy Short used s = record { progress = More; written = used; checkpoint = s }
+playedBy put used s = record { progress = progressBy put; written = writtenBy put used; checkpoint = s }
 
 -- the text t was put at the start of the output, or had no room there, and r says how far the call came
 pub record Puts (t : Bytes) (by : Put → Played) (old new : Bytes) (r : Played) : Type 0 where

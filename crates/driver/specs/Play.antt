@@ -5,7 +5,7 @@ use mathlib.Core.{Path._≡_, Bool.{Bool, true, false}, List.{List, [], _++_}}
 use lib.{Dec.{leb, eqb}, ListN.{length, take, drop}}
 use denote.Ref.{RefT, now}
 use Rattle.protocol.specs.{Pick.{both, fails as untrue}, Fresh.{freshState, smallest}, Buffers.{Bytes, part}, Machine.machine, Refusals.openRefusal}
-use Rattle.protocol.specs.{Step.{openReply, step}, Run.{Given, Run, place, run}, Counts.{nothingMet, plus, total}, declared.Opening.Opening as Sizes}
+use Rattle.protocol.specs.{Step.{openReply, step}, Run.{Entry, Run, place, run}, Counts.{nothingMet, plus, total}, declared.Opening.Opening as Sizes}
 use Rattle.protocol.specs.declared.{Call.Call, Counts.Counts}
 use Rattle.journal.specs.{Journal.NextOf, declared.Next.the-variants.{Opening, Step}}
 use Rattle.listing.specs.Record.{recordText}
@@ -15,7 +15,7 @@ use Rattle.driver.specs.declared.{Progress.{Progress, the-variants.{Fini
 -- ---- the checkpoints of a run
 
 -- the steps gs made from a checkpoint with the buffers p and q
-abbrev pub runFrom : Checkpoint → Bytes → Bytes → List Given → Run
+abbrev pub runFrom : Checkpoint → Bytes → Bytes → List Entry → Run
 runFrom s p q gs = run gs (s .counts .steps + 1) (machine (s .state) p q)
 
 -- no count is above n
@@ -24,12 +24,15 @@ few k n = both (leb (k .steps) n) (both (leb (k .commits) n) (leb (k .refusals) 
 
 -- a run of a journal of n bytes may have such a checkpoint: its first line was read, the place is not past the end, and no more was met than
 -- there are bytes before the place (a line has one byte or more)
+abbrev pub resumableAt : ℕ → ℕ → ℕ → Counts → Bool
+resumableAt n at form k = both (untrue (eqb form 0)) (both (leb at n) (few k at))
+
 abbrev pub resumable : ℕ → Checkpoint → Bool
-resumable n s = both (untrue (eqb (s .form) 0)) (both (leb (s .at) n) (few (s .counts) (s .at)))
+resumable n s = resumableAt n (s .at) (s .form) (s .counts)
 
 -- the steps gs lead from the checkpoint a, with the buffers p and q, to the checkpoint b, with the buffers p' and q': the lines of the journal
 -- between the two places spell them, the machine is the one after them, and they are counted
-pub record Leads (journal : Bytes) (a : Checkpoint) (p q : Bytes) (gs : List Given) (b : Checkpoint) (p' q' : Bytes) : Type 0 where
+pub record Leads (journal : Bytes) (a : Checkpoint) (p q : Bytes) (gs : List Entry) (b : Checkpoint) (p' q' : Bytes) : Type 0 where
   pub steps : Between journal (a .form) (a .at) gs (b .at)
   pub form : b .form ≡ a .form
   pub machine : machine (b .state) p' q' ≡ runFrom a p q gs .last
@@ -50,12 +53,12 @@ pub data Piece (journal : Bytes) (s : Checkpoint) (p q : Bytes) : Bytes → Type
 pub data Tells (journal : Bytes) (from : Checkpoint) (p q : Bytes) (there : Checkpoint) (p' q' text : Bytes) (room : ℕ) : Progress → Type 0 where
   -- the lines of the steps up to the listing's end, and the last lines
   finished :
-      {gs : List Given} {e : Ending} → resumable (length journal) from ≡ true → Leads journal from p q gs there p' q'
+      {gs : List Entry} {e : Ending} → resumable (length journal) from ≡ true → Leads journal from p q gs there p' q'
       → EndsAt journal (there .form) (there .at) e → text ≡ lines (runFrom from p q gs .records) ++ lastLines (there .counts) e
       → Tells journal from p q there p' q' text room Finished
   -- the lines of some steps; for what comes next there is no room
   more :
-      {gs : List Given} {t : Bytes} → resumable (length journal) from ≡ true → Leads journal from p q gs there p' q'
+      {gs : List Entry} {t : Bytes} → resumable (length journal) from ≡ true → Leads journal from p q gs there p' q'
       → text ≡ lines (runFrom from p q gs .records) → Piece journal there p' q' t → room < length t
       → Tells journal from p q there p' q' text room More
   -- nothing, and everything is as it was

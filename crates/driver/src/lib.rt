@@ -7,8 +7,7 @@
 mod one_line;
 
 ghost use mathlib.Core.Path.{_≡_};
-ghost use lib.ListN.{length};
-ghost use Rattle.driver.specs.Play.{few, resumable, Starts, PlaysIn};
+ghost use Rattle.driver.specs.Play.{few, resumableAt, Starts, PlaysIn};
 use journal::Next;
 use protocol::Call;
 use protocol::Cell;
@@ -76,16 +75,14 @@ fn few(counts: Counts, most: u64) -> bool
     counts.refusals <= most
 }
 
-// Whether a run of the journal may have such a checkpoint.
-fn resumable(journal: &[u8], from: Checkpoint) -> bool
-    ensures { λ r. ⌜ r ≡ resumable (length (now (journal .entry))) from ⌝ }
+// Whether a run of a journal of n bytes may have a checkpoint with such a place, form and counts.
+fn resumable(n: usize, at: usize, form: u32, counts: Counts) -> bool
+    ensures { λ r. ⌜ r ≡ resumableAt n at form counts ⌝ }
 {
-    let at = from.at;
-    let counts = from.counts;
-    if from.form == 0 {
+    if form == 0 {
         return false;
     }
-    if journal.len() < at {
+    if n < at {
         return false;
     }
     few(counts, at as u64)
@@ -125,22 +122,20 @@ pub fn play(
 ) -> Played
     ensures { λ r. ⌜ PlaysIn (journal .entry) from («private» .entry) (shared .entry) (out .entry) («private» .exit) (shared .exit) (out .exit) r ⌝ }
 {
-    if !resumable(journal, from) {
+    let form = from.form;
+    let mut at = from.at;
+    let mut counts = from.counts;
+    if !resumable(journal.len(), at, form, counts) {
         return Played {
             progress: Progress::Unfit,
             written: 0,
             checkpoint: from,
         };
     }
-    let form = from.form;
-    let mut at = from.at;
-    let mut counts = from.counts;
     let mut s = from.state;
     let mut used: usize = 0;
     let opening = s.opening;
-    let cores = s.core;
-    let lines = s.line;
-    let base = refusals::machine_refusal(opening, cores, lines, private.len(), shared.len());
+    let base = one_line::base_of(s, private.len(), shared.len());
     loop {
         let mut bytes = [0u8; 128];
         match one_line::due(journal, at, form, base, opening, &mut bytes) {
@@ -172,11 +167,10 @@ pub fn play(
                 let d = tables::effect(number, call, k, copy, line, opening);
                 let answer = d.answer;
                 let met = one_line::met(counts, call, answer);
-                let place = met.steps;
                 match one_line::put_answer(
                     out,
                     used,
-                    place,
+                    met,
                     act,
                     answer,
                     &bytes[0..count],

@@ -3,12 +3,13 @@
 ghost use mathlib.Core.{Path._≡_, Bool.true, List.[]};
 ghost use Prim.Native.Nat.{_-_, _≤_, _<_};
 ghost use lib.ListN.{length};
-ghost use Rattle.protocol.specs.{Buffers.part, Refusals.{callRefusal, orElse}, Run.place, Counts.{countsOf, plus}, Step.{done, meaning}};
+ghost use Rattle.protocol.specs.{Buffers.part, Refusals.{machineRefusal, callRefusal, orElse}, Run.place, Counts.{countsOf, plus}, Step.{done, meaning}};
+ghost use Rattle.refusals.specs.Input.{machineWith};
 ghost use Rattle.spelling.specs.Over.{PutAt};
 ghost use Rattle.listing.specs.Record.{recordText};
-ghost use Rattle.driver.specs.{Listing.{stopLines, lastLines, notOpened}, Play.{few, unopened}};
+ghost use Rattle.driver.specs.{Listing.{stopLines, lastLines, notOpened}, Play.{few, firstCheckpoint, unopened}};
 ghost use Rattle.driver.specs.Pieces.{isStore, Digits, Decodes, DueAt, answerLine, Shows, endingOf, Numbered, checkpointAt, playedBy, Puts};
-ghost use Rattle.driver.specs.Pieces.{refusedBy, openedBy};
+ghost use Rattle.driver.specs.Pieces.{progressBy, writtenBy, refusedBy, openedBy};
 use super::Checkpoint;
 use super::Due;
 use super::Last;
@@ -25,6 +26,16 @@ use protocol::Place;
 use protocol::State;
 use spelling::Decoded;
 use spelling::Put;
+
+// The first of 1 and 2 that applies to a state and buffers of so many bytes, or 0.
+pub(crate) fn base_of(state: State, private: usize, shared: usize) -> u8
+    ensures { λ r. ⌜ r ≡ machineRefusal (machineWith (state .opening) (state .core) (state .line) «private» shared) ⌝ }
+{
+    let opening = state.opening;
+    let cores = state.core;
+    let lines = state.line;
+    refusals::machine_refusal(opening, cores, lines, private, shared)
+}
 
 // The first of 1 to 6 that applies, or 0 where none does; `base` is 1, 2 or 0.
 fn number_of(base: u8, call: Call, opening: Opening, count: usize) -> u8
@@ -121,11 +132,11 @@ fn is_store(act: Act) -> bool
     }
 }
 
-// The line of a call's answer at place n, for core c and line l: a store's bytes are those given, a load's those of the copy.
+// The line of a call's answer, the last one met, for core c and line l: a store's bytes are those given, a load's those of the copy.
 pub(crate) fn put_answer(
     out: &mut [u8],
     at: usize,
-    n: u64,
+    met: Counts,
     act: Act,
     answer: Answer,
     given: &[u8],
@@ -135,16 +146,16 @@ pub(crate) fn put_answer(
     l: usize,
 ) -> Put
     requires { ⌜ Shows answer opening c l (length (now «private»)) ⌝ }
-    ensures { λ r. ⌜ PutAt (now (out .entry)) at (answerLine n act answer (now (given .entry)) opening (now («private» .entry)) c l) (now (out .exit)) r ⌝ }
+    ensures { λ r. ⌜ PutAt (now (out .entry)) at (answerLine (met .steps) act answer (now (given .entry)) opening (now («private» .entry)) c l) (now (out .exit)) r ⌝ }
 {
     if is_store(act) {
-        return listing::put_record(out, at, Place(n), answer, given);
+        return listing::put_record(out, at, Place(met.steps), answer, given);
     }
     let copy = buffers::copy_start(opening, c, l);
     let span = tables::span_of(answer, copy, opening.width);
     let start = span.start;
     let end = start + span.count;
-    listing::put_record(out, at, Place(n), answer, &private[start..end])
+    listing::put_record(out, at, Place(met.steps), answer, &private[start..end])
 }
 
 // The last lines of a run that a refused line ends, where they fit; `counts` has that line, whose place is
@@ -202,6 +213,25 @@ fn checkpoint(at: usize, form: u32, counts: Counts, state: State) -> Checkpoint
     }
 }
 
+// Whether a run goes on, and how much is written, after its next piece was put, or had no room.
+fn progress_by(put: Put) -> Progress
+    ensures { λ r. ⌜ r ≡ progressBy put ⌝ }
+{
+    match put {
+        Put::End(_) => Progress::Finished,
+        Put::Short => Progress::More,
+    }
+}
+
+fn written_by(put: Put, used: usize) -> usize
+    ensures { λ r. ⌜ r ≡ writtenBy put used ⌝ }
+{
+    match put {
+        Put::End(e) => e,
+        Put::Short => used,
+    }
+}
+
 // How far a call came whose next piece was put, or had no room.
 pub(crate) fn played(
     put: Put,
@@ -213,17 +243,23 @@ pub(crate) fn played(
 ) -> Played
     ensures { λ r. ⌜ r ≡ playedBy put used (checkpointAt at form counts state) ⌝ }
 {
-    match put {
-        Put::End(e) => Played {
-            progress: Progress::Finished,
-            written: e,
-            checkpoint: checkpoint(at, form, counts, state),
-        },
-        Put::Short => Played {
-            progress: Progress::More,
-            written: used,
-            checkpoint: checkpoint(at, form, counts, state),
-        },
+    Played {
+        progress: progress_by(put),
+        written: written_by(put, used),
+        checkpoint: checkpoint(at, form, counts, state),
+    }
+}
+
+// How far a call came with nothing met yet, and the fresh state of an opening.
+fn first(progress: Progress, written: usize, at: usize, form: u32, opening: Opening) -> Played
+    ensures { λ r. ⌜ r ≡ record { progress = progress; written = written; checkpoint = firstCheckpoint at form opening } ⌝ }
+{
+    let state = State::fresh(opening);
+    let none = Counts::NONE;
+    Played {
+        progress,
+        written,
+        checkpoint: checkpoint(at, form, none, state),
     }
 }
 
@@ -231,14 +267,7 @@ pub(crate) fn played(
 fn unopened(progress: Progress, written: usize) -> Played
     ensures { λ r. ⌜ r ≡ record { progress = progress; written = written; checkpoint = unopened } ⌝ }
 {
-    let smallest = Opening::smallest();
-    let state = State::fresh(smallest);
-    let none = Counts::NONE;
-    Played {
-        progress,
-        written,
-        checkpoint: checkpoint(0, 0, none, state),
-    }
+    first(progress, written, 0, 0, Opening::smallest())
 }
 
 // The listing of a journal that opens no engine, where it fits.
@@ -263,15 +292,7 @@ pub(crate) fn open(out: &mut [u8], at: usize, form: u32, opening: Opening) -> Pl
 {
     let nothing = [0u8; 1];
     match listing::put_record(out, 0, Place(0), Answer::Done(Name::Open), &nothing[0..0]) {
-        Put::End(e) => {
-            let state = State::fresh(opening);
-            let none = Counts::NONE;
-            Played {
-                progress: Progress::More,
-                written: e,
-                checkpoint: checkpoint(at, form, none, state),
-            }
-        }
+        Put::End(e) => first(Progress::More, e, at, form, opening),
         Put::Short => unopened(Progress::Short, 0),
     }
 }

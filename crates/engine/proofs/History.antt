@@ -5,12 +5,12 @@ use native.Mathlib.Omega.{arith}
 use lib.Dec.{eqb}
 use borrow.Author.Tests.{eqb-true}
 use Rattle.protocol.specs.{Pick.pick, Machine.{Machine, freshMachine}, Refusals.openRefusal, Step.{Reply, refused, done, meaning}}
-use Rattle.protocol.specs.{declared.Name.the-variants.Open, Run.{Given, Record, place, run}}
+use Rattle.protocol.specs.{declared.Name.the-variants.Open, Run.{Entry, Record, place, run}}
 use Rattle.protocol.proofs.Order.Theorem.{open-theorem, order-theorem, sort-theorem}
 use Rattle.engine.specs.History.{Made, MadeFrom, none, next, recordsOf, HistoryTheorem}
 
 -- what the calls were given
-givens : List Made → List Given
+givens : List Made → List Entry
 givens [] = []
 givens (e ∷ es) = e .given ∷ givens es
 

@@ -6,7 +6,7 @@ use lib.ListN.{length, set, length-replicate}
 use Rattle.protocol.specs.{Pick.pick, Buffers.{Bytes, copyStart}, Machine.{machine, piecesAt, cellOf, applied}, Refusals.{stateFits, machineRefusal}}
 use Rattle.protocol.specs.{Step.accepted, declared.{State.State, Call.Call}}
 use Rattle.refusals.specs.Input.{machineWith, inputRefusal}
-use Rattle.buffers.specs.Moves.{placeFits}
+use Rattle.buffers.specs.Moves.{isThere}
 use Rattle.tables.{specs.{declared.Span.Span, Found.effectWith}, proofs.Making.{Finds, is-step, is-moved, is-reply, is-span}}
 use Rattle.engine.specs.{declared.Made.Made, Pieces.MadeBy, Calls.Performs}
 
@@ -36,7 +36,7 @@ module _ (s : State) (p q : Bytes) (call : Call) (given : Bytes) (n : ℕ) (e : 
       let m = machine s p q in
       let b = is-moved m call given n here v c l f p' q' (u .buffers) in
       let w = is-step m call given n here v c l f in
-      let start = pick (placeFits (s .opening) c l) (copyStart (s .opening) c l) 0 in
+      let start = pick (isThere (s .opening) c l) (copyStart (s .opening) c l) 0 in
       let y = rw (u .answer) at (u .span) in
       record {
         reply = rw (u .answer, b .0, ap (λ (x : Span). x .start) y, ap (λ (x : Span). x .count) y) (is-reply m call given n here v c l f start refl);

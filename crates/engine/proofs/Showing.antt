@@ -5,11 +5,11 @@ use native.Mathlib.Omega.{arith}
 use lib.ListN.{length, length-replicate}
 use borrow.Author.Tests.{ne-eqb}
 use denote.Ref.{RefT, now}
-use Rattle.protocol.specs.{Pick.pick, Buffers.{Bytes, copyStart, managerStart, Placed}, Machine.{Machine, machine, copyAt}}
+use Rattle.protocol.specs.{Pick.pick, Buffers.{Bytes, copyStart, managerStart, There}, Machine.{Machine, machine, copyAt}}
 use Rattle.protocol.specs.{Refusals.{machineRefusal, stateFits, isHeld}, Step.{shown, showRefusal}, declared.{State.State, Call.the-variants.Load}}
-use Rattle.protocol.proofs.Refusals.{Fit, or-none, machine-fit, placed}
+use Rattle.protocol.proofs.Refusals.{Fit, or-none, machine-fit, call-there}
 use Rattle.refusals.specs.Input.{machineWith, inputRefusal}
-use Rattle.buffers.{specs.Moves.placeFits, proofs.Laws.{placed-place, place-start}}
+use Rattle.buffers.{specs.Moves.isThere, proofs.Laws.{from-there, start-there}}
 use Rattle.engine.specs.Calls.{PartOf, Shows}
 
 -- the part of so many bytes is the part up to their end
@@ -34,21 +34,21 @@ module _ (s : State) (p q : RefT Bytes) (c l n : ℕ) (e : n ≡ inputRefusal (l
     fit : Fit (machine s (now p) (now q))
     fit = machine-fit (machine s (now p) (now q)) (or-none (machineRefusal (machine s (now p) (now q))) _ (sym here ∙ z) .0)
 
-    pub there : Placed (s .opening) c l
-    there = placed fit (Load c l) 0 (or-none (machineRefusal (machine s (now p) (now q))) _ (sym here ∙ z) .1)
+    pub there : There (s .opening) c l
+    there = call-there fit (Load c l) 0 (or-none (machineRefusal (machine s (now p) (now q))) _ (sym here ∙ z) .1)
 
     -- a start as crate `places` gives it
-    exact : (a start : ℕ) → start ≡ pick (placeFits (s .opening) c l) a 0 → start ≡ a
-    exact = place-start (s .opening) c l (placed-place (fit .opening) there)
+    exact : (a start : ℕ) → start ≡ pick (isThere (s .opening) c l) a 0 → start ≡ a
+    exact = start-there (s .opening) c l (from-there (fit .opening) there)
 
     pub shows-copy :
-        isHeld (copyAt s c l) ≡ true → (start : ℕ) → start ≡ pick (placeFits (s .opening) c l) (copyStart (s .opening) c l) 0
+        isHeld (copyAt s c l) ≡ true → (start : ℕ) → start ≡ pick (isThere (s .opening) c l) (copyStart (s .opening) c l) 0
         → (r : RefT Bytes) → PartOf p start (s .opening .width) r → Shows s p q c l r
     unfolding shown
     shows-copy h start a r b = rw (← here, z, h, ← exact _ start a) (counted p r start (s .opening .width) b)
 
     pub shows-manager :
-        isHeld (copyAt s c l) ≡ false → (start : ℕ) → start ≡ pick (placeFits (s .opening) c l) (managerStart (s .opening) l) 0
+        isHeld (copyAt s c l) ≡ false → (start : ℕ) → start ≡ pick (isThere (s .opening) c l) (managerStart (s .opening) l) 0
         → (r : RefT Bytes) → PartOf q start (s .opening .width) r → Shows s p q c l r
     unfolding shown
     shows-manager h start a r b = rw (← here, z, h, ← exact _ start a) (counted q r start (s .opening .width) b)

@@ -7,11 +7,11 @@ use Rattle.protocol.specs.{Buffers.{Bytes, part, copyStart}, Machine.{Machine, 
 use Rattle.protocol.specs.{Step.{meaning, openReply, opened, step, Buffer, inPrivate, inShared, Shown, shown}, declared.Opening.Opening}
 use Rattle.protocol.specs.declared.{State.State, Call.Call}
 use Rattle.tables.specs.Spans.{spanOf}
-use Rattle.engine.specs.declared.{Opened.Opened, Done.Done}
+use Rattle.engine.specs.declared.{Opened.Opened, Returned.Returned}
 
 -- a call on the machine m that returns r and leaves the buffers p and q: answer, commit's bytes, state and both buffers are those of `step`;
 -- `given` are the bytes given to a store
-pub record Performs (m : Machine) (call : Call) (given : Bytes) (r : Done) (p q : Bytes) : Type 0 where
+pub record Performs (m : Machine) (call : Call) (given : Bytes) (r : Returned) (p q : Bytes) : Type 0 where
   pub reply : meaning (r .answer) (part p (r .start) (r .count)) ≡ step m call given .reply
   pub machine : machine (r .state) p q ≡ step m call given .machine
   pub span :
@@ -19,7 +19,7 @@ pub record Performs (m : Machine) (call : Call) (given : Bytes) (r : Done) (p q 
       ≡ spanOf (r .answer) (copyStart (m .state .opening) (coreOf call (m .state)) (lineOf call (m .state))) (m .state .opening .width)
 
 -- what each call promises: the same of the lent buffers, as they come and as they are left
-abbrev pub Makes : Call → Bytes → State → RefT Bytes → RefT Bytes → Done → RefT Bytes → RefT Bytes → Type 0
+abbrev pub Makes : Call → Bytes → State → RefT Bytes → RefT Bytes → Returned → RefT Bytes → RefT Bytes → Type 0
 Makes call given s p q r p' q' = Performs (machine s (now p) (now q)) call given r (now p') (now q')
 
 -- open: the answer in the scope document's terms, and the fresh state

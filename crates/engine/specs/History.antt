@@ -4,14 +4,14 @@ use Prim.Native.Nat.{ℕ, suc}
 use mathlib.Core.{Path._≡_, List.{List, [], _∷_}}
 use lib.ListN.{replicate}
 use Rattle.protocol.specs.{Buffers.{Bytes, part, privateLength, sharedLength}, Machine.{Machine, machine}, Step.{Reply, meaning}}
-use Rattle.protocol.specs.{Run.{Given, Record, place, Commit, commits}, Order.{Before, TSO, StrictTotal}, declared.Opening.Opening}
+use Rattle.protocol.specs.{Run.{Entry, Record, place, Commit, commits}, Order.{Before, TSO, StrictTotal}, declared.Opening.Opening}
 use Rattle.protocol.specs.declared.{Answer.the-variants.Done as Named, Name.the-variants.Open}
-use Rattle.engine.specs.{declared.{Done.Done, Opened.Opened}, Calls.{Opens, Performs}}
+use Rattle.engine.specs.{declared.{Returned.Returned, Opened.Opened}, Calls.{Opens, Performs}}
 
 -- a call that was made: the call with the bytes given to it, what it returned, and both buffers as it left them
 pub record Made : Type 0 where
-  pub given : Given
-  pub returned : Done
+  pub given : Entry
+  pub returned : Returned
   pub private : Bytes
   pub shared : Bytes
 

@@ -3,7 +3,7 @@ use Prim.Native.Nat.{ℕ}
 use mathlib.Core.Path.{_≡_}
 use denote.Ref.{RefT, now}
 use Rattle.protocol.specs.{Pick.pick, Buffers.{Bytes, copyStart}, Machine.Pieces, declared.{Opening.Opening, Call.Call, Effect.Effect}}
-use Rattle.buffers.specs.Moves.{placeFits, Moves}
+use Rattle.buffers.specs.Moves.{isThere, Moves}
 use Rattle.tables.specs.{Found.effectWith, Spans.spanOf}
 use Rattle.engine.specs.declared.Made.{Made}
 
@@ -14,7 +14,7 @@ pub record MadeBy (d : Effect) (o : Opening) (c l : ℕ) (given p q : Bytes) (r 
   pub core : r .core ≡ d .core
   pub cell : r .cell .copy ≡ d .copy
   pub line : r .line ≡ d .line
-  pub span : record { start = r .start; count = r .count } ≡ spanOf (r .answer) (pick (placeFits o c l) (copyStart o c l) 0) (o .width)
+  pub span : record { start = r .start; count = r .count } ≡ spanOf (r .answer) (pick (isThere o c l) (copyStart o c l) 0) (o .width)
   pub buffers : Moves (d .moves) o c l given p q p' q'
 
 -- the same of a call's effect on the pieces x, where n is the first of 1 to 6 that applies, or 0, and of lent buffers

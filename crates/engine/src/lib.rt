@@ -13,26 +13,26 @@ use protocol::Call;
 use protocol::Cell;
 use protocol::Copy;
 use protocol::Core;
-use protocol::Line;
+use protocol::ManagerLine;
 use protocol::Name;
 use protocol::Opening;
 use protocol::State;
 
 // What a call makes of the pieces that it looks at: one core, its copy of one line, the manager's
-// line. `start` and `count` are those of `Done`.
+// line. `start` and `count` are those of `Returned`.
 struct Made {
     answer: Answer,
     start: usize,
     count: usize,
     core: Core,
     cell: Cell,
-    line: Line,
+    line: ManagerLine,
 }
 
 // What a call gives: its answer, the state, and where the bytes of a load's or a store's commit lie
 // in the private buffer as the call leaves it: `count` of them from `start`, 0 and 0 beside any
 // other answer.
-pub struct Done {
+pub struct Returned {
     pub answer: Answer,
     pub start: usize,
     pub count: usize,
@@ -47,7 +47,7 @@ fn on_pieces(
     opening: Opening,
     k: Core,
     copy: Copy,
-    m: Line,
+    m: ManagerLine,
     private: &mut [u8],
     shared: &mut [u8],
     c: usize,
@@ -77,7 +77,7 @@ fn on_pieces(
 
 // Makes a call; `given` are the bytes given to a store, which any other call passes over. A refused call
 // takes the same way: its pieces are written back as they are.
-pub fn step(s: State, private: &mut [u8], shared: &mut [u8], call: Call, given: &[u8]) -> Done
+pub fn step(s: State, private: &mut [u8], shared: &mut [u8], call: Call, given: &[u8]) -> Returned
     ensures { λ r. ⌜ Makes call (now (given .entry)) s («private» .entry) (shared .entry) r («private» .exit) (shared .exit) ⌝ }
 {
     let opening = s.opening;
@@ -113,7 +113,7 @@ pub fn step(s: State, private: &mut [u8], shared: &mut [u8], call: Call, given: 
     next.core[c] = core;
     next.cell[i] = cell;
     next.line[l] = line;
-    Done {
+    Returned {
         answer,
         start: made.start,
         count: made.count,
@@ -122,7 +122,7 @@ pub fn step(s: State, private: &mut [u8], shared: &mut [u8], call: Call, given: 
 }
 
 // A core loads a line.
-pub fn load(s: State, private: &mut [u8], shared: &mut [u8], core: usize, line: usize) -> Done
+pub fn load(s: State, private: &mut [u8], shared: &mut [u8], core: usize, line: usize) -> Returned
     ensures { λ r. ⌜ Makes (Call.Load core line) [] s («private» .entry) (shared .entry) r («private» .exit) (shared .exit) ⌝ }
 {
     step(s, private, shared, Call::Load { core, line }, b"")
@@ -136,56 +136,56 @@ pub fn store(
     core: usize,
     line: usize,
     given: &[u8],
-) -> Done
+) -> Returned
     ensures { λ r. ⌜ Makes (Call.Store core line) (now (given .entry)) s («private» .entry) (shared .entry) r («private» .exit) (shared .exit) ⌝ }
 {
     step(s, private, shared, Call::Store { core, line }, given)
 }
 
 // A core's later loads come after its earlier stores.
-pub fn fence(s: State, private: &mut [u8], shared: &mut [u8], core: usize) -> Done
+pub fn fence(s: State, private: &mut [u8], shared: &mut [u8], core: usize) -> Returned
     ensures { λ r. ⌜ Makes (Call.Fence core) [] s («private» .entry) (shared .entry) r («private» .exit) (shared .exit) ⌝ }
 {
     step(s, private, shared, Call::Fence { core }, b"")
 }
 
 // A core gives its copy of a line up.
-pub fn evict(s: State, private: &mut [u8], shared: &mut [u8], core: usize, line: usize) -> Done
+pub fn evict(s: State, private: &mut [u8], shared: &mut [u8], core: usize, line: usize) -> Returned
     ensures { λ r. ⌜ Makes (Call.Evict core line) [] s («private» .entry) (shared .entry) r («private» .exit) (shared .exit) ⌝ }
 {
     step(s, private, shared, Call::Evict { core, line }, b"")
 }
 
 // A core's clock of loads grows.
-pub fn advance(s: State, private: &mut [u8], shared: &mut [u8], core: usize, by: u32) -> Done
+pub fn advance(s: State, private: &mut [u8], shared: &mut [u8], core: usize, by: u32) -> Returned
     ensures { λ r. ⌜ Makes (Call.Advance core by) [] s («private» .entry) (shared .entry) r («private» .exit) (shared .exit) ⌝ }
 {
     step(s, private, shared, Call::Advance { core, by }, b"")
 }
 
 // The manager serves the request of a core.
-pub fn serve(s: State, private: &mut [u8], shared: &mut [u8], core: usize) -> Done
+pub fn serve(s: State, private: &mut [u8], shared: &mut [u8], core: usize) -> Returned
     ensures { λ r. ⌜ Makes (Call.Serve core) [] s («private» .entry) (shared .entry) r («private» .exit) (shared .exit) ⌝ }
 {
     step(s, private, shared, Call::Serve { core }, b"")
 }
 
 // A core receives the answer to its request.
-pub fn receive(s: State, private: &mut [u8], shared: &mut [u8], core: usize) -> Done
+pub fn receive(s: State, private: &mut [u8], shared: &mut [u8], core: usize) -> Returned
     ensures { λ r. ⌜ Makes (Call.Receive core) [] s («private» .entry) (shared .entry) r («private» .exit) (shared .exit) ⌝ }
 {
     step(s, private, shared, Call::Receive { core }, b"")
 }
 
 // The owner of a recalled line yields it; `yield` alone is a reserved word.
-pub fn yield_line(s: State, private: &mut [u8], shared: &mut [u8], line: usize) -> Done
+pub fn yield_line(s: State, private: &mut [u8], shared: &mut [u8], line: usize) -> Returned
     ensures { λ r. ⌜ Makes (Call.Yield line) [] s («private» .entry) (shared .entry) r («private» .exit) (shared .exit) ⌝ }
 {
     step(s, private, shared, Call::Yield { line }, b"")
 }
 
 // The manager takes a line's writeback.
-pub fn take(s: State, private: &mut [u8], shared: &mut [u8], line: usize) -> Done
+pub fn take(s: State, private: &mut [u8], shared: &mut [u8], line: usize) -> Returned
     ensures { λ r. ⌜ Makes (Call.Take line) [] s («private» .entry) (shared .entry) r («private» .exit) (shared .exit) ⌝ }
 {
     step(s, private, shared, Call::Take { line }, b"")
@@ -267,7 +267,7 @@ pub fn show<'a>(s: State, private: &'a [u8], shared: &'a [u8], core: usize, line
     part(shared, start, width)
 }
 
-// The bytes of a commit: `count` of them from `start` in the private buffer, as `Done` says where a
+// The bytes of a commit: `count` of them from `start` in the private buffer, as `Returned` says where a
 // call made one. For any start and count it is that part, as far as the buffer has it.
 pub fn commit_bytes(private: &[u8], start: usize, count: usize) -> &[u8]
     ensures { λ r. ⌜ PartOf («private» .entry) start count r ⌝ }

@@ -7,7 +7,7 @@ use lib.{Dec.{ltb, lit≤}, ListN.{length, take, drop}, Seq.{getD-take, getD-dro
 use borrow.Author.Tests.{ltb-true}
 use Rattle.protocol.specs.declared.Opening.{Opening as Sizes}
 use Rattle.grammar.specs.Table.{Numbered, Says, opens, calls, Row, rowsOf, noRow, rowAt, table, stepCount, openingCount, rowCount, formCount}
-use Rattle.grammar.specs.{Table.{fromOf, toOf}, Line.Fits}
+use Rattle.grammar.specs.{Table.{fromOf, toOf}, Line.Matches}
 use Rattle.grammar.proofs.{Fit.Shaped, Rows.{entry-at, both, every, every-at}}
 
 -- ---- the rows of each form are one part of the table
@@ -29,7 +29,7 @@ row-in form k h =
     ap (λ (l : List Row). rowAt l k) (r .same) ∙ getD-take (toOf form - fromOf form) (drop (fromOf form) table) k noRow (rw (← r .count) h) ∙ getD-drop (fromOf form) table k noRow
 
 -- no form is known beyond the last
-pub no-row : (form : ℕ) (s : List ℕ) → formCount ≤ form → (k : ℕ) (vs : List (List ℕ)) → Fits (rowsOf form) s k vs → ⊥
+pub no-row : (form : ℕ) (s : List ℕ) → formCount ≤ form → (k : ℕ) (vs : List (List ℕ)) → Matches (rowsOf form) s k vs → ⊥
 no-row zero s h k vs f = absurd (omega arith)
 no-row (suc zero) s h k vs f = absurd (omega arith)
 no-row (suc (suc form)) s h k vs f = omega (arith, f .listed)

@@ -6,9 +6,9 @@ use lib.{ListN.{length, getD, drop, List·getD-append, List·getD-eq-default}}
 use lib.Seq.{sets, sets-eq, getD-append-add, getD-drop}
 use Rattle.spelling.{specs.Hex.hex, proofs.{Lists.le-or-lt, Decide.{Told, same-number}}}
 use Rattle.grammar.specs.{Form.{Part, fixed, value, number, pairs, Has, Given}, Table.{Row, rowAt, table, rowCount, numberCount}}
-use Rattle.grammar.specs.Line.{said, Fits, LineOf, noForm, wrongNumber, wrongData, spelt}
-use Rattle.grammar.specs.Scan.{zeros, RowAt, Reads, formOf, valuesIn, nothingRead}
-use Rattle.grammar.specs.{Scan.{Fails, FoundIn, nowhere, here, answerOf, Placed}, declared.Found.Found}
+use Rattle.grammar.specs.Line.{said, Matches, LineOf, noForm, wrongNumber, wrongData, spelt}
+use Rattle.grammar.specs.Scan.{zeros, RowAt, Scans, formOf, valuesIn, nothingRead}
+use Rattle.grammar.specs.{Scan.{Fails, FoundIn, nowhere, here, answerOf, RowFound}, declared.Found.Found}
 use Rattle.grammar.proofs.{Outcome.{Outcome, fails, badNumber, badData, fine, outcome-of, fails-of}, Rows.{lineTag, entry-at, same-tag}}
 
 -- ---- the numbers that were read, as the row's numbers
@@ -57,10 +57,10 @@ module _ (rows : List Row) (from to : ℕ) (count : length rows ≡ to - from) (
       let n : from + (row - from) ≡ row = omega arith in
       same (row - from) (omega arith) ∙ ap (rowAt table) n
 
-  part-fits : (s : List ℕ) (vs : List (List ℕ)) (row : ℕ) → from ≤ row → row < to → Has s (formOf row) vs → Fits rows s (row - from) vs
+  part-fits : (s : List ℕ) (vs : List (List ℕ)) (row : ℕ) → from ≤ row → row < to → Has s (formOf row) vs → Matches rows s (row - from) vs
   part-fits s vs row a b h = record { listed = omega arith; has = rw (part-row row a b) h }
 
-  no-fit : (s : List ℕ) → ((k : ℕ) → from ≤ k → k < to → Fails s (formOf k)) → (k : ℕ) (vs : List (List ℕ)) → Fits rows s k vs → ⊥
+  no-fit : (s : List ℕ) → ((k : ℕ) → from ≤ k → k < to → Fails s (formOf k)) → (k : ℕ) (vs : List (List ℕ)) → Matches rows s k vs → ⊥
   no-fit s n k vs f = n (from + k) (omega arith) (omega (arith, f .listed)) vs (subst (λ (r : Row). Has s (r .form) vs) (same k (f .listed)) (f .has))
 
   found-answer : (s : List ℕ) (f : Found) → length s ≤ 200 → from ≤ f .row → f .row < to → Outcome s s (formOf (f .row)) (nothingRead s) (f .values) → (f .values .fault ≡ 11 → ⊥) → LineOf rows s (answerOf f (length s))
@@ -89,9 +89,9 @@ module _ (rows : List Row) (from to : ℕ) (count : length rows ≡ to - from) (
   answer-line s f l (here a b d x) = found-answer s f l a b (outcome-of s (formOf (f .row)) (f .values) (entry-at (f .row) (omega arith) .shape) d) x
 
 -- a row that was found is one of the table's
-pub placed : (s : List ℕ) (from to : ℕ) (f : Found) → to ≤ rowCount → FoundIn s from to f → Placed f
-placed s from to f h (nowhere e n) z = absurd (omega (arith, e, z))
-placed s from to f h (here a b d x) z = omega arith
+pub row-found : (s : List ℕ) (from to : ℕ) (f : Found) → to ≤ rowCount → FoundIn s from to f → RowFound f
+row-found s from to f h (nowhere e n) z = absurd (omega (arith, e, z))
+row-found s from to f h (here a b d x) z = omega arith
 
 -- ---- which row was found
 
@@ -106,7 +106,7 @@ none-short s from to h l k a b vs f = omega (arith, same-tag k s vs (omega arith
 
 pub found-by :
     (s : List ℕ) (from to : ℕ) (f : Found) → to ≤ rowCount → RowAt (lineTag s) (f .row) → from ≤ f .row → f .row < to
-    → Reads s (formOf (f .row)) 0 (nothingRead s) (f .values) → FoundIn s from to f
+    → Scans s (formOf (f .row)) 0 (nothingRead s) (f .values) → FoundIn s from to f
 found-by s from to f h o a b d = by (same-number (f .values .fault) 11)
   where
     fail : f .values .fault ≡ 11 → (k : ℕ) → from ≤ k → k < to → Fails s (formOf k)

@@ -5,9 +5,9 @@ use native.Mathlib.Omega.{arith}
 use lib.ListN.{length, getD}
 use Rattle.spelling.{specs.{Decimal.IsNumber, Hex.IsData, One.One}, proofs.{Lists.le-or-lt, Decide.{Told, same-number, number-told, data-told}}}
 use Rattle.spelling.proofs.Split.{upTo-within}
-use Rattle.grammar.specs.{Form.{Part, fixed, value, number, pairs, Has}, Table.{Row, rowAt, rowsOf, table, rowCount, fromOf, toOf}, Line.{Fits, LineOf, tooLong}}
+use Rattle.grammar.specs.{Form.{Part, fixed, value, number, pairs, Has}, Table.{Row, rowAt, rowsOf, table, rowCount, fromOf, toOf}, Line.{Matches, LineOf, tooLong}}
 use Rattle.grammar.specs.Theorems.{OneAnswerTheorem}
-use Rattle.grammar.specs.Scan.{valueAt, formOf, Reads, right, wrong, ended, longer, same, other, aValue}
+use Rattle.grammar.specs.Scan.{valueAt, formOf, Scans, right, wrong, ended, longer, same, other, aValue}
 use Rattle.grammar.specs.Scan.{nothingRead, withNumber, withoutNumber, withData, withoutData, Fails, FoundIn, nowhere, here}
 use Rattle.grammar.specs.declared.{Line.Line, Values.Values, Found.Found}
 use Rattle.grammar.proofs.{Fit.Shaped, Outcome.fails-of, Rows.{letters, lineTag, entry-at, row-told}, Judge.answer-line, Forms.{ranged, row-in}}
@@ -18,27 +18,27 @@ use Rattle.grammar.proofs.Unique.{same-answer}
 noneRead : Values
 noneRead = record { fault = 11; count = 0; number = []; start = 0 }
 
-reads-some : (s : List ℕ) (p : List Part) (at : ℕ) (v : Values) → at ≤ length s → (r : Values) × Reads s p at v r
+reads-some : (s : List ℕ) (p : List Part) (at : ℕ) (v : Values) → at ≤ length s → (r : Values) × Scans s p at v r
 unfolding noneRead
 reads-some s [] at v h = go (le-or-lt (length s) at)
   where
-    go : (length s ≤ at) ⊎ (at < length s) → (r : Values) × Reads s [] at v r
+    go : (length s ≤ at) ⊎ (at < length s) → (r : Values) × Scans s [] at v r
     go (inl l) = (v, ended {at = at} (omega arith))
     go (inr l) = (noneRead, longer l refl)
 reads-some s (fixed b ∷ p) at v h = go (le-or-lt (length s) at) (same-number (getD s at 0) b) (λ l. reads-some s p (at + 1) v (omega arith))
   where
-    go : (length s ≤ at) ⊎ (at < length s) → Told (getD s at 0 ≡ b) → (at < length s → (r : Values) × Reads s p (at + 1) v r) → (r : Values) × Reads s (fixed b ∷ p) at v r
+    go : (length s ≤ at) ⊎ (at < length s) → Told (getD s at 0 ≡ b) → (at < length s → (r : Values) × Scans s p (at + 1) v r) → (r : Values) × Scans s (fixed b ∷ p) at v r
     go (inl l) t d = (noneRead, other (λ (k : at < length s) (e : getD s at 0 ≡ b). omega arith) refl)
     go (inr l) (inl e) d = (d l .0, same l e (d l .1))
     go (inr l) (inr n) d = (noneRead, other (λ k e. n e) refl)
 reads-some s (value number ∷ p) at v h = go (number-told (valueAt s at)) (λ w. reads-some s p (at + length (valueAt s at)) w (upTo-within 32 s at h))
   where
-    go : Told (IsNumber (valueAt s at)) → ((w : Values) → (r : Values) × Reads s p (at + length (valueAt s at)) w r) → (r : Values) × Reads s (value number ∷ p) at v r
+    go : Told (IsNumber (valueAt s at)) → ((w : Values) → (r : Values) × Scans s p (at + length (valueAt s at)) w r) → (r : Values) × Scans s (value number ∷ p) at v r
     go (inl n) d = (d (withNumber v (n .0)) .0, aValue {q = number} (right (n .0) (n .1) (n .2) refl) (d (withNumber v (n .0)) .1))
     go (inr n) d = (d (withoutNumber v) .0, aValue {q = number} (wrong n refl) (d (withoutNumber v) .1))
 reads-some s (value pairs ∷ p) at v h = go (data-told (valueAt s at)) (λ w. reads-some s p (at + length (valueAt s at)) w (upTo-within 32 s at h))
   where
-    go : Told (IsData (valueAt s at)) → ((w : Values) → (r : Values) × Reads s p (at + length (valueAt s at)) w r) → (r : Values) × Reads s (value pairs ∷ p) at v r
+    go : Told (IsData (valueAt s at)) → ((w : Values) → (r : Values) × Scans s p (at + length (valueAt s at)) w r) → (r : Values) × Scans s (value pairs ∷ p) at v r
     go (inl n) d = (d (withData v at) .0, aValue {q = pairs} (right n refl) (d (withData v at) .1))
     go (inr n) d = (d (withoutData v) .0, aValue {q = pairs} (wrong n refl) (d (withoutData v) .1))
 
@@ -63,11 +63,11 @@ found-some s (suc n) from h = go (reads-some s (formOf from) 0 (nothingRead s) (
     on x f (nowhere e g) = nowhere e (λ k a b. past k x g a b (which k a))
     on x f (here a b d y) = here (omega arith) (omega arith) d y
 
-    by : (r : Values) → Reads s (formOf from) 0 (nothingRead s) r → Told (r .fault ≡ 11) → (f : Found) × FoundIn s (suc from) (suc from + n) f → (f : Found) × FoundIn s from (from + suc n) f
+    by : (r : Values) → Scans s (formOf from) 0 (nothingRead s) r → Told (r .fault ≡ 11) → (f : Found) × FoundIn s (suc from) (suc from + n) f → (f : Found) × FoundIn s from (from + suc n) f
     by r d (inl e) t = (t .0, on (fails-of s (formOf from) r (entry-at from (omega arith) .shape) d e) (t .0) (t .1))
     by r d (inr y) t = (record { row = from; values = r }, here (omega arith) (omega arith) d y)
 
-    go : (r : Values) × Reads s (formOf from) 0 (nothingRead s) r → (f : Found) × FoundIn s (suc from) (suc from + n) f → (f : Found) × FoundIn s from (from + suc n) f
+    go : (r : Values) × Scans s (formOf from) 0 (nothingRead s) r → (f : Found) × FoundIn s (suc from) (suc from + n) f → (f : Found) × FoundIn s from (from + suc n) f
     go (r, d) t = by r d (same-number (r .fault) 11) t
 
 -- ---- the theorem
@@ -76,10 +76,10 @@ module _ (rows : List Row) (from n : ℕ) (count : length rows ≡ n) (below : f
   shapes : (k : ℕ) → k < length rows → Shaped (rowAt rows k .form)
   shapes k h = rw (part k h) (entry-at (from + k) (omega arith) .shape)
 
-  told : (s : List ℕ) (k : ℕ) (vs : List (List ℕ)) → Fits rows s k vs → getD letters (lineTag s) 0 ≡ 97 + (from + k)
+  told : (s : List ℕ) (k : ℕ) (vs : List (List ℕ)) → Matches rows s k vs → getD letters (lineTag s) 0 ≡ 97 + (from + k)
   told s k vs f = row-told (from + k) s vs (omega (arith, f .listed)) (subst (λ (r : Row). Has s (r .form) vs) (part k (f .listed)) (f .has))
 
-  apart : (s : List ℕ) (j k : ℕ) (vs ws : List (List ℕ)) → Fits rows s j vs → Fits rows s k ws → j ≡ k
+  apart : (s : List ℕ) (j k : ℕ) (vs ws : List (List ℕ)) → Matches rows s j vs → Matches rows s k ws → j ≡ k
   apart s j k vs ws f g = omega (arith, told s j vs f, told s k ws g)
 
   short : (s : List ℕ) → length s ≤ 200 → (a : Line) × LineOf rows s a

@@ -6,7 +6,7 @@ use native.Mathlib.{Omega.arith, Numerals.add-one}
 use lib.{ListN.{length, getD, drop, length-drop, drop-of-length-le}, Seq.{drop-cons, drop-drop, sets}}
 use Rattle.spelling.{specs.{Decimal.{decimal, greatest, IsNumber}, Hex.hex}, proofs.Split.{upTo-split, upTo-within}}
 use Rattle.grammar.specs.Form.{Part, fixed, value, Value, number, pairs, lay, Each, Has, RightNumber, RightData, Given, spellings, spell}
-use Rattle.grammar.specs.Scan.{Fails, valueAt, NumberRead, DataRead, Reads, right, wrong, ended, longer, same, other, ValueRead, aValue}
+use Rattle.grammar.specs.Scan.{Fails, valueAt, NumberRead, DataRead, Scans, right, wrong, ended, longer, same, other, ValueRead, aValue}
 use Rattle.grammar.specs.{Scan.{withNumber, nothingRead}, declared.Values.Values}
 use Rattle.grammar.proofs.Fit.{Shaped, edge-after, shaped-after, ends-here, ends-only, byte-here, byte-only, after, value-here, value-only}
 
@@ -61,7 +61,7 @@ marked-value : (q : Value) (s : List ℕ) (at : ℕ) (p : List Part) {r : Values
 marked-value q s at p h (fails g n) = fails g (not-value q s at p h n)
 marked-value q s at p h (stays vs g n) = stays (valueAt s at ∷ vs) g (has-value q s at p vs n)
 
-marked : {s : List ℕ} {p : List Part} {at : ℕ} {v r : Values} → Reads s p at v r → Shaped p → v .fault ≡ 12 → Marked (drop at s) p r
+marked : {s : List ℕ} {p : List Part} {at : ℕ} {v r : Values} → Scans s p at v r → Shaped p → v .fault ≡ 12 → Marked (drop at s) p r
 marked {s} {at = at} (ended e) h f = stays [] f (ends-here _ (at-end s at e))
 marked {s} {at = at} (longer l e) h f = fails e (not-longer s at l)
 marked {s} {at = at} (same {p = p} {b = b} l e d) h f = up (marked d h f)
@@ -91,7 +91,7 @@ data Last (s : List ℕ) (at : ℕ) (v r : Values) : Type 0 where
   whole : at ≡ length s → r ≡ v → Last s at v r
   more : at < length s → r .fault ≡ 11 → Last s at v r
 
-last : {s : List ℕ} {at : ℕ} {v r : Values} → Reads s [] at v r → Last s at v r
+last : {s : List ℕ} {at : ℕ} {v r : Values} → Scans s [] at v r → Last s at v r
 last (ended e) = whole e refl
 last (longer l e) = more l e
 
@@ -108,7 +108,7 @@ number-up s at {p} h n l e u (badData vs g f k m) = badData (valueAt s at ∷ vs
 number-up s at {p} {v} h n l e u (fine ns bs g k m q a) =
     fine (n ∷ ns) bs g (l, k) (value-rest s at ∙ ap₂ (λ (x y : List ℕ). x ++ y) e m) (q ∙ rw (u, add-one (v .count))) a
 
-pub outcome : {s : List ℕ} {p : List Part} {at : ℕ} {v r : Values} → Reads s p at v r → Shaped p → at ≤ length s → v .fault ≡ 0 → v .start ≡ length s → Outcome s (drop at s) p v r
+pub outcome : {s : List ℕ} {p : List Part} {at : ℕ} {v r : Values} → Scans s p at v r → Shaped p → at ≤ length s → v .fault ≡ 0 → v .start ≡ length s → Outcome s (drop at s) p v r
 unfolding Each Given spellings lay hex
 outcome {s} {at = at} (ended e) h i f g = fine [] [] f (refl, refl) (at-end s at e) refl (omega arith)
 outcome {s} {at = at} (longer l e) h i f g = fails e (not-longer s at l)
@@ -129,7 +129,7 @@ outcome {s} {at = at} {r = r} (aValue {p = p} {q = number} {v = v} {w = w} d t) 
     by : NumberRead v (valueAt s at) w → (w .fault ≡ 0 → w .start ≡ length s → Outcome s (drop (at + length (valueAt s at)) s) p w r) → Outcome s (drop at s) (value number ∷ p) v r
     by (right n l e u) o = number-up s at h n l e u (o (rw u f) (rw u g))
     by (wrong q u) o = bad q (marked t (h .1) (rw u))
-outcome {s} {at = at} {r = r} (aValue {p = p} {q = pairs} {v = v} {w = w} d t) h i f g = by d (last (subst (λ (x : List Part). Reads s x (at + length (valueAt s at)) w r) h t))
+outcome {s} {at = at} {r = r} (aValue {p = p} {q = pairs} {v = v} {w = w} d t) h i f g = by d (last (subst (λ (x : List Part). Scans s x (at + length (valueAt s at)) w r) h t))
   where
     by : DataRead v (valueAt s at) at w → Last s (at + length (valueAt s at)) w r → Outcome s (drop at s) (value pairs ∷ p) v r
     by d (more l e) = fails e (not-value pairs s at p h (rw h (not-longer s (at + length (valueAt s at)) l)))
@@ -139,10 +139,10 @@ outcome {s} {at = at} {r = r} (aValue {p = p} {q = pairs} {v = v} {w = w} d t) h
         badData (valueAt s at ∷ []) (rw (y, u, f)) (has-value pairs s at p [] (rw h (ends-here _ (at-end s _ e)))) (tt, rw h tt) (λ x. q (x .0))
 
 -- what a reading of the whole line shows
-pub outcome-of : (s : List ℕ) (p : List Part) (r : Values) → Shaped p → Reads s p 0 (nothingRead s) r → Outcome s s p (nothingRead s) r
+pub outcome-of : (s : List ℕ) (p : List Part) (r : Values) → Shaped p → Scans s p 0 (nothingRead s) r → Outcome s s p (nothingRead s) r
 outcome-of s p r h d = outcome d h (omega arith) refl refl
 
-pub fails-of : (s : List ℕ) (p : List Part) (r : Values) → Shaped p → Reads s p 0 (nothingRead s) r → r .fault ≡ 11 → Fails s p
+pub fails-of : (s : List ℕ) (p : List Part) (r : Values) → Shaped p → Scans s p 0 (nothingRead s) r → r .fault ≡ 11 → Fails s p
 fails-of s p r h d e = by (outcome-of s p r h d)
   where
     by : Outcome s s p (nothingRead s) r → Fails s p

@@ -6,7 +6,7 @@ use lib.ListN.{length, getD}
 use Rattle.spelling.specs.{Bytes.{All, Byte, upTo}, Decimal.{decimal, greatest}, Hex.{hex, HexDigit}}
 use Rattle.spelling.proofs.{DecimalLaws.{Digit, decimal-digits, decimal-injective}, HexLaws.{hex-digits, hex-injective}}
 use Rattle.grammar.specs.Form.{Part, fixed, value, Value, number, pairs, Each, NoBlank, Has, RightNumber, RightData, Given, spellings, spell}
-use Rattle.grammar.specs.{Table.{Row, rowAt}, Line.{said, Fits, LineOf, tooLong, noForm, wrongNumber, wrongData, spelt}}
+use Rattle.grammar.specs.{Table.{Row, rowAt}, Line.{said, Matches, LineOf, tooLong, noForm, wrongNumber, wrongData, spelt}}
 use Rattle.grammar.specs.declared.Line.{Line, the-variants.Refused}
 use Rattle.grammar.proofs.Fit.{Shaped, edge-after, shaped-after, byte-only, value-only}
 
@@ -77,7 +77,7 @@ spellings-injective (value pairs ∷ p) ns ms bs cs h g k e =
 
 -- ---- one row at most has a line
 
-module _ (rows : List Row) (shapes : (k : ℕ) → k < length rows → Shaped (rowAt rows k .form)) (apart : (s : List ℕ) (j k : ℕ) (vs ws : List (List ℕ)) → Fits rows s j vs → Fits rows s k ws → j ≡ k) where
+module _ (rows : List Row) (shapes : (k : ℕ) → k < length rows → Shaped (rowAt rows k .form)) (apart : (s : List ℕ) (j k : ℕ) (vs ws : List (List ℕ)) → Matches rows s j vs → Matches rows s k ws → j ≡ k) where
   -- what the answer b makes of a line with the form of row k and the values vs
   data Judged (s : List ℕ) (k : ℕ) (vs : List (List ℕ)) (b : Line) : Type 0 where
     number-wrong : b ≡ Refused 12 → (Each RightNumber (rowAt rows k .form) vs → ⊥) → Judged s k vs b
@@ -87,8 +87,8 @@ module _ (rows : List Row) (shapes : (k : ℕ) → k < length rows → Shaped (r
   -- an answer, seen by whether a row has the line
   data View (s : List ℕ) (b : Line) : Type 0 where
     long : 200 < length s → b ≡ Refused 10 → View s b
-    none : length s ≤ 200 → ((k : ℕ) (vs : List (List ℕ)) → Fits rows s k vs → ⊥) → b ≡ Refused 11 → View s b
-    some : length s ≤ 200 → (k : ℕ) (vs : List (List ℕ)) → Fits rows s k vs → Judged s k vs b → View s b
+    none : length s ≤ 200 → ((k : ℕ) (vs : List (List ℕ)) → Matches rows s k vs → ⊥) → b ≡ Refused 11 → View s b
+    some : length s ≤ 200 → (k : ℕ) (vs : List (List ℕ)) → Matches rows s k vs → Judged s k vs b → View s b
 
   view : {s : List ℕ} {b : Line} → LineOf rows s b → View s b
   view (tooLong l) = long (omega (arith, l)) refl
@@ -125,7 +125,7 @@ module _ (rows : List Row) (shapes : (k : ℕ) → k < length rows → Shaped (r
   view-same (some l k vs f j) (none m n e) = absurd (n k vs f)
   view-same {s} {b = b} (some l k vs f j) (some m i ws g o) =
       let e : i ≡ k = apart s i k ws vs g f in
-      let g′ = subst (λ (x : ℕ). Fits rows s x ws) e g in
+      let g′ = subst (λ (x : ℕ). Matches rows s x ws) e g in
       let u : ws ≡ vs = values-unique (rowAt rows k .form) s ws vs (shapes k (f .listed)) (g′ .has) (f .has) in
       judged-same (shapes k (f .listed)) j (subst (λ (x : List (List ℕ)). Judged s k x b) u (subst (λ (x : ℕ). Judged s x ws b) e o))
 

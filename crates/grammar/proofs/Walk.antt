@@ -7,7 +7,7 @@ use Rattle.spelling.{specs.Bytes.Below, proofs.{Lists.le-or-lt, Decide.{Told, s
 use Rattle.grammar.specs.Form.{Part, fixed, value, Value, number, pairs}
 use Rattle.grammar.specs.Table.{numberCount}
 use Rattle.grammar.specs.Scan.{valueAt, texted, keyText, keyValue, fieldParts, TextAt, After, there, elsewhere, Filled, ValueRead}
-use Rattle.grammar.specs.{Scan.{Reads, right, wrong, ended, longer, same, other, aValue, nothingRead}, declared.Values.Values}
+use Rattle.grammar.specs.{Scan.{Scans, right, wrong, ended, longer, same, other, aValue, nothingRead}, declared.Values.Values}
 
 -- ---- a text
 
@@ -27,27 +27,27 @@ module _ (s : List ℕ) (b : ℕ) (t : List ℕ) (at : ℕ) where
       go (suc k) m = let x : at + 1 + k ≡ at + suc k = omega arith in subst (λ (n : ℕ). getD s n 0 ≡ getD t k 0) x (h .1 k (le-of-suc-le-suc m))
 
 -- a text that is there, and what is read after it
-pub text-read : (s t : List ℕ) (p : List Part) (at : ℕ) (v r : Values) → TextAt s at t → Reads s p (at + length t) v r → Reads s (texted t p) at v r
-text-read s [] p at v r h d = subst (λ (m : ℕ). Reads s p m v r) (add-zero at) d
+pub text-read : (s t : List ℕ) (p : List Part) (at : ℕ) (v r : Values) → TextAt s at t → Scans s p (at + length t) v r → Scans s (texted t p) at v r
+text-read s [] p at v r h d = subst (λ (m : ℕ). Scans s p m v r) (add-zero at) d
 text-read s (b ∷ t) p at v r h d =
     let e : at + suc (length t) ≡ at + 1 + length t = omega arith in
-    same {at = at} (omega (arith, h .0)) (first-byte s b t at h) (text-read s t p (at + 1) v r (rest-text s b t at h) (subst (λ (m : ℕ). Reads s p m v r) e d))
+    same {at = at} (omega (arith, h .0)) (first-byte s b t at h) (text-read s t p (at + 1) v r (rest-text s b t at h) (subst (λ (m : ℕ). Scans s p m v r) e d))
 
 -- a text that is not there
-pub text-missing : (s t : List ℕ) (p : List Part) (at : ℕ) (v r : Values) → at ≤ length s → (TextAt s at t → ⊥) → r .fault ≡ 11 → Reads s (texted t p) at v r
+pub text-missing : (s t : List ℕ) (p : List Part) (at : ℕ) (v r : Values) → at ≤ length s → (TextAt s at t → ⊥) → r .fault ≡ 11 → Scans s (texted t p) at v r
 text-missing s [] p at v r h n f = absurd (n (omega arith, λ k l. absurd (omega arith)))
 text-missing s (b ∷ t) p at v r h n f =
     go (le-or-lt (length s) at) (same-number (getD s at 0) b) (λ l e. text-missing s t p (at + 1) v r (omega arith) (λ x. n (whole-text s b t at l e x)) f)
   where
-    go : (length s ≤ at) ⊎ (at < length s) → Told (getD s at 0 ≡ b) → (at < length s → getD s at 0 ≡ b → Reads s (texted t p) (at + 1) v r) → Reads s (fixed b ∷ texted t p) at v r
+    go : (length s ≤ at) ⊎ (at < length s) → Told (getD s at 0 ≡ b) → (at < length s → getD s at 0 ≡ b → Scans s (texted t p) (at + 1) v r) → Scans s (fixed b ∷ texted t p) at v r
     go (inl l) x d = other (λ (k : at < length s) (e : getD s at 0 ≡ b). omega arith) f
     go (inr l) (inl e) d = same l e (d l e)
     go (inr l) (inr x) d = other (λ k e. x e) f
 
 -- a kind, and the keys after it
-pub kind-read : (s t : List ℕ) (p : List Part) (head : ℕ) (r : Values) → 0 < length t → After s 0 t head → Filled s head p r → Reads s (texted t p) 0 (nothingRead s) r
+pub kind-read : (s t : List ℕ) (p : List Part) (head : ℕ) (r : Values) → 0 < length t → After s 0 t head → Filled s head p r → Scans s (texted t p) 0 (nothingRead s) r
 kind-read s t p head r l (elsewhere x z) f = text-missing s t p 0 (nothingRead s) r (omega arith) x (f .otherKind z)
-kind-read s t p head r l (there x z) f = text-read s t p 0 (nothingRead s) r x (subst (λ (m : ℕ). Reads s p m (nothingRead s) r) z (f .itsKind (λ e. omega arith)))
+kind-read s t p head r l (there x z) f = text-read s t p 0 (nothingRead s) r x (subst (λ (m : ℕ). Scans s p m (nothingRead s) r) z (f .itsKind (λ e. omega arith)))
 
 pub after-within : (s t : List ℕ) (at r : ℕ) → After s at t r → r ≤ length s
 after-within s t at r (elsewhere x z) = omega arith
@@ -60,7 +60,7 @@ pub record State (s : List ℕ) (head : ℕ) (whole : List Part) (v : Values) (a
   pub begun : 0 < at
   pub within : at ≤ length s
   pub room : v .count + n ≤ numberCount
-  pub goes : (r : Values) → Reads s (fieldParts n k) at v r → Reads s whole head (nothingRead s) r
+  pub goes : (r : Values) → Scans s (fieldParts n k) at v r → Scans s whole head (nothingRead s) r
 
 -- a value adds one number at most
 counted : (s : List ℕ) (at : ℕ) (v w : Values) (q : Value) → ValueRead q v s at w → w .count ≤ v .count + 1
@@ -93,16 +93,16 @@ module _ (s : List ℕ) (head : ℕ) (whole : List Part) (v : Values) (at n k : 
         goes = λ r t. i .goes r
             (rw (next-field n k h)
             (text-read s (keyText (k % 16)) _ at v r x
-            (subst (λ (m : ℕ). Reads s (value (keyValue (k % 16)) ∷ fieldParts (n - 1) (k / 16)) m v r) z
+            (subst (λ (m : ℕ). Scans s (value (keyValue (k % 16)) ∷ fieldParts (n - 1) (k / 16)) m v r) z
             (aValue (subst (λ (l : List ℕ). ValueRead (keyValue (k % 16)) v l a w) (upTo-part 32 s a e q) d) (rw q at t)))));
       }
 
-  pub stop-field : (a : ℕ) (r : Values) → 0 < n → After s at (keyText (k % 16)) a → a ≡ 0 → r .fault ≡ 11 → Reads s whole head (nothingRead s) r
+  pub stop-field : (a : ℕ) (r : Values) → 0 < n → After s at (keyText (k % 16)) a → a ≡ 0 → r .fault ≡ 11 → Scans s whole head (nothingRead s) r
   stop-field a r h (elsewhere x z) y f = i .goes r (rw (next-field n k h) (text-missing s (keyText (k % 16)) _ at v r (i .within) x f))
   stop-field a r h (there x z) y f = absurd (omega (arith, i .begun))
 
-  pub stop-long : (r : Values) → n ≤ 0 → at < length s → r .fault ≡ 11 → Reads s whole head (nothingRead s) r
+  pub stop-long : (r : Values) → n ≤ 0 → at < length s → r .fault ≡ 11 → Scans s whole head (nothingRead s) r
   stop-long r h l f = i .goes r (rw (no-field n k h) (longer l f))
 
-  pub stop-end : n ≤ 0 → length s ≤ at → Reads s whole head (nothingRead s) v
+  pub stop-end : n ≤ 0 → length s ≤ at → Scans s whole head (nothingRead s) v
   stop-end h l = i .goes v (rw (no-field n k h) (ended {at = at} (omega (arith, i .within))))

@@ -12,7 +12,7 @@ said (opens form sizes) start end = Opening form sizes
 said (calls call) start end = Step call start end
 
 -- the line s has the form of the row at k, with the values vs
-pub record Fits (rows : List Row) (s : List ℕ) (k : ℕ) (vs : List (List ℕ)) : Type 0 where
+pub record Matches (rows : List Row) (s : List ℕ) (k : ℕ) (vs : List (List ℕ)) : Type 0 where
   pub listed : k < length rows
   pub has : Has s (rowAt rows k .form) vs
 
@@ -31,11 +31,11 @@ pub data LineOf (rows : List Row) (s : List ℕ) : Line → Type 0 where
   -- 10 line over 200 bytes, newline not counted
   tooLong : 200 < length s → LineOf rows s (Refused 10)
   -- 11 not a form of the grammar
-  noForm : length s ≤ 200 → ((k : ℕ) (vs : List (List ℕ)) → Fits rows s k vs → ⊥) → LineOf rows s (Refused 11)
+  noForm : length s ≤ 200 → ((k : ℕ) (vs : List (List ℕ)) → Matches rows s k vs → ⊥) → LineOf rows s (Refused 11)
   -- 12 a form, with a value that is no number where an N is
-  wrongNumber : (k : ℕ) (vs : List (List ℕ)) → length s ≤ 200 → Fits rows s k vs → (Each RightNumber (rowAt rows k .form) vs → ⊥) → LineOf rows s (Refused 12)
+  wrongNumber : (k : ℕ) (vs : List (List ℕ)) → length s ≤ 200 → Matches rows s k vs → (Each RightNumber (rowAt rows k .form) vs → ⊥) → LineOf rows s (Refused 12)
   -- 13 a form whose numbers are right, with a value that is no data where an H is
-  wrongData : (k : ℕ) (vs : List (List ℕ)) → length s ≤ 200 → Fits rows s k vs → Each RightNumber (rowAt rows k .form) vs → (Each RightData (rowAt rows k .form) vs → ⊥) → LineOf rows s (Refused 13)
+  wrongData : (k : ℕ) (vs : List (List ℕ)) → length s ≤ 200 → Matches rows s k vs → Each RightNumber (rowAt rows k .form) vs → (Each RightData (rowAt rows k .form) vs → ⊥) → LineOf rows s (Refused 13)
   -- no refusal: the line spells the answer
   spelt : {a : Line} → length s ≤ 200 → Spelt rows s a → LineOf rows s a
 

@@ -50,12 +50,12 @@ ValueRead number v s at r = NumberRead v s r
 ValueRead pairs v s at r = DataRead v s at r
 
 -- the line s is read from a place on against the rest of a form, which takes the values v to r
-pub data Reads (s : List ℕ) : List Part → ℕ → Values → Values → Type 0 where
-  ended : {at : ℕ} {v : Values} → at ≡ length s → Reads s [] at v v
-  longer : {at : ℕ} {v r : Values} → at < length s → r .fault ≡ 11 → Reads s [] at v r
-  same : {p : List Part} {b at : ℕ} {v r : Values} → at < length s → getD s at 0 ≡ b → Reads s p (at + 1) v r → Reads s (fixed b ∷ p) at v r
-  other : {p : List Part} {b at : ℕ} {v r : Values} → (at < length s → getD s at 0 ≡ b → ⊥) → r .fault ≡ 11 → Reads s (fixed b ∷ p) at v r
-  aValue : {p : List Part} {q : Value} {at : ℕ} {v w r : Values} → ValueRead q v (valueAt s at) at w → Reads s p (at + length (valueAt s at)) w r → Reads s (value q ∷ p) at v r
+pub data Scans (s : List ℕ) : List Part → ℕ → Values → Values → Type 0 where
+  ended : {at : ℕ} {v : Values} → at ≡ length s → Scans s [] at v v
+  longer : {at : ℕ} {v r : Values} → at < length s → r .fault ≡ 11 → Scans s [] at v r
+  same : {p : List Part} {b at : ℕ} {v r : Values} → at < length s → getD s at 0 ≡ b → Scans s p (at + 1) v r → Scans s (fixed b ∷ p) at v r
+  other : {p : List Part} {b at : ℕ} {v r : Values} → (at < length s → getD s at 0 ≡ b → ⊥) → r .fault ≡ 11 → Scans s (fixed b ∷ p) at v r
+  aValue : {p : List Part} {q : Value} {at : ℕ} {v w r : Values} → ValueRead q v (valueAt s at) at w → Scans s p (at + length (valueAt s at)) w r → Scans s (value q ∷ p) at v r
 
 -- no numbers yet
 abbrev pub zeros : ℕ → List ℕ
@@ -104,7 +104,7 @@ pub data After (s : List ℕ) (at : ℕ) (t : List ℕ) (r : ℕ) : Type 0 where
 -- what is read of the parts p from a place on, which is 0 where the line has another kind
 pub record Filled (s : List ℕ) (head : ℕ) (p : List Part) (r : Values) : Type 0 where
   pub otherKind : head ≡ 0 → r .fault ≡ 11
-  pub itsKind : (head ≡ 0 → ⊥) → Reads s p head (nothingRead s) r
+  pub itsKind : (head ≡ 0 → ⊥) → Scans s p head (nothingRead s) r
 
 -- ---- the rows
 
@@ -135,11 +135,11 @@ Fails s p = (vs : List (List ℕ)) → Has s p vs → ⊥
 -- which of the rows from a first up to a last has the line s
 pub data FoundIn (s : List ℕ) (from to : ℕ) (r : Found) : Type 0 where
   nowhere : r .values .fault ≡ 11 → ((k : ℕ) → from ≤ k → k < to → Fails s (formOf k)) → FoundIn s from to r
-  here : from ≤ r .row → r .row < to → Reads s (formOf (r .row)) 0 (nothingRead s) (r .values) → (r .values .fault ≡ 11 → ⊥) → FoundIn s from to r
+  here : from ≤ r .row → r .row < to → Scans s (formOf (r .row)) 0 (nothingRead s) (r .values) → (r .values .fault ≡ 11 → ⊥) → FoundIn s from to r
 
 -- where nothing is wrong, the row is one of the table's
-abbrev pub Placed : Found → Type 0
-Placed f = f .values .fault ≡ 0 → f .row < rowCount
+abbrev pub RowFound : Found → Type 0
+RowFound f = f .values .fault ≡ 0 → f .row < rowCount
 
 -- what a row says of what was read, or the refusal
 abbrev pub answerOf : Found → ℕ → Line

@@ -9,7 +9,7 @@ ghost use mathlib.Core.{Path._≡_, Bool.cond};
 ghost use Prim.Native.Nat.{_≤_, _<_};
 ghost use lib.{Dec.eqb, ListN.length};
 ghost use Rattle.grammar.specs.Scan.{tagOf, RowAt, formOf, keyText, fieldParts};
-ghost use Rattle.grammar.specs.{Scan.{After, Filled, Reads, nothingRead, FoundIn, answerOf, Placed, Called}, Table.{rowsOf, numberCount, stepCount, rowCount, formCount, fromOf, toOf}};
+ghost use Rattle.grammar.specs.{Scan.{After, Filled, Scans, nothingRead, FoundIn, answerOf, RowFound, Called}, Table.{rowsOf, numberCount, stepCount, rowCount, formCount, fromOf, toOf}};
 ghost use Rattle.grammar.specs.Line.{LineOf, numberOf};
 use protocol::Call;
 use protocol::Opening;
@@ -173,7 +173,7 @@ fn fill(line: &[u8], head: usize, fields: usize, keys: u32) -> Values
 // The line read against the form of a row: its kind, how many values it has, and the numbers of their keys.
 fn fill_row(line: &[u8], row: usize) -> Values
     requires { ⌜ row < rowCount ⌝ }
-    ensures { λ r. ⌜ Reads (now (line .entry)) (formOf row) 0 (nothingRead (now (line .entry))) r ⌝ }
+    ensures { λ r. ⌜ Scans (now (line .entry)) (formOf row) 0 (nothingRead (now (line .entry))) r ⌝ }
 {
     match row {
         0 => fill(line, after(line, 0, b"op=evict"), 2, 0x10),
@@ -284,7 +284,7 @@ fn call_of(row: usize, number: [u32; NUMBERS]) -> Call
 
 // What a row that was found says, of a line that ends at `end`.
 fn answer(f: Found, end: usize) -> Line
-    requires { ⌜ Placed f ⌝ }
+    requires { ⌜ RowFound f ⌝ }
     ensures { λ r. ⌜ r ≡ answerOf f end ⌝ }
 {
     let v = f.values;

@@ -5,7 +5,7 @@ use native.Mathlib.{Omega.arith, Numerals.add-one}
 use lib.{ListN.{length, getD, take, drop, length-drop, drop-of-length-le}, Seq.{drop-cons, drop-drop}}
 use Rattle.spelling.{specs.Bytes.{Without, upTo}, proofs.Split.{Edge, upTo-clean, upTo-split, upTo-part}}
 use Rattle.grammar.specs.{Table.rowsOf, Line.LineOf, declared.Line.Line}
-use Rattle.journal.specs.Journal.{placed, LineAt, NextOf, aLine}
+use Rattle.journal.specs.Journal.{inJournal, LineAt, NextOf, aLine}
 
 -- the line from a place up to a newline at e, or to the end
 module _ (j : List ℕ) (at e : ℕ) (ends : e ≡ at + length (upTo 10 (drop at j))) where
@@ -35,5 +35,5 @@ module _ (j : List ℕ) (at e : ℕ) (ends : e ≡ at + length (upTo 10 (drop at
       subst (Without 10) (sym z) (upTo-clean 10 (drop at j))
 
 -- a line that was read is the answer at its place
-pub line-answer : (j : List ℕ) (at e form : ℕ) (a : Line) → length j ≤ 65536 → e ≡ at + length (upTo 10 (drop at j)) → e < length j → LineOf (rowsOf form) (take (e - at) (drop at j)) a → NextOf j at form (placed a at (e + 1))
+pub line-answer : (j : List ℕ) (at e form : ℕ) (a : Line) → length j ≤ 65536 → e ≡ at + length (upTo 10 (drop at j)) → e < length j → LineOf (rowsOf form) (take (e - at) (drop at j)) a → NextOf j at form (inJournal a at (e + 1))
 line-answer j at e form a s ends h o = aLine (take (e - at) (drop at j)) (e + 1) s (line-here j at e ends h) o

@@ -5,7 +5,7 @@ use native.Mathlib.Omega.{arith}
 use lib.ListN.{length, drop, length-append, length-drop}
 use Rattle.spelling.{specs.Bytes.{Without, upTo}, proofs.{Lists.le-or-lt, Decide.{Told, same-number}, Split.upTo-unique}}
 use Rattle.grammar.{specs.{Table.rowsOf, Line.LineOf, declared.Line.Line}, proofs.OneAnswer.one-answer-theorem}
-use Rattle.journal.specs.{Journal.{placed, LineAt, NextOf, tooMuch, empty, ended, unended, aLine}, Theorems.OneNextTheorem}
+use Rattle.journal.specs.{Journal.{inJournal, LineAt, NextOf, tooMuch, empty, ended, unended, aLine}, Theorems.OneNextTheorem}
 use Rattle.journal.specs.declared.Next.{Next, the-variants.{End, Refused}}
 use Rattle.journal.proofs.Lines.{line-here, none-here}
 
@@ -28,7 +28,7 @@ module _ (j : List ℕ) (at form : ℕ) where
     first : length j ≤ 65536 → length j ≤ at → form ≡ 0 → b ≡ Refused 11 → View b
     over : length j ≤ 65536 → length j ≤ at → (form ≡ 0 → ⊥) → b ≡ End → View b
     cut : length j ≤ 65536 → at < length j → Without 10 (drop at j) → b ≡ Refused 10 → View b
-    line : (l : List ℕ) (next : ℕ) (a : Line) → length j ≤ 65536 → at < length j → LineAt j at l next → LineOf (rowsOf form) l a → b ≡ placed a at next → View b
+    line : (l : List ℕ) (next : ℕ) (a : Line) → length j ≤ 65536 → at < length j → LineAt j at l next → LineOf (rowsOf form) l a → b ≡ inJournal a at next → View b
 
   view : {b : Next} → NextOf j at form b → View b
   view (tooMuch l) = long (omega (arith, l)) refl
@@ -40,13 +40,13 @@ module _ (j : List ℕ) (at form : ℕ) where
   not-cut : (l : List ℕ) (next : ℕ) → LineAt j at l next → Without 10 (drop at j) → ⊥
   not-cut l next h w = has-byte 10 l (drop next j) (subst (Without 10) (h .whole) w)
 
-  lines-same : (l m : List ℕ) (p q : ℕ) (a b : Line) → LineAt j at l p → LineAt j at m q → LineOf (rowsOf form) l a → LineOf (rowsOf form) m b → placed a at p ≡ placed b at q
+  lines-same : (l m : List ℕ) (p q : ℕ) (a b : Line) → LineAt j at l p → LineAt j at m q → LineOf (rowsOf form) l a → LineOf (rowsOf form) m b → inJournal a at p ≡ inJournal b at q
   lines-same l m p q a b h k x y =
       let e : l ≡ m = sym (line-same j at l p h) ∙ line-same j at m q k in
       let n : p ≡ q = omega (arith, h .after, k .after, ap length e) in
       let o = one-answer-theorem form l in
       let s : a ≡ b = o .only a x ∙ sym (o .only b (subst (λ (t : List ℕ). LineOf (rowsOf form) t b) (sym e) y)) in
-      ap₂ (λ (c : Line) (t : ℕ). placed c at t) s n
+      ap₂ (λ (c : Line) (t : ℕ). inJournal c at t) s n
 
   same : {a b : Next} → View a → View b → a ≡ b
   same (long l e) (long m f) = e ∙ sym f

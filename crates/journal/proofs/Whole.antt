@@ -6,7 +6,7 @@ use native.Mathlib.Omega.{arith}
 use lib.{ListN.{length, take, drop, length-append, length-take, length-drop, take-append-drop}, Seq.{take-at, take-all}}
 use Rattle.spelling.specs.Bytes.{Without}
 use Rattle.grammar.specs.declared.Line.{Line, the-variants.{Opening as OpeningLine, Step as StepLine, Refused as RefusedLine}}
-use Rattle.journal.specs.Journal.{placed, LineAt, NextOf, tooMuch, empty, ended, unended, aLine, goesOn, placeAfter}
+use Rattle.journal.specs.Journal.{inJournal, LineAt, NextOf, tooMuch, empty, ended, unended, aLine, goesOn, offsetAfter}
 use Rattle.journal.specs.{Theorems.{Reached, start, on, joined, Lines, Passed, PassedTheorem}, declared.Next.Next}
 
 lines-one-more : (ls : List (List ℕ)) (l : List ℕ) → Lines ls → Without 10 l → Lines (ls ++ (l ∷ []))
@@ -39,17 +39,17 @@ passed-line j k at l next h p =
 stopped : {A : Type 0} → false ≡ true → A
 stopped e = absurd (let z : _≡_ {A = ℕ} 0 1 = cc in omega arith)
 
-passed-placed : (j : List ℕ) (k at : ℕ) (l : List ℕ) (next : ℕ) (a : Line) → LineAt j at l next → goesOn (placed a at next) ≡ true → Passed j k at → Passed j (k + 1) (placeAfter at (placed a at next))
-passed-placed j k at l next (OpeningLine form sizes) h g p = passed-line j k at l next h p
-passed-placed j k at l next (StepLine call x y) h g p = passed-line j k at l next h p
-passed-placed j k at l next (RefusedLine n) h g p = stopped g
+passed-answer : (j : List ℕ) (k at : ℕ) (l : List ℕ) (next : ℕ) (a : Line) → LineAt j at l next → goesOn (inJournal a at next) ≡ true → Passed j k at → Passed j (k + 1) (offsetAfter at (inJournal a at next))
+passed-answer j k at l next (OpeningLine form sizes) h g p = passed-line j k at l next h p
+passed-answer j k at l next (StepLine call x y) h g p = passed-line j k at l next h p
+passed-answer j k at l next (RefusedLine n) h g p = stopped g
 
-passed-next : (j : List ℕ) (k at form : ℕ) {n : Next} → NextOf j at form n → goesOn n ≡ true → Passed j k at → Passed j (k + 1) (placeAfter at n)
+passed-next : (j : List ℕ) (k at form : ℕ) {n : Next} → NextOf j at form n → goesOn n ≡ true → Passed j k at → Passed j (k + 1) (offsetAfter at n)
 passed-next j k at form (tooMuch l) g p = stopped g
 passed-next j k at form (empty l h e) g p = stopped g
 passed-next j k at form (ended l h e) g p = stopped g
 passed-next j k at form (unended l h w) g p = stopped g
-passed-next j k at form (aLine {a = a} l next s h o) g p = passed-placed j k at l next a h g p
+passed-next j k at form (aLine {a = a} l next s h o) g p = passed-answer j k at l next a h g p
 
 passed : {j : List ℕ} {k at form : ℕ} → Reached j k at form → Passed j k at
 unfolding joined

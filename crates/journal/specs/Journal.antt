@@ -9,10 +9,10 @@ use Rattle.grammar.specs.declared.Line.{Line, the-variants.{Opening as OpeningL
 use Rattle.journal.specs.declared.{Next.{Next, the-variants.{Opening, Step, End, Refused}}, Read.Read, Reader.Reader, Step.Step as Reading}
 
 -- a line's answer, where the line is at a place of the journal and the next one at `next`
-abbrev pub placed : Line → ℕ → ℕ → Next
-placed (OpeningLine form sizes) at next = Opening form sizes next
-placed (StepLine call start end) at next = Step call (at + start) (at + end) next
-placed (RefusedLine n) at next = Refused n
+abbrev pub inJournal : Line → ℕ → ℕ → Next
+inJournal (OpeningLine form sizes) at next = Opening form sizes next
+inJournal (StepLine call start end) at next = Step call (at + start) (at + end) next
+inJournal (RefusedLine n) at next = Refused n
 
 -- the line l is at a place of the journal, ended by a newline; the next line is at `next`
 pub record LineAt (journal : List ℕ) (at : ℕ) (l : List ℕ) (next : ℕ) : Type 0 where
@@ -31,7 +31,7 @@ pub data NextOf (journal : List ℕ) (at form : ℕ) : Next → Type 0 where
   -- 10 a last line without newline
   unended : length journal ≤ 65536 → at < length journal → Without 10 (drop at journal) → NextOf journal at form (Refused 10)
   -- a line with its newline: what the line is
-  aLine : {a : Line} (l : List ℕ) (next : ℕ) → length journal ≤ 65536 → LineAt journal at l next → LineOf (rowsOf form) l a → NextOf journal at form (placed a at next)
+  aLine : {a : Line} (l : List ℕ) (next : ℕ) → length journal ≤ 65536 → LineAt journal at l next → LineOf (rowsOf form) l a → NextOf journal at form (inJournal a at next)
 
 -- whether reading goes on after an answer: after a line that was read
 abbrev pub goesOn : Next → Bool
@@ -41,11 +41,11 @@ goesOn End = false
 goesOn (Refused n) = false
 
 -- the place after an answer: the next line's, and the same after the end or a refusal
-abbrev pub placeAfter : ℕ → Next → ℕ
-placeAfter at (Opening form sizes next) = next
-placeAfter at (Step call start end next) = next
-placeAfter at End = at
-placeAfter at (Refused n) = at
+abbrev pub offsetAfter : ℕ → Next → ℕ
+offsetAfter at (Opening form sizes next) = next
+offsetAfter at (Step call start end next) = next
+offsetAfter at End = at
+offsetAfter at (Refused n) = at
 
 -- the form after an answer: the first line sets it
 abbrev pub formAfter : ℕ → Next → ℕ
@@ -57,12 +57,12 @@ formAfter form (Refused n) = form
 -- one reading at a place: the answer, and the place and the form after it
 pub record ReadOf (journal : List ℕ) (at form : ℕ) (r : Read) : Type 0 where
   pub found : NextOf journal at form (r .next)
-  pub place : r .at ≡ placeAfter at (r .next)
+  pub place : r .at ≡ offsetAfter at (r .next)
   pub formed : r .form ≡ formAfter form (r .next)
 
 -- the reader after an answer: the same bytes at the same place in memory, and the place and the form after it
 abbrev pub readerAfter : Reader → Next → Reader
-readerAfter r n = record { journal = r .journal; at = placeAfter (r .at) n; form = formAfter (r .form) n }
+readerAfter r n = record { journal = r .journal; at = offsetAfter (r .at) n; form = formAfter (r .form) n }
 
 -- what a reader returns: what is where it is, and the reader after it
 abbrev pub StepOf : Reader → Reading → Type 0

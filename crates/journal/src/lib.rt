@@ -5,7 +5,7 @@
 // it together, and nobody else can set its place, so no byte is passed over. A refusal, or the end, leaves the reader where it is:
 // asking again gives the same answer.
 ghost use mathlib.Core.Path.{_≡_};
-ghost use Rattle.journal.specs.Journal.{NextOf, placeAfter, formAfter, ReadOf, StepOf};
+ghost use Rattle.journal.specs.Journal.{NextOf, offsetAfter, formAfter, ReadOf, StepOf};
 use grammar::Line;
 use protocol::Call;
 use protocol::Opening;
@@ -65,8 +65,8 @@ pub fn step_at(journal: &[u8], at: usize, form: u32) -> Next
 }
 
 // The place after an answer: the next line's; a refusal, or the end, leaves it.
-fn place_after(at: usize, n: Next) -> usize
-    ensures { λ r. ⌜ r ≡ placeAfter at n ⌝ }
+fn offset_after(at: usize, n: Next) -> usize
+    ensures { λ r. ⌜ r ≡ offsetAfter at n ⌝ }
 {
     match n {
         Next::Opening { next, .. } => next,
@@ -101,7 +101,7 @@ fn read_at(journal: &[u8], at: usize, form: u32) -> Read
 {
     let next = step_at(journal, at, form);
     Read {
-        at: place_after(at, next),
+        at: offset_after(at, next),
         form: form_after(form, next),
         next,
     }

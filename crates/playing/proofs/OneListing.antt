@@ -2,13 +2,13 @@
 use Prim.Native.Nat.{ℕ}
 use mathlib.Core.{Path.{_≡_, refl, _∙_, ap, ap₂, subst₂}, List.{List, _++_}, Logic.{inl, inr}}
 use native.Mathlib.Omega.{arith}
-use Rattle.protocol.specs.{Buffers.Bytes, Refusals.openRefusal, Machine.freshMachine, Step.openReply, Run.{Given, place}, Counts.nothingMet}
+use Rattle.protocol.specs.{Buffers.Bytes, Refusals.openRefusal, Machine.freshMachine, Step.openReply, Run.{Entry, place}, Counts.nothingMet}
 use Rattle.protocol.specs.declared.Opening.{Opening as Sizes}
 use Rattle.spelling.proofs.Decide.{Told, same-number}
 use Rattle.journal.{specs.{Journal.NextOf, declared.Next.{Next, the-variants.{Opening, Step, End, Refused}}}, proofs.OneNext.one-next-theorem}
 use Rattle.listing.specs.Record.{recordText}
 use Rattle.driver.{specs.Listing.{Ending, NotOpened, outside, refusedFirst, notOpened}, proofs.Reading.known}
-use Rattle.playing.specs.{Listing.{Reads, listingFrom, Listing, opens, fails}, Theorems.OneListingTheorem}
+use Rattle.playing.specs.{Listing.{ReadAs, listingFrom, Listing, opens, fails}, Theorems.OneListingTheorem}
 use Rattle.playing.proofs.OneReading.{same-next, reads-same, one-reading-theorem}
 
 -- ---- there is no other
@@ -25,15 +25,15 @@ opened-not x e (outside y b) = let s = same-next x y in b (cc)
 opened-not x e (refusedFirst y) = let s = same-next x y in let z : _≡_ {A = ℕ} 0 1 = cc in omega arith
 
 -- the text of a listing whose engine is opened
-abbrev whole : Sizes → List Given → Ending → Bytes
+abbrev whole : Sizes → List Entry → Ending → Bytes
 whole o gs e = recordText (place 0) (openReply o) ++ listingFrom (freshMachine o) nothingMet gs e
 
 listing-same : {j t u : Bytes} → Listing j t → Listing j u → t ≡ u
 listing-same {j} (opens {o = o} {gs = gs} {e = e} x h r) (opens {form = f'} {o = o'} {next = n'} {gs = hs} {e = d} y k q) =
     let s = same-next x y in
     let eo : o ≡ o' = cc in
-    let i = reads-same r (subst₂ (λ (f n : ℕ). Reads j f n hs d) (cc) (cc) q) in
-    ap (λ (z : Sizes). whole z gs e) eo ∙ ap₂ (λ (l : List Given) (c : Ending). whole o' l c) (i .0) (i .1)
+    let i = reads-same r (subst₂ (λ (f n : ℕ). ReadAs j f n hs d) (cc) (cc) q) in
+    ap (λ (z : Sizes). whole z gs e) eo ∙ ap₂ (λ (l : List Entry) (c : Ending). whole o' l c) (i .0) (i .1)
 listing-same (opens x h r) (fails n) = absurd (opened-not x h n)
 listing-same (fails n) (opens x h r) = absurd (opened-not x h n)
 listing-same (fails n) (fails m) = ap notOpened (refusal-same n m)

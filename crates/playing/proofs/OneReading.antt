@@ -3,11 +3,11 @@ use Prim.Native.Nat.{ℕ, zero, suc, _+_, _-_, _≤_, _<_}
 use mathlib.Core.{Path.{_≡_, refl, sym, _∙_, ap, ap₂, subst}, List.{List, _∷_, _++_}}
 use native.Mathlib.Omega.{arith}
 use lib.ListN.{length}
-use Rattle.protocol.specs.{Buffers.{Bytes, part}, Run.Given, declared.Call.Call}
+use Rattle.protocol.specs.{Buffers.{Bytes, part}, Run.Entry, declared.Call.Call}
 use Rattle.spelling.proofs.HexLaws.{hex-length, hex-injective}
 use Rattle.journal.{specs.{Journal.NextOf, declared.Next.{Next, the-variants.{Opening, Step, End, Refused}}}, proofs.OneNext.one-next-theorem}
 use Rattle.driver.{specs.Listing.{Ending, Data, noData, someData, Between, noLine, aLine, EndsAt, atEnd, atRefusal}, proofs.Reading.known}
-use Rattle.playing.specs.{Listing.Reads, Theorems.{OneReading, OneReadingTheorem}}
+use Rattle.playing.specs.{Listing.ReadAs, Theorems.{OneReading, OneReadingTheorem}}
 
 -- ---- at one place
 
@@ -56,17 +56,17 @@ no-end x (atRefusal y) = let s = same-next x y in let z : _≡_ {A = ℕ} 0 1 = 
 
 -- steps of a journal up to the place `to`, and hs up to the place `to'`, from one place: they are the same, or the ones go on from where the
 -- others end
-pub data Compared (j : Bytes) (form : ℕ) (gs hs : List Given) (to to' : ℕ) : Type 0 where
+pub data Compared (j : Bytes) (form : ℕ) (gs hs : List Entry) (to to' : ℕ) : Type 0 where
   alike : gs ≡ hs → to ≡ to' → Compared j form gs hs to to'
-  fewer : (g : Given) (ks : List Given) → hs ≡ gs ++ (g ∷ ks) → Between j form to (g ∷ ks) to' → Compared j form gs hs to to'
-  further : (g : Given) (ks : List Given) → gs ≡ hs ++ (g ∷ ks) → Between j form to' (g ∷ ks) to → Compared j form gs hs to to'
+  fewer : (g : Entry) (ks : List Entry) → hs ≡ gs ++ (g ∷ ks) → Between j form to (g ∷ ks) to' → Compared j form gs hs to to'
+  further : (g : Entry) (ks : List Entry) → gs ≡ hs ++ (g ∷ ks) → Between j form to' (g ∷ ks) to → Compared j form gs hs to to'
 
-after : {j : Bytes} {form to to' : ℕ} {g h : Given} {gs hs : List Given} → h ≡ g → Compared j form gs hs to to' → Compared j form (g ∷ gs) (h ∷ hs) to to'
-after {g = g} {h = h} {gs = gs} {hs = hs} e (alike s t) = alike (ap₂ (λ (a : Given) (l : List Given). a ∷ l) (sym e) s) t
-after {g = g} {h = h} {gs = gs} {hs = hs} e (fewer k ks s b) = fewer k ks (ap₂ (λ (a : Given) (l : List Given). a ∷ l) e s) b
-after {g = g} {h = h} {gs = gs} {hs = hs} e (further k ks s b) = further k ks (ap₂ (λ (a : Given) (l : List Given). a ∷ l) (sym e) s) b
+after : {j : Bytes} {form to to' : ℕ} {g h : Entry} {gs hs : List Entry} → h ≡ g → Compared j form gs hs to to' → Compared j form (g ∷ gs) (h ∷ hs) to to'
+after {g = g} {h = h} {gs = gs} {hs = hs} e (alike s t) = alike (ap₂ (λ (a : Entry) (l : List Entry). a ∷ l) (sym e) s) t
+after {g = g} {h = h} {gs = gs} {hs = hs} e (fewer k ks s b) = fewer k ks (ap₂ (λ (a : Entry) (l : List Entry). a ∷ l) e s) b
+after {g = g} {h = h} {gs = gs} {hs = hs} e (further k ks s b) = further k ks (ap₂ (λ (a : Entry) (l : List Entry). a ∷ l) (sym e) s) b
 
-pub compare : {j : Bytes} {form at to to' : ℕ} {gs hs : List Given} → Between j form at gs to → Between j form at hs to' → Compared j form gs hs to to'
+pub compare : {j : Bytes} {form at to to' : ℕ} {gs hs : List Entry} → Between j form at gs to → Between j form at hs to' → Compared j form gs hs to to'
 compare noLine noLine = alike refl refl
 compare noLine (aLine x d r) = fewer _ _ refl (aLine x d r)
 compare (aLine x d r) noLine = further _ _ refl (aLine x d r)
@@ -76,12 +76,12 @@ compare {j} {form} {to' = to'} (aLine x a r) (aLine {gs = hs} y b t) =
     (compare r (subst (λ (k : ℕ). Between j form k hs to') (s .next) t))
 
 -- no step stands where a journal ends
-pub none-after : {j : Bytes} {form at to : ℕ} {g : Given} {ks : List Given} {e : Ending} → Between j form at (g ∷ ks) to → EndsAt j form at e → ⊥
+pub none-after : {j : Bytes} {form at to : ℕ} {g : Entry} {ks : List Entry} {e : Ending} → Between j form at (g ∷ ks) to → EndsAt j form at e → ⊥
 none-after (aLine x d r) y = no-end x y
 
 -- a journal reads from a place in one way only
 pub reads-same :
-    {j : Bytes} {form at : ℕ} {gs hs : List Given} {e d : Ending} → Reads j form at gs e → Reads j form at hs d → (gs ≡ hs) × (e ≡ d)
+    {j : Bytes} {form at : ℕ} {gs hs : List Entry} {e d : Ending} → ReadAs j form at gs e → ReadAs j form at hs d → (gs ≡ hs) × (e ≡ d)
 reads-same {j} {form} {gs = gs} {hs} {e} {d} r t = go (compare (r .steps) (t .steps))
   where
     go : Compared j form gs hs (r .to) (t .to) → (gs ≡ hs) × (e ≡ d)
@@ -91,7 +91,7 @@ reads-same {j} {form} {gs = gs} {hs} {e} {d} r t = go (compare (r .steps) (t .st
 
 -- ---- there is a reading
 
-one : {j : Bytes} {form at : ℕ} {gs : List Given} {e : Ending} → Reads j form at gs e → OneReading j form at
+one : {j : Bytes} {form at : ℕ} {gs : List Entry} {e : Ending} → ReadAs j form at gs e → OneReading j form at
 one {gs = gs} {e = e} r = record { steps = gs; ending = e; holds = r; only = λ hs d x. reads-same x r }
 
 reading-on :

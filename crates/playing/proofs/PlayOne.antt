@@ -4,7 +4,7 @@ use Prim.Native.Nat.{ℕ, _+_, _≤_, _<_}
 use mathlib.Core.{Path.{_≡_, refl, sym, _∙_, ap}, List.{List, [], _∷_, _++_}}
 use native.Mathlib.Omega.{arith}
 use lib.{ListN.{length, length-append}, Seq.append-snoc}
-use Rattle.protocol.specs.{Buffers.Bytes, Machine.{Machine, machine}, Run.{Given, Record, run}, Counts.{plus, total}}
+use Rattle.protocol.specs.{Buffers.Bytes, Machine.{Machine, machine}, Run.{Entry, Record, run}, Counts.{plus, total}}
 use Rattle.driver.specs.Listing.{Ending, Between, aLine, EndsAt, lines, lastLines}
 use Rattle.driver.specs.{Play.{runFrom, Leads, Piece, aStep, theEnd, Tells, finished, more, unfit}, declared.Checkpoint.Checkpoint}
 use Rattle.driver.{specs.declared.Progress.Progress, proofs.Running.{given, lines-append, run-records, lines-more}}
@@ -13,17 +13,17 @@ use Rattle.playing.proofs.OneReading.{step-same, ends-same, no-end, Com
 use Rattle.playing.proofs.Writing.{Fills, room-same, written-same, output-same}
 
 -- the lines of the steps gs made from a checkpoint
-abbrev linesFrom : Checkpoint → Bytes → Bytes → List Given → Bytes
+abbrev linesFrom : Checkpoint → Bytes → Bytes → List Entry → Bytes
 linesFrom a p q gs = lines (runFrom a p q gs .records)
 
 -- and the last lines, where they lead to the checkpoint b and the journal ends
-abbrev finishedFrom : Checkpoint → Bytes → Bytes → List Given → Checkpoint → Ending → Bytes
+abbrev finishedFrom : Checkpoint → Bytes → Bytes → List Entry → Checkpoint → Ending → Bytes
 finishedFrom a p q gs b e = linesFrom a p q gs ++ lastLines (b .counts) e
 
 -- ---- the next piece
 
 -- more steps, more text
-lines-grow : (gs hs : List Given) (n : ℕ) (m : Machine) → length (lines (run gs n m .records)) ≤ length (lines (run (gs ++ hs) n m .records))
+lines-grow : (gs hs : List Entry) (n : ℕ) (m : Machine) → length (lines (run gs n m .records)) ≤ length (lines (run (gs ++ hs) n m .records))
 lines-grow gs hs n m =
     let r : List Record = run hs (n + length gs) (run gs n m .last) .records in
     let e = ap lines (run-records gs hs n m) ∙ lines-append (run gs n m .records) r in
@@ -31,7 +31,7 @@ lines-grow gs hs n m =
 
 -- where steps go on, their text holds the next piece
 passed :
-    {j : Bytes} {a b : Checkpoint} {p q p' q' t : Bytes} {gs : List Given} {g : Given} {ks : List Given} {to : ℕ} → Leads j a p q gs b p' q' → Piece j b p' q' t
+    {j : Bytes} {a b : Checkpoint} {p q p' q' t : Bytes} {gs : List Entry} {g : Entry} {ks : List Entry} {to : ℕ} → Leads j a p q gs b p' q' → Piece j b p' q' t
     → Between j (a .form) (b .at) (g ∷ ks) to
     → length (linesFrom a p q gs) + length t ≤ length (linesFrom a p q (gs ++ (g ∷ ks)))
 passed {a = a} {p = p} {q = q} {gs = gs} {ks = ks} l (aStep {call = c} {bs = bs} x d) (aLine y f r) =
@@ -62,19 +62,19 @@ checkpoint-same s s' p q p' q' a f m k =
     let es = ap (λ (x : Machine). x .state) m in
     record { checkpoint = rw (a, f, k, es); private = ap (λ (x : Machine). x .private) m; shared = ap (λ (x : Machine). x .shared) m }
 
-module _ {j : Bytes} {a b d : Checkpoint} {p q p₁ q₁ p₂ q₂ : Bytes} {gs hs : List Given} (l : Leads j a p q gs b p₁ q₁) (m : Leads j a p q hs d p₂ q₂) where
+module _ {j : Bytes} {a b d : Checkpoint} {p q p₁ q₁ p₂ q₂ : Bytes} {gs hs : List Entry} (l : Leads j a p q gs b p₁ q₁) (m : Leads j a p q hs d p₂ q₂) where
   -- the same steps lead to the same checkpoint
   leads-same : gs ≡ hs → b .at ≡ d .at → Same b d p₁ q₁ p₂ q₂
   leads-same e n =
       checkpoint-same b d p₁ q₁ p₂ q₂ n (l .form ∙ sym (m .form))
-      (l .machine ∙ ap (λ (ks : List Given). runFrom a p q ks .last) e ∙ sym (m .machine))
-      (l .counts ∙ ap (λ (ks : List Given). plus (a .counts) (total (runFrom a p q ks .records))) e ∙ sym (m .counts))
+      (l .machine ∙ ap (λ (ks : List Entry). runFrom a p q ks .last) e ∙ sym (m .machine))
+      (l .counts ∙ ap (λ (ks : List Entry). plus (a .counts) (total (runFrom a p q ks .records))) e ∙ sym (m .counts))
 
   -- a run with no room for the next piece, and one that made more steps
   no-fewer :
-      {g : Given} {ks : List Given} {t : Bytes} {room : ℕ} → Piece j b p₁ q₁ t → Between j (a .form) (b .at) (g ∷ ks) (d .at) → hs ≡ gs ++ (g ∷ ks)
+      {g : Entry} {ks : List Entry} {t : Bytes} {room : ℕ} → Piece j b p₁ q₁ t → Between j (a .form) (b .at) (g ∷ ks) (d .at) → hs ≡ gs ++ (g ∷ ks)
       → length (linesFrom a p q hs) ≤ length (linesFrom a p q gs) + room → room < length t → ⊥
-  no-fewer x y e n r = omega (arith, passed l x y, ap (λ (ks : List Given). length (linesFrom a p q ks)) e)
+  no-fewer x y e n r = omega (arith, passed l x y, ap (λ (ks : List Entry). length (linesFrom a p q ks)) e)
 
   -- a run that is finished, and one with no room for the next piece
   not-both :
@@ -89,9 +89,9 @@ module _ {j : Bytes} {a b d : Checkpoint} {p q p₁ q₁ p₂ q₂ : Bytes} {gs 
       go (alike s i) =
           let o = leads-same s i in
           let z : t ≡ lastLines (b .counts) e = last-piece y (rw (o .checkpoint) at x) ∙ ap (λ (k : Checkpoint). lastLines (k .counts) e) (sym (o .checkpoint)) in
-          omega (arith, all, ap length z, ap (λ (ks : List Given). length (linesFrom a p q ks)) s)
+          omega (arith, all, ap length z, ap (λ (ks : List Entry). length (linesFrom a p q ks)) s)
       go (fewer g ks s i) = none-after i (rw (l .form) at x)
-      go (further g ks s i) = omega (arith, all, passed m y i, ap (λ (ks : List Given). length (linesFrom a p q ks)) s)
+      go (further g ks s i) = omega (arith, all, passed m y i, ap (λ (ks : List Entry). length (linesFrom a p q ks)) s)
 
 -- ---- what two calls tell
 
@@ -104,7 +104,7 @@ record Alike (g g' : Progress) (s s' : Checkpoint) (p q p' q' t t' : Bytes) : Ty
 module _ {j : Bytes} {a : Checkpoint} {p q : Bytes} where
   -- two that are finished
   finished-same :
-      {b d : Checkpoint} {p₁ q₁ p₂ q₂ : Bytes} {gs hs : List Given} {e f : Ending} (l : Leads j a p q gs b p₁ q₁) (m : Leads j a p q hs d p₂ q₂)
+      {b d : Checkpoint} {p₁ q₁ p₂ q₂ : Bytes} {gs hs : List Entry} {e f : Ending} (l : Leads j a p q gs b p₁ q₁) (m : Leads j a p q hs d p₂ q₂)
       → EndsAt j (b .form) (b .at) e → EndsAt j (d .form) (d .at) f
       → Same b d p₁ q₁ p₂ q₂ × (finishedFrom a p q gs b e ≡ finishedFrom a p q hs d f)
   finished-same {b} {d} {p₁} {q₁} {p₂} {q₂} {gs} {hs} {e} {f} l m x y = go (compare (l .steps) (m .steps))
@@ -119,14 +119,14 @@ module _ {j : Bytes} {a : Checkpoint} {p q : Bytes} where
 
   -- two that had no room for the next piece
   more-same :
-      {b d : Checkpoint} {p₁ q₁ p₂ q₂ t u : Bytes} {gs hs : List Given} {room room' : ℕ} (l : Leads j a p q gs b p₁ q₁) (m : Leads j a p q hs d p₂ q₂)
+      {b d : Checkpoint} {p₁ q₁ p₂ q₂ t u : Bytes} {gs hs : List Entry} {room room' : ℕ} (l : Leads j a p q gs b p₁ q₁) (m : Leads j a p q hs d p₂ q₂)
       → Piece j b p₁ q₁ t → Piece j d p₂ q₂ u → room < length t → room' < length u
       → length (linesFrom a p q gs) + room ≡ length (linesFrom a p q hs) + room'
       → Same b d p₁ q₁ p₂ q₂ × (linesFrom a p q gs ≡ linesFrom a p q hs)
   more-same {b} {d} {p₁} {q₁} {p₂} {q₂} {gs = gs} {hs} l m x y r k n = go (compare (l .steps) (m .steps))
     where
       go : Compared j (a .form) gs hs (b .at) (d .at) → Same b d p₁ q₁ p₂ q₂ × (linesFrom a p q gs ≡ linesFrom a p q hs)
-      go (alike s i) = (leads-same l m s i, ap (λ (ks : List Given). linesFrom a p q ks) s)
+      go (alike s i) = (leads-same l m s i, ap (λ (ks : List Entry). linesFrom a p q ks) s)
       go (fewer g ks s i) = absurd (no-fewer l m x i s (omega arith) r)
       go (further g ks s i) = absurd (no-fewer m l y i s (omega arith) k)
 

@@ -6,14 +6,14 @@ use native.Mathlib.Omega.{arith}
 use lib.{Dec.eqb, ListN.{length, drop, length-append, length-take, length-drop}, Seq.length-take-le}
 use borrow.Author.Tests.{eqb-true, ne-eqb, le-leb}
 use Rattle.protocol.specs.{Pick.pick, Buffers.{Bytes, copyStart, copyBytes}, About.about, Machine.{Machine, machine}}
-use Rattle.protocol.specs.{Refusals.{openRefusal, wrongCount, refusal}, Run.{Given, Record, place, run}}
+use Rattle.protocol.specs.{Refusals.{openRefusal, wrongCount, refusal}, Run.{Entry, Record, place, run}}
 use Rattle.protocol.specs.Step.{refused, done as reply, meaning, actBytes, commitBytes, openReply, accepted, step}
 use Rattle.protocol.specs.{Counts.{counts, countsOf, plus, total}, declared.{Place.Place, Counts.Counts, Opening.Opening as Sizes, Call.Call}}
 use Rattle.protocol.specs.declared.{Act.{Act, the-variants.{Load, Store, Fence, Advance, Transfer}}, Answer.the-variants.Done}
-use Rattle.protocol.{specs.declared.{Name.the-variants.Open, Effect.Effect}, proofs.Places.inside}
+use Rattle.protocol.{specs.declared.{Name.the-variants.Open, Effect.Effect}, proofs.Extents.inside}
 use Rattle.protocol.proofs.Refusals.{machine-fit, named, store-width, not-refused}
 use Rattle.grammar.specs.declared.Line.{Line, the-variants.{Opening as OpeningLine, Step as StepLine, Refused as RefusedLine}}
-use Rattle.journal.specs.Journal.{placed, LineAt, NextOf, tooMuch, empty, ended as atLast, unended, aLine as wholeLine, placeAfter}
+use Rattle.journal.specs.Journal.{inJournal, LineAt, NextOf, tooMuch, empty, ended as atLast, unended, aLine as wholeLine, offsetAfter}
 use Rattle.journal.specs.declared.Next.{Next}
 use Rattle.listing.{specs.Record.recordText, proofs.Lengths.{record-length, end-length}}
 use Rattle.driver.specs.Listing.{Ending, ended, stopped, Between, noLine, aLine, lines, lastLines, notOpened}
@@ -116,17 +116,17 @@ start-writes {new = new} {r = r} x h e =
 -- ---- the run gets to its end
 
 -- a step takes a byte of the journal or more
-steps-long : {j : Bytes} {form at to : ℕ} {gs : List Given} → Between j form at gs to → at + length gs ≤ to
+steps-long : {j : Bytes} {form at to : ℕ} {gs : List Entry} → Between j form at gs to → at + length gs ≤ to
 steps-long noLine = omega arith
 steps-long (aLine x d r) = omega (arith, known x .1 .forward, steps-long r)
 
 -- and stays inside it
-steps-inside : {j : Bytes} {form at to : ℕ} {gs : List Given} → Between j form at gs to → at ≤ length j → to ≤ length j
+steps-inside : {j : Bytes} {form at to : ℕ} {gs : List Entry} → Between j form at gs to → at ≤ length j → to ≤ length j
 steps-inside noLine h = h
 steps-inside (aLine x d r) h = steps-inside r (known x .1 .inside)
 
 -- where a line is written, a step was made
-lines-some : (gs : List Given) (n : ℕ) (m : Machine) → 0 < length (lines (run gs n m .records)) → 0 < length gs
+lines-some : (gs : List Entry) (n : ℕ) (m : Machine) → 0 < length (lines (run gs n m .records)) → 0 < length gs
 unfolding run lines
 lines-some [] n m h = absurd (omega arith)
 lines-some (g ∷ gs) n m h = omega arith
@@ -138,12 +138,12 @@ line-inside j at l next h =
     sym (length-drop at j) ∙ ap length (h .whole) ∙ length-append l (10 ∷ drop next j) in
     omega (arith, h .after)
 
-placed-inside : (j : Bytes) (at next : ℕ) (a : Line) → next ≤ length j → at ≤ length j → placeAfter at (placed a at next) ≤ length j
+placed-inside : (j : Bytes) (at next : ℕ) (a : Line) → next ≤ length j → at ≤ length j → offsetAfter at (inJournal a at next) ≤ length j
 placed-inside j at next (OpeningLine f o) h k = h
 placed-inside j at next (StepLine call x y) h k = h
 placed-inside j at next (RefusedLine n) h k = k
 
-next-inside : {j : Bytes} {at form : ℕ} {b : Next} → NextOf j at form b → at ≤ length j → placeAfter at b ≤ length j
+next-inside : {j : Bytes} {at form : ℕ} {b : Next} → NextOf j at form b → at ≤ length j → offsetAfter at b ≤ length j
 next-inside (tooMuch l) k = k
 next-inside (empty l h e) k = k
 next-inside (atLast l h n) k = k
@@ -163,7 +163,7 @@ resumes-again n s r = rw (ne-eqb (s .form) 0 (r .named), le-leb _ _ (r .inside),
 
 -- the steps of a run lead to another checkpoint of it
 leads-on :
-    {j : Bytes} {from : Checkpoint} {p q : Bytes} {gs : List Given} {there : Checkpoint} {p' q' : Bytes} → resumable (length j) from ≡ true
+    {j : Bytes} {from : Checkpoint} {p q : Bytes} {gs : List Entry} {there : Checkpoint} {p' q' : Bytes} → resumable (length j) from ≡ true
     → Leads j from p q gs there p' q' → resumable (length j) there ≡ true
 leads-on {j} {from} {p} {q} {gs} {there} s l =
     let r = resumes (length j) from s in

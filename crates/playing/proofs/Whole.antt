@@ -3,20 +3,20 @@ use Prim.Native.Nat.{ℕ, _+_}
 use mathlib.Core.{Path.{_≡_, sym, _∙_, ap, ap₂, subst}, List.{List, [], _++_, append-nil, append-assoc}}
 use native.Mathlib.Omega.{arith}
 use lib.ListN.{length, replicate}
-use Rattle.protocol.specs.{Buffers.{Bytes, privateLength, sharedLength}, Machine.{Machine, machine}, Counts.{plus, total}, Run.{Given, Record, run}}
+use Rattle.protocol.specs.{Buffers.{Bytes, privateLength, sharedLength}, Machine.{Machine, machine}, Counts.{plus, total}, Run.{Entry, Record, run}}
 use Rattle.protocol.specs.declared.Counts.{Counts}
 use Rattle.driver.specs.{Listing.{Ending, noLine, EndsAt, lines, lastLines}, declared.Checkpoint.Checkpoint}
 use Rattle.driver.specs.declared.Progress.{Progress, the-variants.{Finished, More}}
 use Rattle.driver.specs.Play.{runFrom, Leads, Tells, finished, more, unfit, firstCheckpoint, Begins, opens, fails, noRoom, noRoomToEnd}
 use Rattle.driver.proofs.{Running.{steps-append, lines-append, run-records, run-length}, Counting.{plus-assoc, plus-none, total-append, total-steps}}
-use Rattle.playing.specs.Listing.{Reads, listingFrom, Listing, opens as opensListing, fails as failsListing}
+use Rattle.playing.specs.Listing.{ReadAs, listingFrom, Listing, opens as opensListing, fails as failsListing}
 use Rattle.playing.specs.{Calls.{joined, Plays-on, last, next, over, begun}, Theorems.WholeTheorem}
 
 -- ---- the listing from a checkpoint on
 
 -- THE LISTING GOES ON: the steps gs and then hs list as the lines of gs, and then as the listing from the machine and the counts after gs
 listing-append :
-    (m : Machine) (k : Counts) (gs hs : List Given) (e : Ending)
+    (m : Machine) (k : Counts) (gs hs : List Entry) (e : Ending)
     → listingFrom m k (gs ++ hs) e
     ≡ lines (run gs (k .steps + 1) m .records)
     ++ listingFrom (run gs (k .steps + 1) m .last) (plus k (total (run gs (k .steps + 1) m .records))) hs e
@@ -32,14 +32,14 @@ listing-append m k gs hs e =
 
 -- the text t is the listing of a journal from a checkpoint on, with the buffers p and q
 record ListingAt (j : Bytes) (from : Checkpoint) (p q t : Bytes) : Type 0 where
-  pub steps : List Given
+  pub steps : List Entry
   pub ending : Ending
-  pub reads : Reads j (from .form) (from .at) steps ending
+  pub reads : ReadAs j (from .form) (from .at) steps ending
   pub text : t ≡ listingFrom (machine (from .state) p q) (from .counts) steps ending
 
 -- THE LISTING FROM HERE is the lines of the steps that lead there, and the listing from there
 onward :
-    {j : Bytes} {a b : Checkpoint} {p q p' q' : Bytes} {gs : List Given} → Leads j a p q gs b p' q' → {t : Bytes} → ListingAt j b p' q' t
+    {j : Bytes} {a b : Checkpoint} {p q p' q' : Bytes} {gs : List Entry} → Leads j a p q gs b p' q' → {t : Bytes} → ListingAt j b p' q' t
     → ListingAt j a p q (lines (runFrom a p q gs .records) ++ t)
 onward {a = a} {p = p} {q = q} {gs = gs} l {t} x =
     record {

@@ -2,27 +2,27 @@
 -- engine, and the listing is the text of the run's records and the end line, whose counts are those of the records.
 use Prim.Native.Nat.{ℕ, _+_}
 use mathlib.Core.{Path._≡_, List.{List, _++_}}
-use Rattle.protocol.specs.{Buffers.Bytes, Machine.{Machine, freshMachine}, Refusals.openRefusal, Step.openReply, Run.{Given, place, run}}
+use Rattle.protocol.specs.{Buffers.Bytes, Machine.{Machine, freshMachine}, Refusals.openRefusal, Step.openReply, Run.{Entry, place, run}}
 use Rattle.protocol.specs.{Counts.{nothingMet, plus, total}, declared.{Opening.Opening as Sizes, Counts.Counts}}
 use Rattle.journal.specs.{Journal.NextOf, declared.Next.the-variants.Opening}
 use Rattle.listing.specs.Record.{recordText}
 use Rattle.driver.specs.Listing.{Ending, Between, EndsAt, lines, lastLines, NotOpened, notOpened}
 
 -- the steps that a journal of some form spells from a place on, and how it ends
-pub record Reads (journal : Bytes) (form at : ℕ) (gs : List Given) (e : Ending) : Type 0 where
+pub record ReadAs (journal : Bytes) (form at : ℕ) (gs : List Entry) (e : Ending) : Type 0 where
   pub to : ℕ
   pub steps : Between journal form at gs to
   pub ends : EndsAt journal form to e
 
 -- the listing from a machine on, after k was met: the records of the steps, and the last lines
-abbrev pub listingFrom : Machine → Counts → List Given → Ending → Bytes
+abbrev pub listingFrom : Machine → Counts → List Entry → Ending → Bytes
 listingFrom m k gs e = lines (run gs (k .steps + 1) m .records) ++ lastLines (plus k (total (run gs (k .steps + 1) m .records))) e
 
 -- THE LISTING of a journal
 pub data Listing (journal : Bytes) : Bytes → Type 0 where
   -- the first line opens an engine, and the steps run on it
   opens :
-      {form : ℕ} {o : Sizes} {next : ℕ} {gs : List Given} {e : Ending} → NextOf journal 0 0 (Opening form o next) → openRefusal o ≡ 0
-      → Reads journal form next gs e → Listing journal (recordText (place 0) (openReply o) ++ listingFrom (freshMachine o) nothingMet gs e)
+      {form : ℕ} {o : Sizes} {next : ℕ} {gs : List Entry} {e : Ending} → NextOf journal 0 0 (Opening form o next) → openRefusal o ≡ 0
+      → ReadAs journal form next gs e → Listing journal (recordText (place 0) (openReply o) ++ listingFrom (freshMachine o) nothingMet gs e)
   -- the first line opens none
   fails : {n : ℕ} → NotOpened journal n → Listing journal (notOpened n)

@@ -2,19 +2,19 @@
 use Prim.Native.Nat.{ℕ, _≤_, _<_}
 use mathlib.Core.{Path._≡_, Bool.true, List.List}
 use lib.ListN.{length}
-use Rattle.protocol.specs.{Buffers.Bytes, Run.Given}
+use Rattle.protocol.specs.{Buffers.Bytes, Run.Entry}
 use Rattle.driver.specs.{Listing.Ending, Play.{resumable, Plays, Starts}, declared.Checkpoint.Checkpoint}
 use Rattle.driver.specs.declared.{Progress.{Progress, the-variants.{Finished, More}}, Played.Played}
-use Rattle.playing.specs.{Listing.{Reads, Listing}, Calls.{joined, Playing}}
+use Rattle.playing.specs.{Listing.{ReadAs, Listing}, Calls.{joined, Playing}}
 
 -- ---- the listing
 
 -- the steps that a journal spells from a place on and how it ends, and no others
 pub record OneReading (journal : Bytes) (form at : ℕ) : Type 0 where
-  pub steps : List Given
+  pub steps : List Entry
   pub ending : Ending
-  pub holds : Reads journal form at steps ending
-  pub only : (gs : List Given) (e : Ending) → Reads journal form at gs e → (gs ≡ steps) × (e ≡ ending)
+  pub holds : ReadAs journal form at steps ending
+  pub only : (gs : List Entry) (e : Ending) → ReadAs journal form at gs e → (gs ≡ steps) × (e ≡ ending)
 
 -- a journal whose first line was read reads in exactly one way from each place
 abbrev pub OneReadingTheorem : Type 0

@@ -6,7 +6,7 @@ use mathlib.Core.{Path.{_≡_, refl, sym}, Bool.{Bool, true, false}, List.[]}
 use native.Mathlib.Omega.{arith}
 use lib.{Dec.{leb, eqb}, ListN.length}
 use borrow.Author.Tests.{leb-true, leb-false, lt-ltb, eqb-true}
-use Rattle.protocol.specs.{Pick.{pick, both, fails}, Stamps.fits, Buffers.{Bytes, Placed}}
+use Rattle.protocol.specs.{Pick.{pick, both, fails}, Stamps.canAdd, Buffers.{Bytes, There}}
 use Rattle.protocol.specs.Machine.{Machine, Pieces, piecesAt, coreAt, copyAt, lineAt, slotLine, ownerOf, coreOf, lineOf, applied}
 use Rattle.protocol.specs.Refusals.{isEmpty, isAsked, isAnswered, isHeld, isOwned, hasOwner, stands, inFlight, loadAsks, storePasses}
 use Rattle.protocol.specs.Refusals.{servePasses, stateRules, stateRefusal, refusal}
@@ -20,7 +20,7 @@ use Rattle.protocol.specs.declared.{Writeback.{Writeback, the-variants.{
 use Rattle.protocol.specs.declared.{Call.{Call, the-variants.{Load, Store, Fence, Evict, Advance, Serve, Receive, Yield, Take}}, Effect.Effect}
 use Rattle.protocol.specs.declared.Name.{Name, the-variants.Evict as Evicted}
 use Rattle.protocol.specs.declared.Grant.the-variants.{Share as GrantShare, Renew as GrantRenew, Own as GrantOwn}
-use Rattle.protocol.proofs.{Tests.{never, both-true, both-false}, Refusals.{not-true, passed, machine-fit, placed, NotRefused, not-refused}}
+use Rattle.protocol.proofs.{Tests.{never, both-true, both-false}, Refusals.{not-true, passed, machine-fit, call-there, NotRefused, not-refused}}
 
 -- the calls that give up a shared copy, and an owned one, each with the name that it answers
 pub data Drops (c l : ℕ) : Call → Name → Type 0 where
@@ -39,7 +39,7 @@ pub data Row (c l : ℕ) (p : Pieces) (o : Opening) : Call → Effect → Type 0
   writes : {d : Bool} {w r : Stamp} → p .copy ≡ CopyOwned d w r → storePasses (p .copy) ≡ false
       → Row c l p o (Store c l) (storeTable (CopyOwned d w r) c l p)
   fences : Row c l p o (Fence c) (fenceTable c p)
-  advances : {by : ℕ} → fits (p .core .clocks .lts) by ≡ true → Row c l p o (Advance c by) (advanceTable by p)
+  advances : {by : ℕ} → canAdd (p .core .clocks .lts) by ≡ true → Row c l p o (Advance c by) (advanceTable by p)
   evicts-shared : {call : Call} {n : Name} {w r : Stamp} → Drops c l call n → p .copy ≡ CopyShared w r
       → Row c l p o call (evictTable n (CopyShared w r) p)
   evicts-owned : {call : Call} {n : Name} {d : Bool} {w r : Stamp} → WritesBack c l call n → p .copy ≡ CopyOwned d w r
@@ -47,9 +47,9 @@ pub data Row (c l : ℕ) (p : Pieces) (o : Opening) : Call → Effect → Type 0
   recalls : {a : Want} {t : Stamp} {h : Held} {k : ℕ} → p .core .slot ≡ Asked a l t h → p .line .manager ≡ Owned k
       → Row c l p o (Serve c) (serveAsked (Owned k) a c l t h p o)
   renews : {t : Stamp} {h : Held} {w r : Stamp} → p .core .slot ≡ Asked WantLoad l t h → p .line .manager ≡ Shared w r
-      → sameVersion h w ≡ true → fits t (o .lease) ≡ true → Row c l p o (Serve c) (serveLoad true l w (leasedTo r t (o .lease)) p)
+      → sameVersion h w ≡ true → canAdd t (o .lease) ≡ true → Row c l p o (Serve c) (serveLoad true l w (leasedTo r t (o .lease)) p)
   shares : {t : Stamp} {h : Held} {w r : Stamp} → p .core .slot ≡ Asked WantLoad l t h → p .line .manager ≡ Shared w r
-      → sameVersion h w ≡ false → fits t (o .lease) ≡ true → Row c l p o (Serve c) (serveLoad false l w (leasedTo r t (o .lease)) p)
+      → sameVersion h w ≡ false → canAdd t (o .lease) ≡ true → Row c l p o (Serve c) (serveLoad false l w (leasedTo r t (o .lease)) p)
   grants : {t : Stamp} {h : Held} {w r : Stamp} → p .core .slot ≡ Asked WantStore l t h → p .line .manager ≡ Shared w r
       → Row c l p o (Serve c) (serveAsked (Shared w r) WantStore c l t h p o)
   gets-share : {w r : Stamp} → p .core .slot ≡ Answered GrantShare l w r → Row c l p o (Receive c) (receiveGrant GrantShare w r p)
@@ -178,7 +178,7 @@ effect-case P s call refuse row = go (eqb (stateRefusal call (piecesOf call s) (
 -- the two cases of a call
 pub data Case (m : Machine) (call : Call) (given : Bytes) : Outcome → Type 0 where
   refuses : (n : ℕ) → Case m call given (record { reply = refused n; machine = m })
-  makes : {d : Effect} → NotRefused m call (length given) → Placed (m .state .opening) (coreOf call (m .state)) (lineOf call (m .state))
+  makes : {d : Effect} → NotRefused m call (length given) → There (m .state .opening) (coreOf call (m .state)) (lineOf call (m .state))
       → RowOn (m .state) call d → Case m call given (accepted m call given (coreOf call (m .state)) (lineOf call (m .state)) d)
 
 pub case-of : (m : Machine) (call : Call) (given : Bytes) → Case m call given (step m call given)
@@ -192,11 +192,11 @@ case-of m call given = go (eqb (refusal m call (length given)) 0) refl
     go false e = refuses (refusal m call (length given))
     go true e =
         let n = not-refused m call (length given) (eqb-true (refusal m call (length given)) 0 e) in
-        makes n (placed (machine-fit m (n .machineOk)) call (length given) (n .callOk)) (row-of (m .state) call (n .stateOk))
+        makes n (call-there (machine-fit m (n .machineOk)) call (length given) (n .callOk)) (row-of (m .state) call (n .stateOk))
 
 -- what every row keeps, every step keeps
 pub kept-by-rows : (P : Machine → Type 0) {m : Machine} (call : Call) (given : Bytes)
-    → ((d : Effect) → NotRefused m call (length given) → Placed (m .state .opening) (coreOf call (m .state)) (lineOf call (m .state))
+    → ((d : Effect) → NotRefused m call (length given) → There (m .state .opening) (coreOf call (m .state)) (lineOf call (m .state))
     → RowOn (m .state) call d → P (applied m (coreOf call (m .state)) (lineOf call (m .state)) given d))
     → P m → P (step m call given .machine)
 unfolding accepted

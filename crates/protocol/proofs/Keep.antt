@@ -4,10 +4,10 @@ use Prim.Native.Nat.{ℕ}
 use mathlib.Core.{Path.{_≡_, refl, sym, _∙_}, Bool.{true, false}}
 use lib.ListN.{length}
 use borrow.Author.Tests.{lt-ltb, eq-eqb}
-use Rattle.protocol.specs.{Pick.first, Buffers.{Bytes, Placed, givenFits}, About.about, Machine.{Machine, Pieces, coreOf, lineOf, applied}}
+use Rattle.protocol.specs.{Pick.first, Buffers.{Bytes, There, givenFits}, About.about, Machine.{Machine, Pieces, coreOf, lineOf, applied}}
 use Rattle.protocol.specs.Refusals.{ownerFits, slotFits, ownersFit, slotsFit, stateFits, buffersFit, machineRefusal, wrongCount}
 use Rattle.protocol.specs.Tables.{loadOwned, storeTable, fenceTable, advanceTable, evictTable, serveAsked, serveLoad, receiveGrant}
-use Rattle.protocol.specs.{Tables.{receiveRenew, yieldTable, takeTable}, Step.step, declared.{Core.Core, Line.Line, Opening.Opening}}
+use Rattle.protocol.specs.{Tables.{receiveRenew, yieldTable, takeTable}, Step.step, declared.{Core.Core, ManagerLine.ManagerLine, Opening.Opening}}
 use Rattle.protocol.specs.declared.{Call.Call, Effect.Effect}
 use Rattle.protocol.proofs.{Scan.every-set, Moves.{length-movedPrivate, length-movedShared}}
 use Rattle.protocol.proofs.Refusals.{Fit, machine-fit, slot-inside, owner-inside, store-width, named, NotRefused}
@@ -21,7 +21,7 @@ pub record EffectFits (o : Opening) (n : ℕ) (d : Effect) : Type 0 where
   pub owner : ownerFits (o .cores) (d .line .manager) ≡ true
   pub bytes : givenFits (d .moves) (o .width) n ≡ true
 
-module _ {o : Opening} {n c l : ℕ} {p : Pieces} (q : Placed o c l) (slot : slotFits (o .lines) (p .core .slot) ≡ true)
+module _ {o : Opening} {n c l : ℕ} {p : Pieces} (q : There o c l) (slot : slotFits (o .lines) (p .core .slot) ≡ true)
     (owner : ownerFits (o .cores) (p .line .manager) ≡ true) where
   pub row-fits : {call : Call} {d : Effect} → wrongCount (about call .act) o n ≡ false → Row c l p o call d → EffectFits o n d
   unfolding loadOwned storeTable fenceTable advanceTable evictTable serveAsked serveLoad receiveGrant receiveRenew yieldTable takeTable
@@ -49,13 +49,13 @@ module _ {o : Opening} {n c l : ℕ} {p : Pieces} (q : Placed o c l) (slot : slo
 
 -- the row of an accepted call on a machine that fits
 pub made-fits : {m : Machine} {call : Call} {n : ℕ} {d : Effect} → Fit m → NotRefused m call n
-    → (q : Placed (m .state .opening) (coreOf call (m .state)) (lineOf call (m .state)))
+    → (q : There (m .state .opening) (coreOf call (m .state)) (lineOf call (m .state)))
     → RowOn (m .state) call d → EffectFits (m .state .opening) n d
 made-fits {call = call} f k q w = row-fits q (slot-inside f _ (q .core)) (owner-inside f _ (q .line)) (named call _ _ (k .callOk) .count) w
 
 -- and the machine after it
 row-kept : {m : Machine} {call : Call} (given : Bytes) {d : Effect} → Fit m → NotRefused m call (length given)
-    → Placed (m .state .opening) (coreOf call (m .state)) (lineOf call (m .state)) → RowOn (m .state) call d
+    → There (m .state .opening) (coreOf call (m .state)) (lineOf call (m .state)) → RowOn (m .state) call d
     → Fit (applied m (coreOf call (m .state)) (lineOf call (m .state)) given d)
 unfolding applied ownersFit slotsFit
 row-kept {m} {call} given {d} f k q w =
@@ -65,7 +65,7 @@ row-kept {m} {call} given {d} f k q w =
     let e = made-fits f k q w in
     record {
       opening = f .opening;
-      owners = every-set (λ (x : Line). ownerFits (o .cores) (x .manager)) (m .state .line) (o .lines) l (d .line) (f .owners) (e .owner);
+      owners = every-set (λ (x : ManagerLine). ownerFits (o .cores) (x .manager)) (m .state .line) (o .lines) l (d .line) (f .owners) (e .owner);
       slots = every-set (λ (x : Core). slotFits (o .lines) (x .slot)) (m .state .core) (o .cores) c (d .core) (f .slots) (e .slot);
       nPrivate = length-movedPrivate m c l given f q (d .moves) (e .bytes) ∙ f .nPrivate;
       nShared = length-movedShared m c l given f q (d .moves) ∙ f .nShared;

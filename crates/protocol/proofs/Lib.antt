@@ -3,7 +3,7 @@ pub mod Tests
 pub mod Stamps
 pub mod Scan
 pub mod Bytes
-pub mod Places
+pub mod Extents
 pub mod Moves
 pub mod Refusals
 pub mod Cases

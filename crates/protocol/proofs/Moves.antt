@@ -5,7 +5,7 @@ use native.Mathlib.Omega.{arith}
 use lib.ListN.{length}
 use borrow.Author.Tests.{eqb-true}
 use Rattle.spelling.{specs.Over.over, proofs.OverLaws.{over-length, over-part}}
-use Rattle.protocol.specs.Buffers.{Bytes, Placed, part, copyBytes, managerBytes, writebackBytes, answerBytes, givenFits, movedPrivate}
+use Rattle.protocol.specs.Buffers.{Bytes, There, part, copyBytes, managerBytes, writebackBytes, answerBytes, givenFits, movedPrivate}
 use Rattle.protocol.specs.{Buffers.movedShared, declared.Opening.Opening}
 use Rattle.protocol.specs.declared.Move.{Move, the-variants.{Still, Store as MoveStore, Answer as MoveAnswer, Receive as MoveReceive}}
 use Rattle.protocol.specs.{declared.Move.the-variants.{Writeback as MoveWriteback, Take as MoveTake}, Machine.Machine}
@@ -73,7 +73,7 @@ module _ (m : Machine) (c l : ℕ) (given : Bytes) where
   answerAfter MoveWriteback = answerBytes o q c
   answerAfter MoveTake = answerBytes o q c
 
-  module _ (f : Fit m) (at : Placed o c l) where
+  module _ (f : Fit m) (at : There o c l) where
     abbrev hc : c < o .cores
     hc = at .core
 

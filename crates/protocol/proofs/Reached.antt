@@ -2,11 +2,11 @@
 -- reached machines goes by it, with one lemma about a step (proofs/Cases).
 use Prim.Native.Nat.{ℕ, suc}
 use mathlib.Core.{Logic.{_⊎_, inl, inr, ⊎-elim}, List.{List, [], _∷_, _++_}}
-use Rattle.protocol.specs.{Buffers.Bytes, Machine.Machine, Step.step, Run.{Given, Record, place, run, Commit, commitOf, commits}}
+use Rattle.protocol.specs.{Buffers.Bytes, Machine.Machine, Step.step, Run.{Entry, Record, place, run, Commit, commitOf, commits}}
 use Rattle.protocol.specs.Order.{In, here, there}
 
 -- the record of a call at place p
-abbrev pub recorded : ℕ → Machine → Given → Record
+abbrev pub recorded : ℕ → Machine → Entry → Record
 recorded p m g = record { place = place p; given = g; reply = step m (g .call) (g .bytes) .reply }
 
 -- records made after others, newest first
@@ -16,8 +16,8 @@ onto (x ∷ xs) rs = onto xs (x ∷ rs)
 
 -- P p rs m: the machine m is reached before place p, with the records rs, newest first
 module _ (P : ℕ → List Record → Machine → Type 0)
-    (next : (p : ℕ) (rs : List Record) (m : Machine) (g : Given) → P p rs m → P (suc p) (recorded p m g ∷ rs) (step m (g .call) (g .bytes) .machine)) where
-  pub reached : (gs : List Given) (p : ℕ) (rs : List Record) (m : Machine) → P p rs m → (p′ : ℕ) × P p′ (onto (run gs p m .records) rs) (run gs p m .last)
+    (next : (p : ℕ) (rs : List Record) (m : Machine) (g : Entry) → P p rs m → P (suc p) (recorded p m g ∷ rs) (step m (g .call) (g .bytes) .machine)) where
+  pub reached : (gs : List Entry) (p : ℕ) (rs : List Record) (m : Machine) → P p rs m → (p′ : ℕ) × P p′ (onto (run gs p m .records) rs) (run gs p m .last)
   unfolding run onto
   reached [] p rs m h = (p, h)
   reached (g ∷ gs) p rs m h = reached gs (suc p) (recorded p m g ∷ rs) (step m (g .call) (g .bytes) .machine) (next p rs m g h)

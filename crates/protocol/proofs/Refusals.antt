@@ -5,16 +5,16 @@ use native.Mathlib.Omega.{arith}
 use lib.{Dec.eqb, ListN.length}
 use borrow.Author.Tests.{ltb-true, leb-false, eqb-true, eq-eqb}
 use Rattle.protocol.specs.{Pick.{pick, fails, Rule, first, _gives_}, Limits.openingFits, Fresh.{freshCore, freshLine}}
-use Rattle.protocol.specs.{Buffers.{privateLength, sharedLength, Placed}, About.{about, namedLine}}
+use Rattle.protocol.specs.{Buffers.{privateLength, sharedLength, There}, About.{about, namedLine}}
 use Rattle.protocol.specs.Machine.{Machine, Pieces, coreAt, lineAt, theCore, theLine, coreOf, lineOf, piecesAt}
 use Rattle.protocol.specs.Refusals.{openRefusal, ownerFits, slotFits, ownersFit, slotsFit, stateFits, buffersFit, machineRefusal, noCore}
 use Rattle.protocol.specs.{Refusals.{noLine, wrongCount, byNothing, callRules, callRefusal, stateRefusal, orElse, refusal}, Tables.refusedRow}
 use Rattle.protocol.specs.declared.{Slot.{Slot, the-variants.{Empty, Asked, Answered}}, Core.Core}
-use Rattle.protocol.specs.declared.{Manager.{Manager, the-variants.{Shared, Owned}}, Line.Line, Opening.Opening, Call.Call}
+use Rattle.protocol.specs.declared.{Manager.{Manager, the-variants.{Shared, Owned}}, ManagerLine.ManagerLine, Opening.Opening, Call.Call}
 use Rattle.protocol.specs.declared.Who.{Who, the-variants.{Named as NamedCore, Owner, Nobody}}
 use Rattle.protocol.specs.declared.{Which.{Which, the-variants.{Named as NamedLine, InSlot, Nothing}}, About.About, Effect.Effect}
 use Rattle.protocol.specs.declared.Act.the-variants.{Store as Stores}
-use Rattle.protocol.proofs.{Tests.{never, both-true}, Scan.every-at, Places.{Inside, inside, placed-at}}
+use Rattle.protocol.proofs.{Tests.{never, both-true}, Scan.every-at, Extents.{Inside, inside, there-at}}
 
 -- ---- tests and rules
 
@@ -129,19 +129,19 @@ module _ {m : Machine} (f : Fit m) where
   pub owner-inside : (l : ℕ) → l < m .state .opening .lines → ownerFits (m .state .opening .cores) (lineAt (m .state) l .manager) ≡ true
   unfolding ownersFit
   owner-inside l h =
-      every-at (λ (x : Line). ownerFits (m .state .opening .cores) (x .manager)) freshLine refl (m .state .line) (m .state .opening .lines) l h (f .owners)
+      every-at (λ (x : ManagerLine). ownerFits (m .state .opening .cores) (x .manager)) freshLine refl (m .state .line) (m .state .opening .lines) l h (f .owners)
 
   lim : Inside (m .state .opening)
   lim = inside (m .state .opening) (f .opening)
 
   -- the core and the line that a call is about are there, if none of 3 to 6 refuses it
-  pub placed : (call : Call) (n : ℕ) → callRefusal call (m .state .opening) n ≡ 0 → Placed (m .state .opening) (coreOf call (m .state)) (lineOf call (m .state))
-  placed call n e =
+  pub call-there : (call : Call) (n : ℕ) → callRefusal call (m .state .opening) n ≡ 0 → There (m .state .opening) (coreOf call (m .state)) (lineOf call (m .state))
+  call-there call n e =
       let o = m .state .opening in
       let a = named call o n e in
       let l = named-inside o (about call .line) (lim .someLines) (a .line) in
       let c = core-inside o (about call .core) _ (lim .someCores) (a .core) (owner-inside _ l) in
-      placed-at lim c (line-inside o (about call .line) _ (lim .someLines) (a .line) (slot-inside _ c))
+      there-at lim c (line-inside o (about call .line) _ (lim .someLines) (a .line) (slot-inside _ c))
 
 -- ---- all refusals
 

@@ -2,7 +2,7 @@
 use Prim.Native.Nat.{ℕ}
 use mathlib.Core.{Path.{_≡_, refl}, Bool.{Bool, true, false}}
 use native.Mathlib.Omega.{arith}
-use Rattle.protocol.specs.{Pick.pick, Stamps.{atMost, earlier, plus, fits, after}, declared.{Stamp.Stamp, Sum.the-variants.{At, Passes}}}
+use Rattle.protocol.specs.{Pick.pick, Stamps.{atMost, earlier, plus, canAdd, after}, declared.{Stamp.Stamp, Sum.the-variants.{At, Passes}}}
 use borrow.Author.Tests.{leb-true, leb-false, lt-ltb, le-ltb}
 
 -- a ≤ b, and not b < a
@@ -14,17 +14,17 @@ pub then-earlier : (a b : Stamp) → atMost a b ≡ false → earlier b a ≡ tr
 then-earlier a b e = lt-ltb (b .0) (a .0) (leb-false (a .0) (b .0) e)
 
 -- the sum is a timestamp: it fits, and is n later
-pub sum-at : (t : Stamp) (n : ℕ) {s : Stamp} → after t n ≡ At s → (fits t n ≡ true) × (s ≡ plus t n)
-sum-at t n {s} = go (fits t n) refl
+pub sum-at : (t : Stamp) (n : ℕ) {s : Stamp} → after t n ≡ At s → (canAdd t n ≡ true) × (s ≡ plus t n)
+sum-at t n {s} = go (canAdd t n) refl
   where
-    go : (b : Bool) → fits t n ≡ b → pick b (At (plus t n)) Passes ≡ At s → (fits t n ≡ true) × (s ≡ plus t n)
+    go : (b : Bool) → canAdd t n ≡ b → pick b (At (plus t n)) Passes ≡ At s → (canAdd t n ≡ true) × (s ≡ plus t n)
     go true e h = (e, cc)
     go false e h = absurd (let z : _≡_ {A = ℕ} 0 1 = cc in omega arith)
 
 -- the sum passes the greatest timestamp: it does not fit
-pub sum-passes : (t : Stamp) (n : ℕ) → after t n ≡ Passes → fits t n ≡ false
-sum-passes t n = go (fits t n) refl
+pub sum-passes : (t : Stamp) (n : ℕ) → after t n ≡ Passes → canAdd t n ≡ false
+sum-passes t n = go (canAdd t n) refl
   where
-    go : (b : Bool) → fits t n ≡ b → pick b (At (plus t n)) Passes ≡ Passes → fits t n ≡ false
+    go : (b : Bool) → canAdd t n ≡ b → pick b (At (plus t n)) Passes ≡ Passes → canAdd t n ≡ false
     go true e h = absurd (let z : _≡_ {A = ℕ} 0 1 = cc in omega arith)
     go false e h = e

@@ -3,7 +3,7 @@ use Prim.Native.Nat.{ℕ, zero, suc, _+_, _*_, _<_}
 use mathlib.Core.Path.{_≡_, refl, _∙_, ap}
 use native.Mathlib.Omega.{arith}
 use lib.{ListN.{length, getD, length-set, replicate, length-replicate}, Seq.{getD-set-same, getD-set-other}}
-use Rattle.protocol.specs.{Fresh.{freshCore, freshCell, freshLine, freshState}, Buffers.Placed, Machine.{coreAt, copyAt, lineAt, written}}
+use Rattle.protocol.specs.{Fresh.{freshCore, freshCell, freshLine, freshState}, Buffers.There, Machine.{coreAt, copyAt, lineAt, written}}
 use Rattle.protocol.specs.declared.{Cell.Cell, Opening.Opening, State.State, Effect.Effect, Copy.the-variants.None as NoCopy}
 use Rattle.protocol.proofs.Bytes.{grid-row, grid-column}
 
@@ -15,7 +15,7 @@ pub record Arrays (s : State) : Type 0 where
 
 -- ---- after an effect d on core c and line l
 
-module _ {s : State} (a : Arrays s) {c l : ℕ} (q : Placed (s .opening) c l) (d : Effect) where
+module _ {s : State} (a : Arrays s) {c l : ℕ} (q : There (s .opening) c l) (d : Effect) where
   pub core-at : coreAt (written s c l d) c ≡ d .core
   core-at = getD-set-same (s .core) c (d .core) freshCore (omega (arith, a .nCore, q .cores, q .core))
 

@@ -38,7 +38,7 @@ abbrev pub answerStart : Opening → ℕ → ℕ
 answerStart o c = (2 * o .lines + c) * o .width
 
 -- core c and line l are among those of an opening whose sizes lie inside the limits: their places lie in the buffers
-pub record Placed (o : Opening) (c l : ℕ) : Type 0 where
+pub record There (o : Opening) (c l : ℕ) : Type 0 where
   pub cores : o .cores ≤ mostCores
   pub lines : o .lines ≤ mostLines
   pub width : o .width ≤ mostWidth

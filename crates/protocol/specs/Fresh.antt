@@ -4,7 +4,7 @@ use Prim.Native.Nat.{_*_}
 use lib.ListN.{replicate}
 use Rattle.protocol.specs.{Stamps.stamp, Limits.{mostCores, mostLines}, declared.{Copy.the-variants.None as NoCopy, Slot.the-variants.Empty}}
 use Rattle.protocol.specs.declared.{Manager.the-variants.Shared, Recall.the-variants.None as NoRecall}
-use Rattle.protocol.specs.declared.{Writeback.the-variants.None as NoWriteback, Core.Core, Cell.Cell, Line.Line, Opening.Opening, State.State}
+use Rattle.protocol.specs.declared.{Writeback.the-variants.None as NoWriteback, Core.Core, Cell.Cell, ManagerLine.ManagerLine, Opening.Opening, State.State}
 
 -- the fresh core: both clocks 0, the slot empty
 abbrev pub freshCore : Core
@@ -15,7 +15,7 @@ abbrev pub freshCell : Cell
 freshCell = record { copy = NoCopy }
 
 -- the fresh line: shared, no recall, no writeback
-abbrev pub freshLine : Line
+abbrev pub freshLine : ManagerLine
 freshLine = record { manager = Shared (stamp 0) (stamp 0); recall = NoRecall; writeback = NoWriteback }
 
 -- the fresh state of an opening

@@ -4,7 +4,7 @@ use lib.ListN.{getD, set, replicate}
 use Rattle.protocol.specs.{Buffers.{Bytes, privateLength, sharedLength, movedPrivate, movedShared}, Limits.mostLines, About.{about, namedLine}}
 use Rattle.protocol.specs.{Fresh.{freshCore, freshCell, freshLine, freshState}, declared.Copy.Copy}
 use Rattle.protocol.specs.declared.{Slot.{Slot, the-variants.{Empty, Asked, Answered}}, Core.Core}
-use Rattle.protocol.specs.declared.{Manager.{Manager, the-variants.{Shared, Owned}}, Line.Line, Opening.Opening, State.State, Call.Call}
+use Rattle.protocol.specs.declared.{Manager.{Manager, the-variants.{Shared, Owned}}, ManagerLine.ManagerLine, Opening.Opening, State.State, Call.Call}
 use Rattle.protocol.specs.declared.Who.{Who, the-variants.{Named as NamedCore, Owner, Nobody}}
 use Rattle.protocol.specs.declared.{Which.{Which, the-variants.{Named as NamedLine, InSlot, Nothing}}, Effect.Effect}
 
@@ -32,16 +32,16 @@ cellOf c l = c * mostLines + l
 abbrev pub copyAt : State → ℕ → ℕ → Copy
 copyAt s c l = getD (s .cell) (cellOf c l) freshCell .copy
 
-abbrev pub lineAt : State → ℕ → Line
+abbrev pub lineAt : State → ℕ → ManagerLine
 lineAt s l = getD (s .line) l freshLine
 
 -- the pieces of the machine that a step looks at, beside the opening: one core, its copy of one line, the manager's line
 pub record Pieces : Type 0 where
   pub core : Core
   pub copy : Copy
-  pub line : Line
+  pub line : ManagerLine
 
-abbrev pub pieces : Core → Copy → Line → Pieces
+abbrev pub pieces : Core → Copy → ManagerLine → Pieces
 pieces k x m = record { core = k; copy = x; line = m }
 
 abbrev pub piecesAt : State → ℕ → ℕ → Pieces

@@ -15,7 +15,7 @@ use Prim.Native.Nat.{ℕ, _<_}
 use mathlib.Core.{Path._≡_, Bool.true, Logic._⊎_, List.{List, _∷_}}
 use lib.ListN.{replicate}
 use Rattle.protocol.specs.{Stamps.{Precedes, precedes}, Buffers.Bytes, Machine.freshMachine, Refusals.openRefusal}
-use Rattle.protocol.specs.{Step.{Op, load, store, fence, opened}, Run.{Given, run, Commit, commits}, declared.{Key.Key, Opening.Opening}}
+use Rattle.protocol.specs.{Step.{Op, load, store, fence, opened}, Run.{Entry, run, Commit, commits}, declared.{Key.Key, Opening.Opening}}
 
 -- a is in the list
 pub data In {A : Type 0} (a : A) : List A → Type 0 where
@@ -76,7 +76,7 @@ abbrev pub TSO : {A : Type 0} → A → List (Commit A) → Type 0
 TSO = Obeys TsoKeeps MaySee Loads Stores
 
 -- the commits of a list of calls on the fresh engine of an opening; the first call's place is 1
-abbrev pub commitsOf : Opening → List Given → List (Commit Bytes)
+abbrev pub commitsOf : Opening → List Entry → List (Commit Bytes)
 commitsOf o gs = commits (run gs 1 (freshMachine o) .records)
 
 -- an opening that is accepted gives the state that the runs start from
@@ -85,7 +85,7 @@ OpenTheorem = (o : Opening) → openRefusal o ≡ 0 → opened o ≡ freshMachin
 
 -- demand 3, for every opening that `open` accepts
 abbrev pub OrderTheorem : Type 0
-OrderTheorem = (o : Opening) → openRefusal o ≡ 0 → (gs : List Given) → TSO (replicate (o .width) 0) (commitsOf o gs)
+OrderTheorem = (o : Opening) → openRefusal o ≡ 0 → (gs : List Entry) → TSO (replicate (o .width) 0) (commitsOf o gs)
 
 -- a relation puts the elements of a list into one order
 pub record StrictTotal {A : Type 0} (R : A → A → Type 0) (H : List A) : Type 0 where
@@ -95,7 +95,7 @@ pub record StrictTotal {A : Type 0} (R : A → A → Type 0) (H : List A) : Type
 
 -- the sort is well defined: of two commits of a run one precedes the other
 abbrev pub SortTheorem : Type 0
-SortTheorem = (o : Opening) (gs : List Given) → StrictTotal Before (commitsOf o gs)
+SortTheorem = (o : Opening) (gs : List Entry) → StrictTotal Before (commitsOf o gs)
 
 -- the test `precedes`, which Key::precedes answers, decides whether one key precedes another
 abbrev pub KeyTheorem : Type 0

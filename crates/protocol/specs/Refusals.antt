@@ -2,14 +2,14 @@
 use Prim.Native.Nat.{ℕ}
 use mathlib.Core.{Bool.{Bool, true, false}, List.{List, [], _∷_}}
 use lib.{Dec.{ltb, leb, eqb}, ListN.{length, take}}
-use Rattle.protocol.specs.{Pick.{pick, both, fails, every, Rule, first, _gives_}, Stamps.{earlier, fits}, Limits.openingFits}
+use Rattle.protocol.specs.{Pick.{pick, both, fails, every, Rule, first, _gives_}, Stamps.{earlier, canAdd}, Limits.openingFits}
 use Rattle.protocol.specs.{Buffers.{privateLength, sharedLength}, About.about, Machine.{Machine, Pieces, piecesAt, coreOf, lineOf}}
 use Rattle.protocol.specs.declared.{Stamp.Stamp, Copy.{Copy, the-variants.{None as NoCopy, Shared as CopyShared, Owned as CopyOwned}}}
 use Rattle.protocol.specs.declared.Want.the-variants.{Load as WantLoad, Store as WantStore}
 use Rattle.protocol.specs.declared.{Slot.{Slot, the-variants.{Empty, Asked, Answered}}, Core.Core}
 use Rattle.protocol.specs.declared.Manager.{Manager, the-variants.{Shared, Owned}}
 use Rattle.protocol.specs.declared.Recall.{Recall, the-variants.{None as NoRecall, Downgrade, Flush}}
-use Rattle.protocol.specs.declared.{Writeback.{Writeback, the-variants.{None as NoWriteback, Flight}}, Line.Line, Opening.Opening, State.State}
+use Rattle.protocol.specs.declared.{Writeback.{Writeback, the-variants.{None as NoWriteback, Flight}}, ManagerLine.ManagerLine, Opening.Opening, State.State}
 use Rattle.protocol.specs.declared.Call.{Call, the-variants.{Load, Store, Fence, Evict, Advance, Serve, Receive, Yield, Take}}
 use Rattle.protocol.specs.declared.Who.{Who, the-variants.{Named as NamedCore, Owner, Nobody}}
 use Rattle.protocol.specs.declared.Which.{Which, the-variants.{Named as NamedLine, InSlot, Nothing}}
@@ -34,8 +34,8 @@ slotFits lines (Asked a l t h) = ltb l lines
 slotFits lines (Answered g l w r) = ltb l lines
 
 -- "only lines and cores inside the sizes are looked at"
-unfoldable pub ownersFit : Opening → List Line → Bool
-ownersFit o ls = every (λ (l : Line). ownerFits (o .cores) (l .manager)) (take (o .lines) ls)
+unfoldable pub ownersFit : Opening → List ManagerLine → Bool
+ownersFit o ls = every (λ (l : ManagerLine). ownerFits (o .cores) (l .manager)) (take (o .lines) ls)
 
 unfoldable pub slotsFit : Opening → List Core → Bool
 slotsFit o ks = every (λ (k : Core). slotFits (o .lines) (k .slot)) (take (o .cores) ks)
@@ -150,12 +150,12 @@ loadAsks (CopyOwned d w r) lts = false
 abbrev pub storePasses : Copy → Bool
 storePasses NoCopy = false
 storePasses (CopyShared w r) = false
-storePasses (CopyOwned d w r) = fails (fits r 1)
+storePasses (CopyOwned d w r) = fails (canAdd r 1)
 
 -- asked lts + lease passes the greatest timestamp (serve of a load on a shared line)
 abbrev pub servePasses : Slot → Manager → Opening → Bool
 servePasses Empty m o = false
-servePasses (Asked WantLoad l t h) (Shared w r) o = fails (fits t (o .lease))
+servePasses (Asked WantLoad l t h) (Shared w r) o = fails (canAdd t (o .lease))
 servePasses (Asked WantLoad l t h) (Owned c) o = false
 servePasses (Asked WantStore l t h) m o = false
 servePasses (Answered g l w r) m o = false
@@ -170,7 +170,7 @@ stateRules (Store c l) p o =
     (both (fails (isOwned (p .copy))) (fails (isEmpty (p .core .slot))) gives 20) ∷ (storePasses (p .copy) gives 27) ∷ []
 stateRules (Fence c) p o = []
 stateRules (Evict c l) p o = (fails (isHeld (p .copy)) gives 26) ∷ []
-stateRules (Advance c by) p o = (fails (fits (p .core .clocks .lts) by) gives 27) ∷ []
+stateRules (Advance c by) p o = (fails (canAdd (p .core .clocks .lts) by) gives 27) ∷ []
 stateRules (Serve c) p o =
     (fails (isAsked (p .core .slot)) gives 21) ∷ (servePasses (p .core .slot) (p .line .manager) o gives 27) ∷ []
 stateRules (Receive c) p o = (fails (isAnswered (p .core .slot)) gives 22) ∷ []

@@ -6,14 +6,14 @@ use Rattle.protocol.specs.{Step.{Op, load, store, fence, Reply, refused,
 use Rattle.protocol.specs.declared.Act.{Act, the-variants.{Load as Loads, Store as Stores, Fence as Fences, Advance as Advances, Transfer}}
 
 -- a call of a list, with the bytes given to it (a store's; any other call passes over them)
-pub record Given : Type 0 where
+pub record Entry : Type 0 where
   pub call : Call
   pub bytes : Bytes
 
 -- what is known of a call after it was made: its place in the list, the call, its answer
 pub record Record : Type 0 where
   pub place : Place
-  pub given : Given
+  pub given : Entry
   pub reply : Reply
 
 -- the records of a list of calls, in the list's order, and the last machine
@@ -27,7 +27,7 @@ place n = record { 0 = n }
 
 -- "Each call gets the state and both buffers that the call before returned; a refused one hands on what it got. A call that is refused
 -- or commits nothing still has its place." The first call's place is p
-unfoldable pub run : List Given → ℕ → Machine → Run
+unfoldable pub run : List Entry → ℕ → Machine → Run
 run [] p m = record { records = []; last = m }
 run (g ∷ gs) p m =
     record {
@@ -64,7 +64,7 @@ abbrev pub commitAt : Place → Call → Bytes → Stamp → Op Bytes → List (
 commitAt p call given t o = actCommit (about call .act) p (namedCore (about call .core)) (namedLine (about call .line)) given t o
 
 -- the commit of a call by its answer, or none
-abbrev pub commitOf : Place → Given → Reply → List (Commit Bytes)
+abbrev pub commitOf : Place → Entry → Reply → List (Commit Bytes)
 commitOf p g (refused n) = []
 commitOf p g (done d) = []
 commitOf p g (commit c t o) = commitAt p (g .call) (g .bytes) t o

@@ -40,12 +40,12 @@ abbrev pub later : Stamp → Stamp → Stamp
 later a b = stamp (max (a .0) (b .0))
 
 -- the timestamp n later does not pass the greatest (refusal 27 where it does)
-abbrev pub fits : Stamp → ℕ → Bool
-fits t n = atMost (plus t n) greatest
+abbrev pub canAdd : Stamp → ℕ → Bool
+canAdd t n = atMost (plus t n) greatest
 
 -- the timestamp n later, or that it passes the greatest
 abbrev pub after : Stamp → ℕ → Sum
-after t n = pick (fits t n) (At (plus t n)) Passes
+after t n = pick (canAdd t n) (At (plus t n)) Passes
 
 -- "One commit precedes another if its timestamp is smaller, or if the timestamps are equal and its place is smaller."
 abbrev pub Precedes : Key → Key → Type 0

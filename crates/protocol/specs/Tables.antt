@@ -12,7 +12,7 @@ use Rattle.protocol.specs.declared.Grant.{Grant, the-variants.{Share as 
 use Rattle.protocol.specs.declared.{Slot.{Slot, the-variants.{Empty, Asked, Answered}}, Core.Core}
 use Rattle.protocol.specs.declared.Manager.{Manager, the-variants.{Shared, Owned}}
 use Rattle.protocol.specs.declared.Recall.{Recall, the-variants.{None as NoRecall, Downgrade, Flush}}
-use Rattle.protocol.specs.declared.{Writeback.{Writeback, the-variants.{None as NoWriteback, Flight}}, Line.Line, Opening.Opening}
+use Rattle.protocol.specs.declared.{Writeback.{Writeback, the-variants.{None as NoWriteback, Flight}}, ManagerLine.ManagerLine, Opening.Opening}
 use Rattle.protocol.specs.declared.Call.{Call, the-variants.{Load, Store, Fence, Evict, Advance, Serve, Receive, Yield, Take}}
 use Rattle.protocol.specs.declared.Answer.{Answer, the-variants.{Refused, Done, Commit}}
 use Rattle.protocol.specs.declared.Name.{Name, the-variants.{Ask, Recall as RecallSent, Share, Renew, Own, Drop, Evict as Evicted}}
@@ -22,7 +22,7 @@ use Rattle.protocol.specs.declared.Move.{Move, the-variants.{Still, Stor
 use Rattle.protocol.specs.declared.{Move.the-variants.{Writeback as MoveWriteback, Take as MoveTake}, Effect.Effect}
 
 -- an answer, the bytes that move, and the pieces after the step
-abbrev pub row : Answer → Move → Core → Copy → Line → Effect
+abbrev pub row : Answer → Move → Core → Copy → ManagerLine → Effect
 row a v k x m = record { answer = a; moves = v; core = k; copy = x; line = m }
 
 -- the core with other clocks, or with another slot
@@ -100,7 +100,7 @@ advanceTable by p = row (Done Advanced) Still (clocked (p .core) (advanced (p .c
 -- ---- evict
 
 -- the line with a writeback in flight
-abbrev pub writtenBack : Line → Stamp → Stamp → Line
+abbrev pub writtenBack : ManagerLine → Stamp → Stamp → ManagerLine
 writtenBack m w r = record { manager = m .manager; recall = m .recall; writeback = Flight w r }
 
 -- "shared: copy becomes none. Owned: its wts, rts and bytes become the writeback, copy none." The name is the answer's
@@ -124,7 +124,7 @@ sameVersion NothingHeld w = false
 sameVersion (Version v) w = same v w
 
 -- the line with another manager part
-abbrev pub managed : Line → Manager → Line
+abbrev pub managed : ManagerLine → Manager → ManagerLine
 managed m v = record { manager = v; recall = m .recall; writeback = m .writeback }
 
 -- the lease's end after serving a load: "rts becomes max(rts, asked lts + lease)"

@@ -243,15 +243,15 @@ pub enum Writeback {
 }
 
 // A line as the manager keeps it.
-pub struct Line {
+pub struct ManagerLine {
     pub manager: Manager,
     pub recall: Recall,
     pub writeback: Writeback,
 }
 
-impl Line {
+impl ManagerLine {
     // The line that every opening starts with.
-    pub const FRESH: Line = Line {
+    pub const FRESH: ManagerLine = ManagerLine {
         manager: Manager::Shared {
             wts: Stamp(0),
             rts: Stamp(0),
@@ -260,10 +260,10 @@ impl Line {
         writeback: Writeback::None,
     };
 
-    pub fn fresh() -> Line
+    pub fn fresh() -> ManagerLine
         ensures { λ r. ⌜ r ≡ freshLine ⌝ }
     {
-        Line::FRESH
+        ManagerLine::FRESH
     }
 }
 
@@ -337,7 +337,7 @@ pub struct State {
     pub opening: Opening,
     pub core: [Core; Opening::MOST_CORES],
     pub cell: [Cell; Opening::MOST_COPIES],
-    pub line: [Line; Opening::MOST_LINES],
+    pub line: [ManagerLine; Opening::MOST_LINES],
 }
 
 impl State {
@@ -347,7 +347,7 @@ impl State {
     {
         let k = Core::fresh();
         let e = Cell::fresh();
-        let l = Line::fresh();
+        let l = ManagerLine::fresh();
         let core = [k; Opening::MOST_CORES];
         let cell = [e; Opening::MOST_COPIES];
         let line = [l; Opening::MOST_LINES];
@@ -524,5 +524,5 @@ pub struct Effect {
     pub moves: Move,
     pub core: Core,
     pub copy: Copy,
-    pub line: Line,
+    pub line: ManagerLine,
 }

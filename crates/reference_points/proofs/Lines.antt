@@ -10,7 +10,7 @@ use Rattle.spelling.specs.{Bytes.{All, Byte, upTo}, Decimal.{decimal, decimalUp
 use Rattle.spelling.proofs.{DecimalLaws.{value as valueOf, value-decimal}, HexLaws.{unhex, unhex-hex}}
 use Rattle.grammar.specs.Form.{Value, Part, fixed, value, number, pairs, lay, Each as EachValue, NoBlank, RightNumber, RightData, Has, Given}
 use Rattle.grammar.specs.{Form.{spellings, spell}, Table.{Row, rowAt, rowsOf}, declared.Line.{Line, the-variants.Refused}}
-use Rattle.grammar.specs.Line.{said, Fits, LineOf, tooLong, noForm, wrongNumber, wrongData, spelt}
+use Rattle.grammar.specs.Line.{said, Matches, LineOf, tooLong, noForm, wrongNumber, wrongData, spelt}
 use Rattle.reference_points.specs.Lines.{Written, Says, formless, misnumbered, misspelt, LinesTheorem}
 use Rattle.reference_points.proofs.Each.{each}
 
@@ -98,7 +98,7 @@ no-fit (x ∷ s) (fixed b ∷ p) vs e h =
 no-fit [] (value q ∷ p) vs e h = let z : _≡_ {A = ℕ} 0 1 = cc in omega arith
 no-fit (x ∷ s) (value q ∷ p) vs e h = let z : _≡_ {A = ℕ} 0 1 = cc in omega arith
 
-no-row : (rows : List Row) (s : List ℕ) (k : ℕ) (vs : List (List ℕ)) → every (λ r. clashes s (r .form)) rows ≡ true → Fits rows s k vs → ⊥
+no-row : (rows : List Row) (s : List ℕ) (k : ℕ) (vs : List (List ℕ)) → every (λ r. clashes s (r .form)) rows ≡ true → Matches rows s k vs → ⊥
 unfolding every
 no-row [] s k vs e f = omega (arith, f .listed)
 no-row (r ∷ rows) s zero vs e f = no-fit s (r .form) vs (both-true (clashes s (r .form)) _ e .0) (f .has)
@@ -269,7 +269,7 @@ hasForm w =
     both (leb (length (w .line)) 200)
     (both (ltb (kindOf w) (length (rowsOf (w .form)))) (both (tests blankless (formOf w) (valuesOf w)) (alike (w .line) (lay (formOf w) (valuesOf w)))))
 
-has-form : (w : Written) → hasForm w ≡ true → (length (w .line) ≤ 200) × Fits (rowsOf (w .form)) (w .line) (kindOf w) (valuesOf w)
+has-form : (w : Written) → hasForm w ≡ true → (length (w .line) ≤ 200) × Matches (rowsOf (w .form)) (w .line) (kindOf w) (valuesOf w)
 unfolding hasForm
 has-form w e =
     let t = both-true (leb (length (w .line)) 200) _ e in

@@ -7,7 +7,7 @@ use borrow.Author.Tests.{ltb-true, eqb-true}
 use Rattle.protocol.{specs.{Pick.both, Run.run, Counts.total}, proofs.Tests.both-true}
 use Rattle.spelling.specs.{Bytes.upTo, Decimal.{decimal, decimalUpTo}, Hex.hex}
 use Rattle.grammar.specs.{Form.{lay, spellings, spell}, Table.{rowAt, rowsOf}}
-use Rattle.journal.{specs.Journal.{placed, NextOf, ended}, proofs.Lines.line-answer}
+use Rattle.journal.{specs.Journal.{inJournal, NextOf, ended}, proofs.Lines.line-answer}
 use Rattle.listing.specs.Record.{recordText, endText}
 use Rattle.driver.specs.Listing.{Data, noData, someData, noLine, aLine, atEnd, lines}
 use Rattle.playing.specs.Listing.{opens}
@@ -26,7 +26,7 @@ stands form at e k ns bs =
 
 -- what the line there says
 line : (form at e k : ℕ) (ns bs : List ℕ) → stands form at e k ns bs ≡ true → from at e ≡ spell (rowAt (rowsOf form) k .form) ns bs
-    → NextOf sampleJournal at form (placed (saying (rowsOf form) k ns bs (from at e)) at (e + 1))
+    → NextOf sampleJournal at form (inJournal (saying (rowsOf form) k ns bs (from at e)) at (e + 1))
 unfolding stands
 line form at e k ns bs h same =
     let t = both-true (eqb e (at + length (upTo 10 (drop at sampleJournal)))) _ h in

@@ -1,7 +1,7 @@
 -- The commits of a short list of calls: which calls commit, and what a commit carries (01, demand 3).
 use Prim.Native.Nat.{ℕ}
 use mathlib.Core.{Path._≡_, List.{List, [], _∷_, map}}
-use Rattle.protocol.specs.{Stamps.stamp, Buffers.Bytes, Machine.freshMachine, Run.{Given, Record, Commit, place, run}}
+use Rattle.protocol.specs.{Stamps.stamp, Buffers.Bytes, Machine.freshMachine, Run.{Entry, Record, Commit, place, run}}
 use Rattle.protocol.specs.{Step.{Op, load, store, fence, Reply, refused, done, commit}, Order.commitsOf, declared.Opening.Opening}
 use Rattle.protocol.specs.declared.Call.{Call, the-variants.{Load, Store, Fence, Evict, Advance, Serve, Receive, Take}}
 use Rattle.protocol.specs.declared.Name.the-variants.{Ask as ask, Share as share, Own as own, Evict as evict, Advance as advance}
@@ -11,11 +11,11 @@ use Rattle.reference_points.specs.Numbers.{opening}
 abbrev pub small : Opening
 small = opening 2 3 2 10
 
-abbrev pub with : Call → Bytes → Given
+abbrev pub with : Call → Bytes → Entry
 with k bytes = record { call = k; bytes = bytes }
 
 -- core 1 stores to line 2, loads from it and makes a fence; core 0 loads line 0. Only a store takes the bytes given to it
-abbrev pub calls : List Given
+abbrev pub calls : List Entry
 calls =
     with (Store 1 2) (7 ∷ 8 ∷ [])
     ∷ with (Load 1 2) []

@@ -12,7 +12,7 @@ use Rattle.protocol.specs.declared.Want.{Want, the-variants.{Load as WantLoad, 
 use Rattle.protocol.specs.declared.{Held.{Held, the-variants.{None as NothingHeld, Version}}, Grant.{Grant, the-variants.Share as GrantShare}}
 use Rattle.protocol.specs.declared.{Slot.{Slot, the-variants.{Asked, Answered}}, Core.Core, Cell.Cell, Manager.the-variants.{Shared, Owned}}
 use Rattle.protocol.specs.declared.Recall.{Recall, the-variants.{None as NoRecall, Downgrade, Flush}}
-use Rattle.protocol.specs.declared.{Writeback.the-variants.{None as NoWriteback, Flight}, Line.Line, State.State, Call.Call}
+use Rattle.protocol.specs.declared.{Writeback.the-variants.{None as NoWriteback, Flight}, ManagerLine.ManagerLine, State.State, Call.Call}
 
 -- ---- parts of a machine
 
@@ -45,25 +45,25 @@ abbrev pub dirtyCopy : ℕ → ℕ → Copy
 dirtyCopy wts rts = CopyOwned true (stamp wts) (stamp rts)
 
 -- a manager line without a writeback: shared, with wts and rts; or owned by a core, with a recall
-abbrev pub sharedLine : ℕ → ℕ → Line
+abbrev pub sharedLine : ℕ → ℕ → ManagerLine
 sharedLine wts rts = record { manager = Shared (stamp wts) (stamp rts); recall = NoRecall; writeback = NoWriteback }
 
-abbrev pub ownedLine : ℕ → Recall → Line
+abbrev pub ownedLine : ℕ → Recall → ManagerLine
 ownedLine c k = record { manager = Owned c; recall = k; writeback = NoWriteback }
 
 -- the same with a recall; with a writeback in flight, with wts and rts
-abbrev pub withRecall : Recall → Line → Line
+abbrev pub withRecall : Recall → ManagerLine → ManagerLine
 withRecall k m = record { manager = m .manager; recall = k; writeback = m .writeback }
 
-abbrev pub withWriteback : ℕ → ℕ → Line → Line
+abbrev pub withWriteback : ℕ → ℕ → ManagerLine → ManagerLine
 withWriteback wts rts m = record { manager = m .manager; recall = m .recall; writeback = Flight (stamp wts) (stamp rts) }
 
 -- the same with both
-abbrev pub busy : Line → Line
+abbrev pub busy : ManagerLine → ManagerLine
 busy m = withRecall Downgrade (withWriteback 5 6 m)
 
 -- core 1, its copy of line 2, and the manager's line 2
-abbrev pub pieces : Core → Copy → Line → Pieces
+abbrev pub pieces : Core → Copy → ManagerLine → Pieces
 pieces k x m = record { core = k; copy = x; line = m }
 
 -- ---- the bytes
@@ -148,7 +148,7 @@ machineOf lease p b = machine (stateOf lease p) (private b) (shared b)
 abbrev pub withCore : ℕ → Core → State → State
 withCore c k s = record { opening = s .opening; core = set (s .core) c k; cell = s .cell; line = s .line }
 
-abbrev pub withLine : ℕ → Line → State → State
+abbrev pub withLine : ℕ → ManagerLine → State → State
 withLine l m s = record { opening = s .opening; core = s .core; cell = s .cell; line = set (s .line) l m }
 
 -- ---- rows

@@ -9,7 +9,7 @@ use Rattle.protocol.specs.declared.{Copy.{Copy, the-variants.None as NoCopy}, W
 use Rattle.protocol.specs.declared.Held.{Held, the-variants.{None as NothingHeld, Version}}
 use Rattle.protocol.specs.declared.Grant.the-variants.{Share as GrantShare, Renew as GrantRenew, Own as GrantOwn}
 use Rattle.protocol.specs.declared.{Slot.{Slot, the-variants.{Empty, Answered}}, Recall.{Recall, the-variants.{None as NoRecall, Downgrade, Flush}}}
-use Rattle.protocol.specs.declared.{Line.Line, State.State}
+use Rattle.protocol.specs.declared.{ManagerLine.ManagerLine, State.State}
 use Rattle.protocol.specs.declared.Call.{Call, the-variants.{Load, Store, Fence, Evict, Advance, Serve, Receive, Yield, Take}}
 use Rattle.reference_points.specs.Rows.{core, asked, answered, askedElsewhere, answeredElsewhere, sharedCopy, cleanCopy, dirtyCopy, pieces}
 use Rattle.reference_points.specs.Rows.{sharedLine, ownedLine, withRecall, withWriteback, busy, greatest, Row, AllHold, Places, places}
@@ -42,7 +42,7 @@ alsoAt lts sts rs = rs ++ map (atClocks lts sts) rs
 
 -- "ask. The slot becomes asked" with "load or store, line, the lts when asked, the wts of the shared copy held, or none": the copy and the manager's
 -- line, which stay
-abbrev pub asking : Call → Want → Copy → Held → Line → Row
+abbrev pub asking : Call → Want → Copy → Held → ManagerLine → Row
 asking call a x h m = doing (pieces (core 12 40 Empty) x m) call ask (pieces (core 12 40 (asked a 12 h)) x m) unmoved
 
 abbrev pub askRows : List Row
@@ -59,7 +59,7 @@ askRows =
     ∷ []
 
 -- a load that commits: the slot and the manager's line, which stay; lts and the copy before it, its ts, and the copy after it
-abbrev pub loading : Slot → Line → ℕ → Copy → ℕ → Copy → Row
+abbrev pub loading : Slot → ManagerLine → ℕ → Copy → ℕ → Copy → Row
 loading s m lts x ts y =
     record {
       lease = 10;
@@ -87,7 +87,7 @@ loadRows =
     ∷ []
 
 -- a store that commits: the slot and the manager's line, which stay; lts, sts and the copy before it, and its ts
-abbrev pub storing : Slot → Line → ℕ → ℕ → Copy → ℕ → Row
+abbrev pub storing : Slot → ManagerLine → ℕ → ℕ → Copy → ℕ → Row
 storing s m lts sts x ts =
     record {
       lease = 10;
@@ -151,7 +151,7 @@ advanceRows =
 -- ---- evict
 
 -- the slot, which stays; the copy and the manager's line before it; the line and the bytes after it
-abbrev pub evicting : Slot → Copy → Line → Line → Places → Row
+abbrev pub evicting : Slot → Copy → ManagerLine → ManagerLine → Places → Row
 evicting s x m m′ b = doing (pieces (core 7 9 s) x m) (Evict 1 2) evict (pieces (core 7 9 s) NoCopy m′) b
 
 -- the copy's bytes as the writeback
@@ -173,7 +173,7 @@ evictRows =
 -- ---- serve
 
 -- "line owned: answer recall; .. Slot stays.": the slot and the copy, which stay; the manager's line before it and after it
-abbrev pub recallingLine : Slot → Copy → Line → Line → Row
+abbrev pub recallingLine : Slot → Copy → ManagerLine → ManagerLine → Row
 recallingLine s x m m′ = doing (pieces (core 7 9 s) x m) (Serve 1) recall (pieces (core 7 9 s) x m′) unmoved
 
 -- a line of core 0: what is asked for, the recall before it and after it
@@ -183,10 +183,10 @@ recalling a k k′ =
 
 -- a request for the shared line, by a core with this copy, which stays: the asked lts, what is asked for, the version held; the manager's line; its
 -- answer, the slot, the line and the bytes after it
-abbrev pub servingOver : Copy → ℕ → Want → Held → Line → Name → Slot → Line → Places → Row
+abbrev pub servingOver : Copy → ℕ → Want → Held → ManagerLine → Name → Slot → ManagerLine → Places → Row
 servingOver x lts a h m d s m′ b = doing (pieces (core 7 9 (asked a lts h)) x m) (Serve 1) d (pieces (core 7 9 s) x m′) b
 
-abbrev pub serving : ℕ → Want → Held → Line → Name → Slot → Line → Places → Row
+abbrev pub serving : ℕ → Want → Held → ManagerLine → Name → Slot → ManagerLine → Places → Row
 serving = servingOver (sharedCopy 3 8)
 
 -- the manager's bytes as the answer
@@ -235,7 +235,7 @@ serveRows =
 -- ---- receive
 
 -- the manager's line, which stays; the slot and the copy before it; its answer, the copy and the bytes after it. "Slot becomes empty."
-abbrev pub receivingOf : Line → Slot → Copy → Name → Copy → Places → Row
+abbrev pub receivingOf : ManagerLine → Slot → Copy → Name → Copy → Places → Row
 receivingOf m s x d y b = doing (pieces (core 7 9 s) x m) (Receive 1) d (pieces (core 7 9 Empty) y m) b
 
 -- of a shared line; of one's own
@@ -271,11 +271,11 @@ receiveRows =
 
 -- "the owner's wts, rts and bytes become the writeback": the owner's slot, which stays; the manager's line and the owner's copy before it, and the
 -- copy after it
-abbrev pub yielding : Slot → Line → Copy → Copy → Row
+abbrev pub yielding : Slot → ManagerLine → Copy → Copy → Row
 yielding s m x y = doing (pieces (core 7 9 s) x m) (Yield 2) yield (pieces (core 7 9 s) y (withWriteback 6 8 m)) writtenBack
 
 -- "manager takes the writeback, becomes shared; recall none, writeback none": the manager's line before it
-abbrev pub taking : Line → Row
+abbrev pub taking : ManagerLine → Row
 taking m =
     doing (pieces (core 7 9 (answered GrantRenew 4 15)) (sharedCopy 3 8) (withWriteback 6 8 m)) (Take 2) taken
     (pieces (core 7 9 (answered GrantRenew 4 15)) (sharedCopy 3 8) (sharedLine 6 8)) (places copyBytes writebackBytes writebackBytes answerBytes)

@@ -3,11 +3,11 @@ use Prim.Native.Nat.{ℕ}
 use mathlib.Core.{Bool.Bool, List.{List, []}}
 use lib.ListN.{replicate}
 use Rattle.protocol.specs.{Pick.both, Limits.openingFits, Machine.{Machine, machine}, Refusals.{buffersFit, machineRefusal, callRefusal, orElse}}
-use Rattle.protocol.specs.declared.{Core.Core, Line.Line, Opening.Opening, Call.Call}
+use Rattle.protocol.specs.declared.{Core.Core, ManagerLine.ManagerLine, Opening.Opening, Call.Call}
 
 -- a machine with this opening, these cores and manager lines, and buffers of np and nq bytes. No refusal of 1 and 2 looks at a copy or at a
 -- byte, so no copies are given, and the bytes are 0
-abbrev pub machineWith : Opening → List Core → List Line → ℕ → ℕ → Machine
+abbrev pub machineWith : Opening → List Core → List ManagerLine → ℕ → ℕ → Machine
 machineWith o ks ls np nq =
     machine (record { opening = o; core = ks; cell = []; line = ls }) (replicate np 0) (replicate nq 0)
 

@@ -9,8 +9,8 @@ ghost use Rattle.refusals.specs.Input.{machineWith, inputRefusal, length
 use protocol::Act;
 use protocol::Call;
 use protocol::Core;
-use protocol::Line;
 use protocol::Manager;
+use protocol::ManagerLine;
 use protocol::Opening;
 use protocol::Slot;
 use protocol::Which;
@@ -27,7 +27,7 @@ fn owner_fits(cores: usize, manager: Manager) -> bool
 }
 
 // Whether every owner among the lines of an opening is one of its cores.
-fn owners_fit(opening: Opening, line: [Line; Opening::MOST_LINES]) -> bool
+fn owners_fit(opening: Opening, line: [ManagerLine; Opening::MOST_LINES]) -> bool
     requires { ⌜ opening .lines ≤ mostLines ⌝ }
     ensures { λ r. ⌜ r ≡ ownersFit opening line ⌝ }
 {
@@ -77,7 +77,7 @@ fn slots_fit(opening: Opening, core: [Core; Opening::MOST_CORES]) -> bool
 pub fn state_fits(
     opening: Opening,
     core: [Core; Opening::MOST_CORES],
-    line: [Line; Opening::MOST_LINES],
+    line: [ManagerLine; Opening::MOST_LINES],
 ) -> bool
     ensures { λ r. ⌜ r ≡ stateFits (machineWith opening core line 0 0 .state) ⌝ }
 {
@@ -118,7 +118,7 @@ pub fn lengths_fit(opening: Opening, private: usize, shared: usize) -> bool
 pub fn machine_refusal(
     opening: Opening,
     core: [Core; Opening::MOST_CORES],
-    line: [Line; Opening::MOST_LINES],
+    line: [ManagerLine; Opening::MOST_LINES],
     private: usize,
     shared: usize,
 ) -> u8
@@ -209,7 +209,7 @@ pub fn input_refusal(
     call: Call,
     opening: Opening,
     core: [Core; Opening::MOST_CORES],
-    line: [Line; Opening::MOST_LINES],
+    line: [ManagerLine; Opening::MOST_LINES],
     private: usize,
     shared: usize,
     count: usize,

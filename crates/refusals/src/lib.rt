@@ -16,11 +16,11 @@ use protocol::Answer;
 use protocol::Copy;
 use protocol::Core;
 use protocol::Effect;
-use protocol::Line;
+use protocol::ManagerLine;
 use protocol::Move;
 
 // A refusal: the pieces stay as they are, and no bytes move.
-pub fn refused(number: u8, core: Core, copy: Copy, line: Line) -> Effect
+pub fn refused(number: u8, core: Core, copy: Copy, line: ManagerLine) -> Effect
     ensures { λ r. ⌜ r ≡ row (Answer.Refused number) Move.Still core copy line ⌝ }
 {
     Effect {

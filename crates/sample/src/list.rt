@@ -6,7 +6,7 @@
 // F fence, E evict, A advance (by the digit), M advance by the greatest number, V serve, R receive,
 // Y yield and T take. The core and the line say besides what is shown.
 use super::print;
-use engine::Done;
+use engine::Returned;
 use protocol::Call;
 use protocol::Opening;
 use protocol::State;
@@ -32,14 +32,14 @@ fn call_of(kind: u8, core: usize, line: usize, by: u32) -> Call {
 
 // Makes a call of a kind, with the byte that says by how much, or what is stored.
 fn make(
-    d: Done,
+    d: Returned,
     private: &mut [u8],
     shared: &mut [u8],
     kind: u8,
     core: usize,
     line: usize,
     value: u8,
-) -> Done {
+) -> Returned {
     let call = call_of(kind, core, line, (value % 16) as u32);
     let given = [value, b'-'];
     if kind == b's' {
@@ -66,7 +66,7 @@ fn play(list: &[u8]) {
     let answer = o.answer;
     let state = o.state;
     print::record(0, answer, b"");
-    let mut d = Done {
+    let mut d = Returned {
         answer,
         start: 0,
         count: 0,

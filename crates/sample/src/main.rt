@@ -6,11 +6,11 @@
 mod list;
 mod print;
 
-use engine::Done;
+use engine::Returned;
 use protocol::Opening;
 
 // Prints the record of the n-th call, and line 0 as core 0 sees it.
-fn shown<'a>(n: u64, d: Done, private: &'a [u8], shared: &'a [u8]) {
+fn shown<'a>(n: u64, d: Returned, private: &'a [u8], shared: &'a [u8]) {
     print::call(n, d, private, shared, 0, 0);
 }
 

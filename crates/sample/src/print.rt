@@ -1,5 +1,5 @@
 // What a call answered, and a line as a core sees it, on standard output.
-use engine::Done;
+use engine::Returned;
 use libc::STDOUT_FILENO;
 use protocol::Answer;
 use protocol::Place;
@@ -38,7 +38,7 @@ fn print_shown(core: usize, line: usize, bytes: &[u8]) {
 // Prints the record of the n-th call, and a line as a core sees it.
 pub(crate) fn call<'a>(
     n: u64,
-    d: Done,
+    d: Returned,
     private: &'a [u8],
     shared: &'a [u8],
     core: usize,

@@ -1,11 +1,11 @@
--- Laws of text written over a part of a buffer. Assumes nothing.
+-- Laws of bytes laid over a part of a buffer. Assumes nothing.
 use Prim.Native.Nat.{ℕ, zero, suc, _+_, _*_, _/_, _%_, _≤_, _<_, _-_}
 use mathlib.Core.{Path.{_≡_, refl, sym, _∙_, ap, ap₂}, Bool.{Bool, true, false, cond, not}, List.{List, [], _∷_, _++_, append-assoc, append-nil}}
 use native.Mathlib.{Omega.arith, Nat.add-zero, Numerals.add-one}
 use lib.ListN.{length, getD, take, drop, set, length-append, length-take, length-drop, take-append-drop}
 use lib.Seq.{drop-cons, set-at, take-at, drop-at, take-suc, length-take-le, take-append-le, drop-append-le, take-append-seam, drop-append-add}
 use lib.{Seq.drop-drop, Dec.{ltb, leb}}
-use Rattle.spelling.specs.{Over.{fits, over, twentyBefore, PutAt, PutBefore}, Decimal.{decimal, decimalUpTo}}
+use Rattle.spelling.specs.{Over.{hasRoom, over, twentyBefore, PutAt, PutBefore}, Decimal.{decimal, decimalUpTo}}
 use Rattle.spelling.specs.{declared.Put.{Put, the-variants.{End, Short}}, Hex.{hex, digit}}
 use borrow.Author.Tests.{le-leb, lt-leb, leb-true, leb-false, not-true, not-false}
 use Rattle.spelling.proofs.{DecimalLaws.{widest, decimal-more, decimal-digit, decimal-nonempty}, HexLaws.hex-length}
@@ -126,10 +126,10 @@ pub put-short : (old : List ℕ) (at : ℕ) (t : List ℕ) → length old < at +
 put-short old at t h = record { answer = rw (lt-leb (at + length t) (length old) h); bytes = rw (lt-leb (at + length t) (length old) h) }
 
 -- what the test for room shows
-pub room-yes : (size at n : ℕ) (r : Bool) → r ≡ fits size at n → not r ≡ false → at + n ≤ size
+pub room-yes : (size at n : ℕ) (r : Bool) → r ≡ hasRoom size at n → not r ≡ false → at + n ≤ size
 room-yes size at n r e f = leb-true (at + n) size (sym e ∙ not-false r f)
 
-pub room-no : (size at n : ℕ) (r : Bool) → r ≡ fits size at n → not r ≡ true → size < at + n
+pub room-no : (size at n : ℕ) (r : Bool) → r ≡ hasRoom size at n → not r ≡ true → size < at + n
 room-no size at n r e f = leb-false (at + n) size (sym e ∙ not-true r f)
 
 -- what the test for twenty bytes before a place shows

@@ -1,4 +1,4 @@
--- Text laid over a part of a buffer that a caller lent. Assumes nothing.
+-- Bytes laid over a part of a buffer that a caller lent: a text, or a line's bytes. Assumes nothing.
 use Prim.Native.Nat.{ℕ, _+_, _-_, _≤_, _<_}
 use mathlib.Core.{Path._≡_, Bool.{Bool, false, cond}, List.{List, _++_}}
 use lib.{Dec.leb, ListN.{length, take, drop}}
@@ -6,18 +6,18 @@ use Rattle.spelling.specs.{Hex.{digit, Spells, IsData}, declared.Put.{Pu
 use Rattle.spelling.specs.declared.Decoded.{Decoded, the-variants.{Bytes, Wrong, NoRoom}}
 
 -- whether n bytes fit at a place of a buffer of this size
-abbrev pub fits : ℕ → ℕ → ℕ → Bool
-fits size at n = leb (at + n) size
+abbrev pub hasRoom : ℕ → ℕ → ℕ → Bool
+hasRoom size at n = leb (at + n) size
 
--- the buffer with the text t at a place, and all else as it was
+-- the buffer with the bytes t at a place, and all else as it was: what a text that is put and a line that moves leave
 abbrev pub over : List ℕ → ℕ → List ℕ → List ℕ
 over old at t = take at old ++ (t ++ drop (at + length t) old)
 
 -- the text t was put at a place: if it fits, the buffer holds it there and the answer is the place after it;
 -- if it does not, the answer says so and the buffer is as it was
 pub record PutAt (old : List ℕ) (at : ℕ) (t new : List ℕ) (r : Put) : Type 0 where
-  pub answer : r ≡ cond (fits (length old) at (length t)) (End (at + length t)) Short
-  pub bytes : new ≡ cond (fits (length old) at (length t)) (over old at t) old
+  pub answer : r ≡ cond (hasRoom (length old) at (length t)) (End (at + length t)) Short
+  pub bytes : new ≡ cond (hasRoom (length old) at (length t)) (over old at t) old
 
 -- whether twenty bytes, as many as a number has at most, lie before a place of a buffer of this size
 abbrev pub twentyBefore : ℕ → ℕ → Bool

@@ -6,7 +6,7 @@ ghost use mathlib.Core.Path.{_≡_};
 ghost use Prim.Native.Nat.{_+_, _≤_, _<_};
 ghost use lib.ListN.{length, getD, drop};
 ghost use Rattle.spelling.specs.{Bytes.{upTo, Test, Below}, Decimal.{decimal, NumberOf}, Hex.{digit, hex, DataTest, HexDigit, HexTest}};
-ghost use Rattle.spelling.specs.Over.{fits, PutAt, PutBefore, DecodedOf, IsNibble};
+ghost use Rattle.spelling.specs.Over.{hasRoom, PutAt, PutBefore, DecodedOf, IsNibble};
 
 // Whether none of the eight bytes from `at` on is `stop`. Every byte is looked at, so that they can be compared at once.
 fn is_clear(s: &[u8], at: usize, stop: u8) -> bool
@@ -136,7 +136,7 @@ pub enum Put {
 
 // Whether `n` bytes fit at a place of a buffer of `size` bytes.
 fn has_room(size: usize, at: usize, n: usize) -> bool
-    ensures { λ r. ⌜ r ≡ fits size at n ⌝ }
+    ensures { λ r. ⌜ r ≡ hasRoom size at n ⌝ }
 {
     if size < n {
         return false;

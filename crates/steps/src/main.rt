@@ -26,7 +26,7 @@ enum Input {
     Failed,
 }
 
-// Reads standard input into buf, until it ends or buf is full. Where a read fails, errno says why. Each turn of the
+// ReadAs standard input into buf, until it ends or buf is full. Where a read fails, errno says why. Each turn of the
 // loop reads a byte or more, or is one of the retries.
 fn read_input(buf: &mut [u8]) -> Input
     ensures { λ r. ⌜ ReadInto r (now (buf .exit)) ⌝ }

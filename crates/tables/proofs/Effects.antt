@@ -5,13 +5,13 @@ use mathlib.Core.{Path.{_≡_, refl, sym}, Bool.{Bool, true, false}}
 use lib.{Dec.eqb, ListN.length, Seq.set-getD}
 use borrow.Author.Tests.{lt-ltb, eq-eqb, ne-eqb}
 use Rattle.protocol.specs.{Pick.pick, Fresh.{freshCore, freshCell, freshLine}}
-use Rattle.protocol.specs.Buffers.{Bytes, part, copyStart, copyBytes, Placed, givenFits, movedPrivate, movedShared}
+use Rattle.protocol.specs.Buffers.{Bytes, part, copyStart, copyBytes, There, givenFits, movedPrivate, movedShared}
 use Rattle.protocol.specs.Machine.{Machine, machine, coreAt, copyAt, lineAt, Pieces, piecesAt, coreOf, lineOf, applied}
 use Rattle.protocol.specs.Refusals.{wrongCount, buffersFit, machineRefusal, callRefusal, stateRefusal, refusal, orElse}
 use Rattle.protocol.specs.Tables.{row, loadOwned, storeTable, fenceTable, advanceTable, evictTable, serveLoad, serveAsked, receiveRenew}
 use Rattle.protocol.specs.{Tables.{receiveGrant, yieldTable, takeTable, effectOf}, Step.{refused, meaning, Outcome, commitBytes, accepted, step}}
 use Rattle.protocol.specs.{declared.{Opening.Opening, Call.Call, Effect.Effect, Answer.the-variants.Refused, Move.the-variants.Still}, About.about}
-use Rattle.protocol.proofs.{Places.copy-ends, Refusals.{or-none, Fit, named, store-width, placed}}
+use Rattle.protocol.proofs.{Extents.copy-ends, Refusals.{or-none, Fit, named, store-width, call-there}}
 use Rattle.protocol.proofs.Cases.{Row, asks-load, reads-shared, reads-dirty, reads-clean, asks-store, writes, fences, advances, evicts-shared}
 use Rattle.protocol.proofs.Cases.{evicts-owned, recalls, renews, shares, grants, gets-share, gets-own, gets-renewal, drops-none, drops-owned, yields}
 use Rattle.protocol.proofs.Cases.{takes, piecesOf, effect-case}
@@ -100,12 +100,12 @@ unfolding meaning
 effect-sound m call given f e =
     effect-case (λ d. Sound (m .state .opening) (coreOf call (m .state)) (lineOf call (m .state)) given (m .private) (m .shared) call d) (m .state) call
     (λ n. record { fits = refl; bytes = refl })
-    (λ d w. row-sound (named call _ _ e .count) (rw (f .nPrivate) (copy-ends (placed f call (length given) e))) w)
+    (λ d w. row-sound (named call _ _ e .count) (rw (f .nPrivate) (copy-ends (call-there f call (length given) e))) w)
 
 -- ---- the move
 
 -- a machine and a call that none of 1 to 6 refuses: the effect's move fits
-pub effect-moves : (m : Machine) (call : Call) (given : Bytes) (c l : ℕ) (d : Effect) → Fit m → Placed (m .state .opening) c l → Sound (m .state .opening) c l given (m .private) (m .shared) call d → moveFits (d .moves) (m .state .opening) (length (m .private)) (length (m .shared)) c l (length given) ≡ true
+pub effect-moves : (m : Machine) (call : Call) (given : Bytes) (c l : ℕ) (d : Effect) → Fit m → There (m .state .opening) c l → Sound (m .state .opening) c l given (m .private) (m .shared) call d → moveFits (d .moves) (m .state .opening) (length (m .private)) (length (m .shared)) c l (length given) ≡ true
 unfolding moveFits buffersFit
 effect-moves m call given c l d f a s =
     rw (f .opening, lt-ltb _ _ (a .core), lt-ltb _ _ (a .line), eq-eqb _ _ (f .nPrivate), eq-eqb _ _ (f .nShared)) (s .fits)

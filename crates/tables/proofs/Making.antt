@@ -5,14 +5,14 @@ use mathlib.Core.{Path.{_≡_, refl, sym, _∙_, ap₂}, Bool.{Bool, true, false
 use lib.ListN.{length}
 use native.Mathlib.{Omega.arith, Decide.ℕ-discrete}
 use borrow.Author.Tests.{le-leb, lt-ltb, ne-eqb}
-use Rattle.protocol.specs.{Pick.pick, Limits.{mostCores, mostLines}, Buffers.{Bytes, part, copyStart, copyBytes, Placed, movedPrivate, movedShared}}
+use Rattle.protocol.specs.{Pick.pick, Limits.{mostCores, mostLines}, Buffers.{Bytes, part, copyStart, copyBytes, There, movedPrivate, movedShared}}
 use Rattle.protocol.specs.{About.{about, namedLine}, Machine.{Machine, coreAt, lineAt, piecesAt, theCore, theLine, coreOf, lineOf}}
 use Rattle.protocol.specs.{Refusals.{machineRefusal, callRefusal}, Tables.{refusedRow, effectOf}, Step.{meaning, accepted, step}}
 use Rattle.protocol.specs.declared.{Opening.Opening, Call.Call, Answer.{Answer, the-variants.{Refused, Done, Commit}}, Effect.Effect}
-use Rattle.protocol.{specs.declared.{Move.the-variants.Still, Kind.the-variants.{Load, Store, Fence}}, proofs.Places.{copy-ends, inside}}
-use Rattle.protocol.proofs.Refusals.{or-none, Fit, machine-fit, named, named-inside, placed}
+use Rattle.protocol.{specs.declared.{Move.the-variants.Still, Kind.the-variants.{Load, Store, Fence}}, proofs.Extents.{copy-ends, inside}}
+use Rattle.protocol.proofs.Refusals.{or-none, Fit, machine-fit, named, named-inside, call-there}
 use Rattle.refusals.specs.Input.{inputRefusal}
-use Rattle.buffers.{specs.Moves.{placeFits, moveFits, Moves}, proofs.Laws.{placed-place, place-start}}
+use Rattle.buffers.{specs.Moves.{isThere, moveFits, Moves}, proofs.Laws.{from-there, start-there}}
 use Rattle.tables.specs.{Found.{foundAt, effectWith}, Spans.spanOf}
 use Rattle.tables.proofs.Effects.{step-refused, row-refused, step-accepted, Sound, effect-sound, effect-moves}
 
@@ -70,16 +70,16 @@ module _ (m : Machine) (call : Call) (given : Bytes) (n : ℕ) (e : n ≡ inputR
     core-is =
         let i = inside o (fit .opening) in
         let h = named-inside o (about call .line) (i .someLines) (named call o (length given) (allowed .1) .line) in
-        let q = placed fit call (length given) (allowed .1) in
+        let q = call-there fit call (length given) (allowed .1) in
         f .core ∙ (rw (f .named ∙ found-there _ _ _ h (i .mostLines)) (found-there _ _ _ (q .core) (i .mostCores)))
 
     line-is : l ≡ lineOf call (m .state)
     line-is =
-        let q = placed fit call (length given) (allowed .1) in
+        let q = call-there fit call (length given) (allowed .1) in
         f .line ∙ (rw core-is (found-there _ _ _ (q .line) (inside o (fit .opening) .mostLines)))
 
-    there : Placed o c l
-    there = rw (core-is, line-is) (placed fit call (length given) (allowed .1))
+    there : There o c l
+    there = rw (core-is, line-is) (call-there fit call (length given) (allowed .1))
 
     accepted-effect : made ≡ effectOf call (piecesAt (m .state) c l) o
     unfolding effectWith
@@ -118,9 +118,9 @@ module _ (m : Machine) (call : Call) (given : Bytes) (n : ℕ) (e : n ≡ inputR
           rw y (same-either t (rw y at (b .private)), same-either t (rw y at (b .shared)))
 
   -- the bytes beside the answer, after the move
-  module _ (start : ℕ) (a : start ≡ pick (placeFits o c l) (copyStart o c l) 0) where
+  module _ (start : ℕ) (a : start ≡ pick (isThere o c l) (copyStart o c l) 0) where
     started : n ≡ 0 → start ≡ copyStart o c l
-    started z = place-start o c l (placed-place (fit z .opening) (there z)) _ start a
+    started z = start-there o c l (from-there (fit z .opening) (there z)) _ start a
 
     -- they are the commit's
     pub is-reply :

@@ -20,7 +20,7 @@ use protocol::Copy;
 use protocol::Core;
 use protocol::Effect;
 use protocol::Kind;
-use protocol::Line;
+use protocol::ManagerLine;
 use protocol::Opening;
 
 // A part of the private buffer: `count` bytes from `start`.
@@ -31,7 +31,7 @@ pub struct Span {
 
 // What a call makes of the pieces that it looks at: the row of its table, or, with the pieces as they
 // are, one of 20 to 27. Each row decides.
-fn row(call: Call, core: Core, copy: Copy, line: Line, opening: Opening) -> Effect
+fn row(call: Call, core: Core, copy: Copy, line: ManagerLine, opening: Opening) -> Effect
     ensures { λ r. ⌜ r ≡ effectOf call (pieces core copy line) opening ⌝ }
 {
     match call {
@@ -53,7 +53,7 @@ pub fn effect(
     call: Call,
     core: Core,
     copy: Copy,
-    line: Line,
+    line: ManagerLine,
     opening: Opening,
 ) -> Effect
     ensures { λ r. ⌜ r ≡ effectWith number call (pieces core copy line) opening ⌝ }

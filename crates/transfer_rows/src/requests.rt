@@ -10,8 +10,8 @@ use protocol::Core;
 use protocol::Effect;
 use protocol::Grant;
 use protocol::Held;
-use protocol::Line;
 use protocol::Manager;
+use protocol::ManagerLine;
 use protocol::Move;
 use protocol::Name;
 use protocol::Opening;
@@ -54,7 +54,7 @@ fn serve_load(
     rts: Stamp,
     core: Core,
     copy: Copy,
-    line: Line,
+    line: ManagerLine,
 ) -> Effect
     ensures { λ r. ⌜ r ≡ serveLoad same l wts rts (pieces core copy line) ⌝ }
 {
@@ -75,7 +75,7 @@ fn serve_load(
                 },
             },
             copy,
-            line: Line {
+            line: ManagerLine {
                 manager: Manager::Shared { wts, rts },
                 recall,
                 writeback,
@@ -95,7 +95,7 @@ fn serve_load(
                 },
             },
             copy,
-            line: Line {
+            line: ManagerLine {
                 manager: Manager::Shared { wts, rts },
                 recall,
                 writeback,
@@ -114,7 +114,7 @@ fn serve_asked(
     held: Held,
     core: Core,
     copy: Copy,
-    line: Line,
+    line: ManagerLine,
     opening: Opening,
 ) -> Effect
     ensures { λ r. ⌜ r ≡ askedEffect want c l lts held (pieces core copy line) opening ⌝ }
@@ -129,7 +129,7 @@ fn serve_asked(
             moves: Move::Still,
             core,
             copy,
-            line: Line {
+            line: ManagerLine {
                 manager,
                 recall: recall_after(want, recall),
                 writeback,
@@ -156,7 +156,7 @@ fn serve_asked(
                     },
                 },
                 copy,
-                line: Line {
+                line: ManagerLine {
                     manager: Manager::Owned { core: c },
                     recall,
                     writeback,
@@ -167,7 +167,7 @@ fn serve_asked(
 }
 
 // serve: the request in the core's slot, or 21 where it does not ask.
-pub fn serve(c: usize, core: Core, copy: Copy, line: Line, opening: Opening) -> Effect
+pub fn serve(c: usize, core: Core, copy: Copy, line: ManagerLine, opening: Opening) -> Effect
     ensures { λ r. ⌜ r ≡ effectOf (Call.Serve c) (pieces core copy line) opening ⌝ }
 {
     let slot = core.slot;
@@ -184,7 +184,7 @@ pub fn serve(c: usize, core: Core, copy: Copy, line: Line, opening: Opening) -> 
 }
 
 // A renewal that finds no shared copy: no copy changes.
-fn dropped(core: Core, copy: Copy, line: Line) -> Effect
+fn dropped(core: Core, copy: Copy, line: ManagerLine) -> Effect
     ensures { λ r. ⌜ r ≡ row (Answer.Done Name.Drop) Move.Still core copy line ⌝ }
 {
     Effect {
@@ -198,7 +198,7 @@ fn dropped(core: Core, copy: Copy, line: Line) -> Effect
 
 // A renewal received: a shared copy takes the new end of its lease; with no copy, or an owned one,
 // it is dropped.
-fn receive_renew(rts: Stamp, core: Core, copy: Copy, line: Line) -> Effect
+fn receive_renew(rts: Stamp, core: Core, copy: Copy, line: ManagerLine) -> Effect
     ensures { λ r. ⌜ r ≡ receiveRenew copy rts (pieces core copy line) ⌝ }
 {
     let clocks = core.clocks;
@@ -220,7 +220,14 @@ fn receive_renew(rts: Stamp, core: Core, copy: Copy, line: Line) -> Effect
 }
 
 // A grant received: the slot becomes empty.
-fn receive_grant(grant: Grant, wts: Stamp, rts: Stamp, core: Core, copy: Copy, line: Line) -> Effect
+fn receive_grant(
+    grant: Grant,
+    wts: Stamp,
+    rts: Stamp,
+    core: Core,
+    copy: Copy,
+    line: ManagerLine,
+) -> Effect
     ensures { λ r. ⌜ r ≡ receiveGrant grant wts rts (pieces core copy line) ⌝ }
 {
     let clocks = core.clocks;
@@ -252,7 +259,7 @@ fn receive_grant(grant: Grant, wts: Stamp, rts: Stamp, core: Core, copy: Copy, l
 }
 
 // receive: the grant in the core's slot, or 22 where there is no answer.
-pub fn receive(core: Core, copy: Copy, line: Line) -> Effect
+pub fn receive(core: Core, copy: Copy, line: ManagerLine) -> Effect
     ensures { λ r. ⌜ ((c : ℕ) (o : Opening) → r ≡ effectOf (Call.Receive c) (pieces core copy line) o) ⌝ }
 {
     let slot = core.slot;

@@ -7,8 +7,8 @@ use protocol::Call;
 use protocol::Copy;
 use protocol::Core;
 use protocol::Effect;
-use protocol::Line;
 use protocol::Manager;
+use protocol::ManagerLine;
 use protocol::Move;
 use protocol::Name;
 use protocol::Opening;
@@ -17,12 +17,12 @@ use protocol::Stamp;
 use protocol::Writeback;
 
 // A version on its way back to the manager.
-fn written_back(line: Line, wts: Stamp, rts: Stamp) -> Line
+fn written_back(line: ManagerLine, wts: Stamp, rts: Stamp) -> ManagerLine
     ensures { λ r. ⌜ r ≡ writtenBack line wts rts ⌝ }
 {
     let manager = line.manager;
     let recall = line.recall;
-    Line {
+    ManagerLine {
         manager,
         recall,
         writeback: Writeback::Flight { wts, rts },
@@ -30,7 +30,7 @@ fn written_back(line: Line, wts: Stamp, rts: Stamp) -> Line
 }
 
 // A copy is given up, and the answer is this name: a shared one goes; an owned one becomes the writeback; 26 where there is none.
-fn give_up(name: Name, core: Core, copy: Copy, line: Line) -> Effect
+fn give_up(name: Name, core: Core, copy: Copy, line: ManagerLine) -> Effect
     ensures { λ r. ⌜ r ≡ evictTable name copy (pieces core copy line) ⌝ }
 {
     match copy {
@@ -56,7 +56,7 @@ fn give_up(name: Name, core: Core, copy: Copy, line: Line) -> Effect
 }
 
 // evict: whichever fits the copy.
-pub fn evict(core: Core, copy: Copy, line: Line) -> Effect
+pub fn evict(core: Core, copy: Copy, line: ManagerLine) -> Effect
     ensures { λ r. ⌜ ((c l : ℕ) (o : Opening) → r ≡ effectOf (Call.Evict c l) (pieces core copy line) o) ⌝ }
 {
     give_up(Name::Evict, core, copy, line)
@@ -74,7 +74,7 @@ fn yielded_copy(recall: Recall, wts: Stamp, rts: Stamp) -> Copy
 }
 
 // Whether the line is owned and a recall stands.
-fn is_recalled(line: Line) -> bool
+fn is_recalled(line: ManagerLine) -> bool
     ensures { λ r. ⌜ r ≡ both (hasOwner (line .manager)) (stands (line .recall)) ⌝ }
 {
     let manager = line.manager;
@@ -90,7 +90,7 @@ fn is_recalled(line: Line) -> bool
 }
 
 // yield: the owner's copy becomes the writeback; 23 without a recall, 24 without an owned copy.
-pub fn yield_line(core: Core, copy: Copy, line: Line) -> Effect
+pub fn yield_line(core: Core, copy: Copy, line: ManagerLine) -> Effect
     ensures { λ r. ⌜ ((l : ℕ) (o : Opening) → r ≡ effectOf (Call.Yield l) (pieces core copy line) o) ⌝ }
 {
     if !is_recalled(line) {
@@ -115,7 +115,7 @@ pub fn yield_line(core: Core, copy: Copy, line: Line) -> Effect
 }
 
 // take: the writeback becomes the manager's version, and recall and writeback are settled; 25 without one.
-pub fn take(core: Core, copy: Copy, line: Line) -> Effect
+pub fn take(core: Core, copy: Copy, line: ManagerLine) -> Effect
     ensures { λ r. ⌜ ((l : ℕ) (o : Opening) → r ≡ effectOf (Call.Take l) (pieces core copy line) o) ⌝ }
 {
     let flight = line.writeback;
@@ -126,7 +126,7 @@ pub fn take(core: Core, copy: Copy, line: Line) -> Effect
             moves: Move::Take,
             core,
             copy,
-            line: Line {
+            line: ManagerLine {
                 manager: Manager::Shared { wts, rts },
                 recall: Recall::None,
                 writeback: Writeback::None,

@@ -1,7 +1,7 @@
 -- The lengths of the buffers of an opening that fits are at most those of the greatest.
 use native.Mathlib.Omega.{arith}
 use borrow.Author.Needs.{needs}
-use Rattle.protocol.proofs.{Tests.was-true, Places.{inside, copies-most, private-most, rows-most, shared-most}}
+use Rattle.protocol.proofs.{Tests.was-true, Extents.{inside, copies-most, private-most, rows-most, shared-most}}
 use Rattle.bench_calls.proofs.run.Statement.{statement}
 use Rattle.bench_calls.proofs.run.Tie as tie
 

@@ -1,7 +1,7 @@
 -- The place lies inside the greatest buffer.
 use borrow.Author.Needs.{needs}
 use native.Mathlib.Omega.{arith}
-use Rattle.protocol.proofs.Places.{answer-most}
+use Rattle.protocol.proofs.Extents.{answer-most}
 use Rattle.buffers.proofs.answer_at.Statement.{statement}
 use Rattle.buffers.proofs.answer_at.Tie as tie
 

@@ -1,7 +1,7 @@
 -- The place lies inside the greatest buffer.
 use borrow.Author.Needs.{needs}
 use native.Mathlib.Omega.{arith}
-use Rattle.protocol.proofs.Places.{row-most, copy-most}
+use Rattle.protocol.proofs.Extents.{row-most, copy-most}
 use Rattle.buffers.proofs.copy_at.Statement.{statement}
 use Rattle.buffers.proofs.copy_at.Tie as tie
 

@@ -1,7 +1,7 @@
 -- The place lies inside the greatest buffer.
 use borrow.Author.Needs.{needs}
 use native.Mathlib.Omega.{arith}
-use Rattle.protocol.proofs.Places.{manager-most}
+use Rattle.protocol.proofs.Extents.{manager-most}
 use Rattle.buffers.proofs.manager_at.Statement.{statement}
 use Rattle.buffers.proofs.manager_at.Tie as tie
 

@@ -7,17 +7,17 @@ use Rattle.buffers.proofs.move_fits.Tie as tie
 
 returns : tie.Need-returns
 unfolding moveFits
-returns c = rw (was-false (c .before .place-fits .ensures) (c .if1 .taken))
+returns c = rw (was-false (c .before .is-there .ensures) (c .if1 .taken))
 
 returns-2 : tie.Need-returns-2
 unfolding moveFits
 returns-2 c =
-    rw (was-true (c .before .before .before .place-fits .ensures) (c .before .before .if1 .left), was-false (c .before .lengths-fit .ensures) (c .if2 .taken))
+    rw (was-true (c .before .before .before .is-there .ensures) (c .before .before .if1 .left), was-false (c .before .lengths-fit .ensures) (c .if2 .taken))
 
 returns-3 : tie.Need-returns-3
 unfolding moveFits
 returns-3 c =
-    rw (was-true (c .before .before .before .before .place-fits .ensures) (c .before .before .before .if1 .left), was-true (c .before .before .lengths-fit .ensures) (c .before .if2 .left))
+    rw (was-true (c .before .before .before .before .is-there .ensures) (c .before .before .before .if1 .left), was-true (c .before .before .lengths-fit .ensures) (c .before .if2 .left))
     (c .given-fits .ensures)
 
 pub move-fits-spec : {M : Type 1} → statement M

@@ -1,7 +1,7 @@
 -- The place lies inside the greatest buffer.
 use borrow.Author.Needs.{needs}
 use native.Mathlib.Omega.{arith}
-use Rattle.protocol.proofs.Places.{writeback-most}
+use Rattle.protocol.proofs.Extents.{writeback-most}
 use Rattle.buffers.proofs.writeback_at.Statement.{statement}
 use Rattle.buffers.proofs.writeback_at.Tie as tie
 

@@ -23,7 +23,7 @@ abbrev μ-loop : tie.MeasureT-loop
 
 abbrev at-start : tie.At-loop Inv-loop μ-loop → tie.Start Inv-loop μ-loop
 at-start c =
-    let r = c .before .before .before .before .before .before .before in
+    let r = c .before .before .before .before .before in
     r .before .before .before .before .before .before
 
 abbrev at-head : tie.After-due Inv-loop μ-loop → tie.At-loop Inv-loop μ-loop
@@ -106,10 +106,10 @@ returns c =
 
 loop-holds : tie.Need-loop-holds Inv-loop μ-loop
 loop-holds c =
-    let r = c .before .before .before .before .before .before .before in
-    let e = sym (r .resumable .ensures) ∙ not-false _ (c .before .before .before .before .before .before .if1 .left) in
-    let a = r .before .before .before .before .before .args in
-    (refl, refl, reached-start (a .journal .now) (a .from) (a .private .now) (a .shared .now) (a .out .now) _ e (looked-over (a .from .state) (a .private .now) (a .shared .now) _ (c .machine-refusal .ensures)))
+    let r = c .before .before .before .before in
+    let e = sym (r .resumable .ensures) ∙ not-false _ (c .before .before .before .if1 .left) in
+    let a = r .before .before .before .before .before .before .args in
+    (refl, refl, reached-start (a .journal .now) (a .from) (a .private .now) (a .shared .now) (a .out .now) _ e (looked-over (a .from .state) (a .private .now) (a .shared .now) _ (c .base-of .ensures)))
 
 -- ---- the last lines
 

@@ -2,7 +2,7 @@
 use mathlib.Core.Path.{sym, _∙_}
 use native.Mathlib.Omega.{arith}
 use borrow.Author.Needs.{needs}
-use Rattle.protocol.{specs.Buffers.Placed, proofs.Places.indices}
+use Rattle.protocol.{specs.Buffers.There, proofs.Extents.indices}
 use Rattle.engine.proofs.{Showing.{there, shows-nothing, shows-copy, shows-manager}, show.Statement.statement}
 use Rattle.engine.proofs.show.Tie as tie
 
@@ -16,8 +16,8 @@ returns c =
     shows-nothing (a .t1) (a .«private») (a .shared) (a .core) (a .line) _ (c .before .before .input-refusal .ensures) (c .before .if1 .taken) _
     (c .part .ensures)
 
-placed : (c : tie.Else1) → Placed (given (c .before) .args .t1 .opening) (given (c .before) .args .core) (given (c .before) .args .line)
-placed c =
+there-now : (c : tie.Else1) → There (given (c .before) .args .t1 .opening) (given (c .before) .args .core) (given (c .before) .args .line)
+there-now c =
     let a = given (c .before) .args in
     there (a .t1) (a .«private») (a .shared) (a .core) (a .line) _ (c .before .input-refusal .ensures) (c .if1 .left)
 
@@ -42,10 +42,10 @@ show-spec =
     (λ c κs. search needs)
     (λ c κs. search needs)
     returns
-    (λ c. let a = indices (placed c) in omega arith)
-    (λ c. let a = indices (placed c) in omega arith)
-    (λ c. let a = indices (placed c) in omega arith)
-    (λ c. let a = indices (placed c) in omega arith)
+    (λ c. let a = indices (there-now c) in omega arith)
+    (λ c. let a = indices (there-now c) in omega arith)
+    (λ c. let a = indices (there-now c) in omega arith)
+    (λ c. let a = indices (there-now c) in omega arith)
     (λ c κs. search needs)
     (λ c κs. search needs)
     (λ c κs. search needs)

@@ -3,7 +3,7 @@ use Prim.Native.Nat.{ℕ}
 use mathlib.Core.Path.{subst₂}
 use native.Mathlib.Omega.{arith}
 use Rattle.grammar.specs.{Line.{tooLong, noForm}, Table.{rowsOf, fromOf, toOf}, Scan.FoundIn}
-use Rattle.grammar.proofs.{Judge.{answer-line, placed}, Forms.{ranged, row-in, no-row}, read_line.Statement.statement}
+use Rattle.grammar.proofs.{Judge.{answer-line, row-found}, Forms.{ranged, row-in, no-row}, read_line.Statement.statement}
 use borrow.Author.Needs.{needs}
 use Rattle.grammar.proofs.read_line.Tie as tie
 
@@ -15,7 +15,7 @@ in-table c κs =
 is-placed : tie.Need-answer-requires
 is-placed c κs =
     let a = c .before .before .before .before .before .before .args in
-    placed (a .line .now) _ _ _ (rw (c .before .to-row .ensures) (ranged (a .form) .high)) (c .find .ensures)
+    row-found (a .line .now) _ _ _ (rw (c .before .to-row .ensures) (ranged (a .form) .high)) (c .find .ensures)
 
 answered : tie.Need-returns-3
 answered c =

@@ -24,7 +24,7 @@ use denote.Triple.{Clauses.{ensured, lasts}, Entry.onEntry, Spec.{Meets, tripleO
 use denote.Triple.Walked.{says, Stays, stay-none-slice, walkOf, goes-none-slice, Walks, ends-at, walked, walk-meets}
 use denote.Enum.Laws as EL
 use denote.Struct.Laws as LL
-use Rattle.journal.specs.{Journal.{NextOf, goesOn, placeAfter, formAfter, readerAfter}, Theorems.{Reached, start, on}, declared.Reader.Reader}
+use Rattle.journal.specs.{Journal.{NextOf, goesOn, offsetAfter, formAfter, readerAfter}, Theorems.{Reached, start, on}, declared.Reader.Reader}
 use Rattle.journal.{specs.declared.{Step.Step, Next.Next}, proofs.Reader.{new.Symbol.name as #journal·new, next.Symbol.name as #journal·next}}
 use Rattle.journal.proofs.Reader as T
 use Rattle.journal.proofs.Reader.Laws as T′
@@ -41,7 +41,7 @@ use Rattle.journal.proofs.Reader.next.Met as next-thm
 use Rattle.lines.specs.declared.LineCount.{LineCount}
 use Rattle.lines.proofs.LineCount as Y
 use Rattle.lines.proofs.LineCount.Laws as Y′
-use Rattle.lines.proofs.{Going.{onward, few-lines}, goes_on.Symbol.name as #lines·goes-on, count_lines.Key.name as #lines·count-lines}
+use Rattle.lines.proofs.{Walking.{onward, few-lines}, goes_on.Symbol.name as #lines·goes-on, count_lines.Key.name as #lines·count-lines}
 use Rattle.lines.proofs.count_lines.Code.Mir.{turn-1 as turn, t-3 as from-start, t-4 as looping, t-5 as rest}
 use Rattle.lines.proofs.goes_on as test
 use Rattle.lines.proofs.goes_on.Symbol as test-def
@@ -168,10 +168,10 @@ module _ {M : Type 1} (𝓤 : URA M) (H : Heap 𝓤) (A : Atoms 𝓤) (W : Given
     well : Is (P.the-row α) (handed at form n) (handed-val at form n ∷ [])
 
   -- what is known of what was handed out
-  fields : (i : Stand) → Is (T.the-row α) (readerAfter (reader (i .at) (i .form)) (i .n)) (reader-val (placeAfter (i .at) (i .n)) (formAfter (i .form) (i .n)) ∷ []) × Is S.the-row (i .n) (next-val (i .n) ∷ [])
+  fields : (i : Stand) → Is (T.the-row α) (readerAfter (reader (i .at) (i .form)) (i .n)) (reader-val (offsetAfter (i .at) (i .n)) (formAfter (i .form) (i .n)) ∷ []) × Is S.the-row (i .n) (next-val (i .n) ∷ [])
   fields i = let f = LL.owed (P.the-type α) (P′.the-laws α) (handed (i .at) (i .form) (i .n)) _ (i .well) in (f .0, f .1 .0)
 
-  numbers : (i : Stand) → (placeAfter (i .at) (i .n) < 2 ^ 64) × (formAfter (i .form) (i .n) < 2 ^ 32)
+  numbers : (i : Stand) → (offsetAfter (i .at) (i .n) < 2 ^ 64) × (formAfter (i .form) (i .n) < 2 ^ 32)
   numbers i = let f = LL.owed (T.the-type α) (T′.the-laws α) (readerAfter (reader (i .at) (i .form)) (i .n)) _ (fields i .0) in (f .1 .0 .1, f .1 .1 .0 .1)
 
   -- a step that was returned, at its machine value
@@ -256,7 +256,7 @@ module _ {M : Type 1} (𝓤 : URA M) (H : Heap 𝓤) (A : Atoms 𝓤) (W : Given
         (runs C Λ En more (anyQ (Turned i)))
     unfolding afterTurn
     goes i g =
-        let a = placeAfter (i .at) (i .n) in
+        let a = offsetAfter (i .at) (i .n) in
         let f = formAfter (i .form) (i .n) in
         assigns ! (bin ! (load ! (from ! (stop !)) (look ! 12 refl)) (lit ! tt) (record { fits = count-fits room i g })) (from ! (stop !)) (store ! 12 refl (tt, record { fits = count-fits room i g })) $
         assigns ! (of-opd ! (load ! (from ! (fld ! refl (stop !))) (look-in ! 10 (sub ! 0 refl (whole !))))) (from ! (stop !)) (init ! 2 refl (LL.lawful (T.the-type αᵉ) (T′.the-laws αᵉ) 𝓤 H A W .typed (reader a f) _ (fields i .0) .0)) $

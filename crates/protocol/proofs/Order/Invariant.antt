@@ -4,7 +4,7 @@ use Prim.Native.Nat.{ℕ, _≤_, _<_}
 use mathlib.Core.{Path._≡_, Bool.true, Logic.{inl, inr}, List.List}
 use native.Mathlib.{Omega.arith, Decide.ℕ-discrete}
 use lib.ListN.{length}
-use Rattle.protocol.specs.{Buffers.{Bytes, Placed, givenFits}, Machine.{Machine, coreAt, copyAt, applied}, Step.{Op, load, store, fence}}
+use Rattle.protocol.specs.{Buffers.{Bytes, There, givenFits}, Machine.{Machine, coreAt, copyAt, applied}, Step.{Op, load, store, fence}}
 use Rattle.protocol.specs.{Run.Commit, Order.Stores, declared.{Stamp.Stamp, Clocks.Clocks}}
 use Rattle.protocol.specs.declared.Copy.{Copy, the-variants.{None as NoCopy, Shared as CopyShared, Owned as CopyOwned}}
 use Rattle.protocol.specs.declared.{Slot.{Slot, the-variants.{Empty, Asked, Answered}}, Opening.Opening, Effect.Effect}
@@ -79,7 +79,7 @@ clock-up fence t k k′ p h = omega (arith, p .0)
 
 -- ---- a step's effect d on core c and line l
 
-module _ {z : Value} {H : List (Commit Bytes)} {m : Machine} (I : Inv z H m) (f : Fit m) {c l : ℕ} (q : Placed (m .state .opening) c l)
+module _ {z : Value} {H : List (Commit Bytes)} {m : Machine} (I : Inv z H m) (f : Fit m) {c l : ℕ} (q : There (m .state .opening) c l)
     (given : Bytes) (d : Effect) (hg : givenFits (d .moves) (m .state .opening .width) (length given) ≡ true) where
   abbrev o : Opening
   o = m .state .opening

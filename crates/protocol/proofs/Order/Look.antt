@@ -3,13 +3,13 @@ use Prim.Native.Nat.{ℕ, _<_}
 use mathlib.Core.{Path.{_≡_, refl, _∙_, ap, ap₂}, Logic.{_⊎_, inl, inr}, Bool.{Bool, true, false}}
 use native.Mathlib.Decide.{ℕ-discrete}
 use lib.ListN.{length}
-use Rattle.protocol.specs.Buffers.{Bytes, Placed, copyBytes, managerBytes, writebackBytes, answerBytes, givenFits, movedShared}
+use Rattle.protocol.specs.Buffers.{Bytes, There, copyBytes, managerBytes, writebackBytes, answerBytes, givenFits, movedShared}
 use Rattle.protocol.specs.{Machine.{Machine, coreAt, copyAt, lineAt, applied}, declared.Stamp.Stamp}
 use Rattle.protocol.specs.declared.Copy.{Copy, the-variants.{None as NoCopy, Shared as CopyShared, Owned as CopyOwned}}
 use Rattle.protocol.specs.declared.Grant.{Grant, the-variants.{Share as GrantShare, Renew as GrantRenew, Own as GrantOwn}}
 use Rattle.protocol.specs.declared.{Slot.{Slot, the-variants.{Empty, Asked, Answered}}, Core.Core}
 use Rattle.protocol.specs.declared.Manager.{Manager, the-variants.{Shared, Owned}}
-use Rattle.protocol.specs.declared.{Writeback.{Writeback, the-variants.{None as NoWriteback, Flight}}, Line.Line, Opening.Opening}
+use Rattle.protocol.specs.declared.{Writeback.{Writeback, the-variants.{None as NoWriteback, Flight}}, ManagerLine.ManagerLine, Opening.Opening}
 use Rattle.protocol.specs.declared.Effect.{Effect}
 use Rattle.protocol.proofs.Moves.{managerAfter, writebackAfter, copyAfter, answerAfter, AnswerStays, manager-after, writeback-after}
 use Rattle.protocol.proofs.{Moves.{copy-after, answer-after, manager-other, writeback-other, answer-other, private-other}, Refusals.Fit}
@@ -106,7 +106,7 @@ SlotStep m c l d =
     ((d .core .slot ≡ coreAt (m .state) c .slot) × AnswerStays (d .moves))
     ⊎ ((l′ : ℕ) → SpeaksOf l′ (d .core .slot) → l′ ≡ l)
 
-module _ {m : Machine} (ar : Arrays (m .state)) (f : Fit m) {c l : ℕ} (q : Placed (m .state .opening) c l) (given : Bytes) (d : Effect)
+module _ {m : Machine} (ar : Arrays (m .state)) (f : Fit m) {c l : ℕ} (q : There (m .state .opening) c l) (given : Bytes) (d : Effect)
     (hg : givenFits (d .moves) (m .state .opening .width) (length given) ≡ true) where
   abbrev o : Opening
   o = m .state .opening
@@ -117,11 +117,11 @@ module _ {m : Machine} (ar : Arrays (m .state)) (f : Fit m) {c l : ℕ} (q : Pla
   -- the four spots of core c and line l
   pub look-manager : look m′ l atManager ≡ viewManager (d .line .manager) (managerAfter m c l given (d .moves))
   unfolding look applied
-  look-manager = ap₂ (λ (v : Line). viewManager (v .manager)) (line-at ar q d) (manager-after m c l given f q (d .moves))
+  look-manager = ap₂ (λ (v : ManagerLine). viewManager (v .manager)) (line-at ar q d) (manager-after m c l given f q (d .moves))
 
   pub look-writeback : look m′ l atWriteback ≡ viewWriteback (d .line .writeback) (writebackAfter m c l given (d .moves))
   unfolding look applied
-  look-writeback = ap₂ (λ (v : Line). viewWriteback (v .writeback)) (line-at ar q d) (writeback-after m c l given f q (d .moves))
+  look-writeback = ap₂ (λ (v : ManagerLine). viewWriteback (v .writeback)) (line-at ar q d) (writeback-after m c l given f q (d .moves))
 
   pub look-copy : look m′ l (atCopy c) ≡ viewCopy c (d .copy) (copyAfter m c l given (d .moves))
   unfolding look applied
@@ -147,10 +147,10 @@ module _ {m : Machine} (ar : Arrays (m .state)) (f : Fit m) {c l : ℕ} (q : Pla
       → (look m′ l′ Y ≡ look m l′ Y) ⊎ (look m′ l′ Y ≡ nothing)
   unfolding look applied
   line-spots-off st l′ h n atManager =
-      inl (ap₂ (λ (v : Line). viewManager (v .manager)) (line-off ar q d l′ n)
+      inl (ap₂ (λ (v : ManagerLine). viewManager (v .manager)) (line-off ar q d l′ n)
       (manager-other m c l given f q (d .moves) l′ h n))
   line-spots-off st l′ h n atWriteback =
-      inl (ap₂ (λ (v : Line). viewWriteback (v .writeback)) (line-off ar q d l′ n)
+      inl (ap₂ (λ (v : ManagerLine). viewWriteback (v .writeback)) (line-off ar q d l′ n)
       (writeback-other m c l given f q (d .moves) l′ h n))
   line-spots-off st l′ h n (atCopy c′) = inl (copy-spot-off c′ l′ h (λ _ e. n e))
   line-spots-off st l′ h n (atSlot c′) = go (ℕ-discrete c′ c) st

@@ -4,7 +4,7 @@ use mathlib.Core.{Path.{_≡_, refl, sym, _∙_, ap}, Logic.{_⊎_, inl, inr}, B
 use native.Mathlib.Omega.{arith}
 use lib.{Dec.eqb, ListN.length}
 use borrow.Author.Tests.{eq-eqb}
-use Rattle.protocol.specs.{Stamps.later, Clock.storeTime, Buffers.{Bytes, Placed, copyBytes, managerBytes, writebackBytes, answerBytes}}
+use Rattle.protocol.specs.{Stamps.later, Clock.storeTime, Buffers.{Bytes, There, copyBytes, managerBytes, writebackBytes, answerBytes}}
 use Rattle.protocol.specs.{Machine.{Machine, Pieces, piecesAt, coreAt, copyAt, lineAt, applied}, Refusals.isOwned}
 use Rattle.protocol.specs.Tables.{row, heldOf, loadOwned, earliest, storeTable, fenceTable, advanceTable, evictTable, leasedTo, serveLoad}
 use Rattle.protocol.specs.Tables.{serveAsked, receiveRenew, receiveGrant, yielded, yieldTable, takeTable, writtenBack}
@@ -85,7 +85,7 @@ kept-all fence t′ t k h h′ f = omega arith
 
 -- ---- the rows of the table of a call about core c and line l
 module _ (z : Value) (p : ℕ) {H : List (Commit Bytes)} (given : Bytes) {m : Machine} (I : Inv z H m) (f : Fit m) {c l : ℕ}
-    (q : Placed (m .state .opening) c l) where
+    (q : There (m .state .opening) c l) where
   abbrev o : Opening
   o = m .state .opening
 

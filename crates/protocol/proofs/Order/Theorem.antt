@@ -8,11 +8,11 @@ use borrow.Author.Tests.{ltb-true, eqb-true, lt-ltb, le-ltb, eq-eqb}
 use Rattle.protocol.specs.{Pick.pick, Stamps.{Precedes, precedes}, Limits.openingFits, Refusals.openRefusal}
 use Rattle.protocol.specs.{Buffers.{Bytes, sharedLength, managerBytes}, About.{about, namedCore, namedLine}, Machine.{Machine, freshMachine}}
 use Rattle.protocol.specs.Step.{Op, Reply, refused, done, commit, step}
-use Rattle.protocol.specs.Run.{Given, Record, place, run, Commit, actCommit, commitOf, commits}
+use Rattle.protocol.specs.Run.{Entry, Record, place, run, Commit, actCommit, commitOf, commits}
 use Rattle.protocol.specs.Order.{In, here, there, Before, Earlier, TsoKeeps, Loads, Stores, LastWrite, Obeys, OpenTheorem, OrderTheorem}
 use Rattle.protocol.specs.{Order.{SortTheorem, KeyTheorem}, declared.Opening.Opening}
 use Rattle.protocol.specs.declared.Act.{Act, the-variants.{Load, Store, Fence, Advance, Transfer}}
-use Rattle.protocol.proofs.{Tests.never, Bytes.{row-le, zeros, zeros-part}, Places.inside, Refusals.opening-fit}
+use Rattle.protocol.proofs.{Tests.never, Bytes.{row-le, zeros, zeros-part}, Extents.inside, Refusals.opening-fit}
 use Rattle.protocol.proofs.{Written.{arrays-fresh, core-fresh, line-fresh, copy-fresh}, Reached.{onto, reached, from-onto, to-onto}}
 use Rattle.protocol.proofs.Order.Log.{All, none, more, all-map, all-at, in-nil, fresh, Lawful, start, log-obeys, step as log-step}
 use Rattle.protocol.proofs.Order.Versions.{Spot, atManager, atWriteback, atCopy, atSlot, Newest, version, here as at-here}
@@ -26,7 +26,7 @@ record Along (z : Value) (p : ℕ) (H : List (Commit Bytes)) (m : Machine) : Typ
   lawful : Lawful TsoKeeps Loads Stores z H
   old : All (λ a. a .place .0 < p) H
 
-along-step : {z : Value} {p : ℕ} {m m′ : Machine} {H : List (Commit Bytes)} (g : Given) (r : Reply) → Along z p H m
+along-step : {z : Value} {p : ℕ} {m m′ : Machine} {H : List (Commit Bytes)} (g : Entry) (r : Reply) → Along z p H m
     → Good z p H (g .call) (g .bytes) r m′ → Along z (suc p) (commitOf (place p) g r ++ H) m′
 along-step g (refused n) R G = record { inv = G; lawful = R .lawful; old = all-map (λ a h. omega arith) (R .old) }
 along-step g (done d) R G = record { inv = G; lawful = R .lawful; old = all-map (λ a h. omega arith) (R .old) }
@@ -115,7 +115,7 @@ data OneAtMost (p : ℕ) : List (Commit Bytes) → Type 0 where
   no-commit : OneAtMost p []
   one-commit : {e : Commit Bytes} → e .place .0 ≡ p → OneAtMost p (e ∷ [])
 
-made-at : (p : ℕ) (g : Given) (r : Reply) → OneAtMost p (commitOf (place p) g r)
+made-at : (p : ℕ) (g : Entry) (r : Reply) → OneAtMost p (commitOf (place p) g r)
 made-at p g (refused n) = no-commit
 made-at p g (done d) = no-commit
 made-at p g (commit c t o) = go (about (g .call) .act)

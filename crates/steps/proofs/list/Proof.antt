@@ -1,6 +1,6 @@
 -- The sizes that were opened lie inside the limits, so the parts lie in the arrays; they hold zeros.
 use native.Mathlib.Omega.{arith}
-use Rattle.protocol.proofs.Places.{Inside, inside, copies-most, private-most, rows-most, shared-most}
+use Rattle.protocol.proofs.Extents.{Inside, inside, copies-most, private-most, rows-most, shared-most}
 use Rattle.driver.proofs.Starting.{start-fits}
 use Rattle.steps.specs.Listed.{part}
 use Rattle.steps.proofs.{Calling.{list-finished, list-more, list-resumable, list-short, list-unfit, part-zeros}, list.Statement.statement}

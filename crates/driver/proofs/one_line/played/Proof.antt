@@ -1,4 +1,4 @@
--- `driver::one_line::played` meets its contract: each case of what was put. Assumes nothing.
+-- `driver::one_line::played` meets its contract: its parts are those of what was put. Assumes nothing.
 use borrow.Author.Needs.{needs}
 use Rattle.driver.proofs.one_line.played.Statement.{statement}
 use Rattle.driver.proofs.one_line.played.Tie as tie
@@ -7,5 +7,5 @@ pub played-spec : {M : Type 1} → statement M
 played-spec =
     tie.close
     (tie.spec
-    (λ c. search needs) (λ c κs. search needs) (λ c. search needs) (λ c κs. search needs)
-    (λ c. rw (c .checkpoint .ensures, c .before .before .put .given .1)) (λ c. rw (c .checkpoint2 .ensures, c .before .enum-told .given .1)))
+    (λ c κs. search needs) (λ c κs. search needs) (λ c κs. search needs)
+    (λ c. rw (c .checkpoint .ensures, c .before .written-by .ensures, c .before .before .progress-by .ensures)))

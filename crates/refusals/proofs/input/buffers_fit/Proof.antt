@@ -1,7 +1,7 @@
 -- No product passes the largest number, since the sizes lie inside the limits.
 use borrow.Author.Tests.{eq-eqb, ne-eqb}
 use native.Mathlib.Omega.{arith}
-use Rattle.protocol.{specs.Refusals.buffersFit, proofs.Places.{inside, copies-most, private-most, rows-most, shared-most}}
+use Rattle.protocol.{specs.Refusals.buffersFit, proofs.Extents.{inside, copies-most, private-most, rows-most, shared-most}}
 use Rattle.refusals.proofs.input.buffers_fit.Statement.{statement}
 use Rattle.refusals.proofs.input.buffers_fit.Tie as tie
 

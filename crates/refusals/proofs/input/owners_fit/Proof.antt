@@ -3,13 +3,13 @@ use Prim.Native.Nat.{_≤_, _-_}
 use native.Mathlib.Omega.{arith}
 use borrow.Author.Needs.{needs}
 use lib.ListN.{length}
-use Rattle.protocol.specs.{Fresh.freshLine, Refusals.{ownerFits, ownersFit}, declared.Line.Line}
+use Rattle.protocol.specs.{Fresh.freshLine, Refusals.{ownerFits, ownersFit}, declared.ManagerLine.ManagerLine}
 use Rattle.protocol.proofs.Scan.{Scanned, scan-on, scan-fails, scan-ends}
 use Rattle.refusals.proofs.input.owners_fit.Statement.{statement}
 use Rattle.refusals.proofs.input.owners_fit.Tie as tie
 
 abbrev Inv-loop : tie.InvT-loop
-Inv-loop opening line lines i₀ i = (i ≤ lines) × Scanned (λ (l : Line). ownerFits (opening .cores) (l .manager)) line lines i
+Inv-loop opening line lines i₀ i = (i ≤ lines) × Scanned (λ (l : ManagerLine). ownerFits (opening .cores) (l .manager)) line lines i
 
 abbrev μ-loop : tie.MeasureT-loop
 μ-loop opening line lines i₀ i = lines - i

@@ -1,6 +1,6 @@
 -- The opening, the owners and the slots, one after the other.
 use borrow.Author.Needs.{needs}
-use Rattle.protocol.{specs.Refusals.stateFits, proofs.{Tests.{was-false, was-true}, Places.inside}}
+use Rattle.protocol.{specs.Refusals.stateFits, proofs.{Tests.{was-false, was-true}, Extents.inside}}
 use Rattle.refusals.proofs.input.state_fits.Statement.{statement}
 use Rattle.refusals.proofs.input.state_fits.Tie as tie
 

@@ -5,7 +5,7 @@ use native.Mathlib.{Omega.arith, Nat.mul-le-mul}
 use lib.Dec.{leb}
 use borrow.Author.Tests.{leb-true}
 use Rattle.protocol.specs.Limits.{within, openingFits}
-use Rattle.protocol.specs.Buffers.{privateLength, sharedLength, copyStart, managerStart, writebackStart, answerStart, Placed}
+use Rattle.protocol.specs.Buffers.{privateLength, sharedLength, copyStart, managerStart, writebackStart, answerStart, There}
 use Rattle.protocol.specs.declared.Opening.{Opening}
 use Rattle.protocol.proofs.{Tests.both-true, Bytes.row-le}
 
@@ -61,12 +61,12 @@ module _ {o : Opening} (i : Inside o) where
   shared-most = mul-le-mul rows-most (i .mostWidth)
 
 -- a core and a line that are there
-pub placed-at : {o : Opening} {c l : ℕ} → Inside o → c < o .cores → l < o .lines → Placed o c l
-placed-at i h k = record { cores = i .mostCores; lines = i .mostLines; width = i .mostWidth; core = h; line = k }
+pub there-at : {o : Opening} {c l : ℕ} → Inside o → c < o .cores → l < o .lines → There o c l
+there-at i h k = record { cores = i .mostCores; lines = i .mostLines; width = i .mostWidth; core = h; line = k }
 
 -- ---- places in the buffers
 
-module _ {o : Opening} {c l : ℕ} (a : Placed o c l) where
+module _ {o : Opening} {c l : ℕ} (a : There o c l) where
   pub indices : (c < 16) × (l < 64)
   indices = omega arith
 

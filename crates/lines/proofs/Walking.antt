@@ -4,7 +4,7 @@ use mathlib.Core.{Path.{_≡_, ap}, Bool.{true, false}, List.List}
 use native.Mathlib.Omega.{arith}
 use lib.ListN.{length, length-append, length-drop}
 use Rattle.grammar.specs.declared.Line.{Line, the-variants.{Opening as OpeningLine, Step as StepLine, Refused as RefusedLine}}
-use Rattle.journal.specs.{Journal.{placed, LineAt, NextOf, tooMuch, empty, ended, unended, aLine, goesOn, placeAfter}, Theorems.{Reached, start, on}}
+use Rattle.journal.specs.{Journal.{inJournal, LineAt, NextOf, tooMuch, empty, ended, unended, aLine, goesOn, offsetAfter}, Theorems.{Reached, start, on}}
 use Rattle.journal.specs.declared.Next.{Next}
 
 stopped : {A : Type 0} → false ≡ true → A
@@ -17,12 +17,12 @@ Onward j at next = (at < next) × (next ≤ length j)
 line-onward : (j : List ℕ) (at : ℕ) (l : List ℕ) (next : ℕ) → LineAt j at l next → Onward j at next
 line-onward j at l next h = (omega (arith, h .after), omega (arith, h .after, simp (length-append, length-drop) at (ap length (h .whole))))
 
-placed-onward : (j : List ℕ) (at next : ℕ) (a : Line) → Onward j at next → goesOn (placed a at next) ≡ true → Onward j at (placeAfter at (placed a at next))
+placed-onward : (j : List ℕ) (at next : ℕ) (a : Line) → Onward j at next → goesOn (inJournal a at next) ≡ true → Onward j at (offsetAfter at (inJournal a at next))
 placed-onward j at next (OpeningLine form sizes) h g = h
 placed-onward j at next (StepLine call x y) h g = h
 placed-onward j at next (RefusedLine n) h g = stopped g
 
-pub onward : {j : List ℕ} {at form : ℕ} {n : Next} → NextOf j at form n → goesOn n ≡ true → Onward j at (placeAfter at n)
+pub onward : {j : List ℕ} {at form : ℕ} {n : Next} → NextOf j at form n → goesOn n ≡ true → Onward j at (offsetAfter at n)
 onward (tooMuch l) g = stopped g
 onward (empty l h e) g = stopped g
 onward (ended l h e) g = stopped g
