@@ -60,18 +60,11 @@ fn call_of(kind: u64, core: usize, line: usize) -> Call {
 // Whether the calls are made by their names; the benchmark builds the program both ways.
 const NAMED: bool = false;
 
-// Makes a call by its name.
+// Makes a call, a load by its name.
 fn named(s: State, private: &mut [u8], shared: &mut [u8], call: Call, given: &[u8]) -> Returned {
     match call {
         Call::Load { core, line } => engine::load(s, private, shared, core, line),
-        Call::Store { core, line } => engine::store(s, private, shared, core, line, given),
-        Call::Fence { core } => engine::fence(s, private, shared, core),
-        Call::Evict { core, line } => engine::evict(s, private, shared, core, line),
-        Call::Advance { core, by } => engine::advance(s, private, shared, core, by),
-        Call::Serve { core } => engine::serve(s, private, shared, core),
-        Call::Receive { core } => engine::receive(s, private, shared, core),
-        Call::Yield { line } => engine::yield_line(s, private, shared, line),
-        Call::Take { line } => engine::take(s, private, shared, line),
+        _ => engine::step(s, private, shared, call, given),
     }
 }
 

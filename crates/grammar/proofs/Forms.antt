@@ -1,11 +1,56 @@
--- What is known of the rows of each form of journal: their shape, and what their lines say. Assumes nothing.
-use Prim.Native.Nat.{ℕ, zero, suc, _+_, _<_}
-use mathlib.Core.{Path.{_≡_, refl}, Bool.{Bool, true, false}}
+-- What is known of the rows of each form of journal: which part of the table they are, their shape, and what their lines say. A new form is a
+-- line in `ranged`, `no-row`, `opening-at` and `call-rows`. Assumes nothing.
+use Prim.Native.Nat.{ℕ, zero, suc, _+_, _-_, _≤_, _<_}
+use mathlib.Core.{Path.{_≡_, refl, _∙_, ap, subst}, Bool.{Bool, true, false}, List.List}
 use native.Mathlib.Omega.{arith}
-use lib.{Dec.ltb, ListN.length}
+use lib.{Dec.{ltb, lit≤}, ListN.{length, take, drop}, Seq.{getD-take, getD-drop}}
 use borrow.Author.Tests.{ltb-true}
-use Rattle.grammar.specs.{Table.{Numbered, Says, opens, calls, rowsOf, rowAt}, Scan.fromOf}
-use Rattle.grammar.proofs.{Fit.Shaped, Rows.{entry-at, both, every, every-at}, Judge.{ranged, row-in}}
+use Rattle.protocol.specs.declared.Opening.{Opening as Sizes}
+use Rattle.grammar.specs.Table.{Numbered, Says, opens, calls, Row, rowsOf, noRow, rowAt, table, stepCount, openingCount, rowCount, formCount}
+use Rattle.grammar.specs.{Table.{fromOf, toOf}, Line.Matches}
+use Rattle.grammar.proofs.{Fit.Shaped, Rows.{entry-at, both, every, every-at}}
+
+-- ---- the rows of each form are one part of the table
+
+pub record Ranged (form : ℕ) : Type 0 where
+  pub order : fromOf form ≤ toOf form
+  pub high : toOf form ≤ rowCount
+  pub count : length (rowsOf form) ≡ toOf form - fromOf form
+  pub same : rowsOf form ≡ take (toOf form - fromOf form) (drop (fromOf form) table)
+
+pub ranged : (form : ℕ) → Ranged form
+ranged zero = record { order = lit≤ tt; high = lit≤ tt; count = refl; same = refl }
+ranged (suc zero) = record { order = lit≤ tt; high = lit≤ tt; count = refl; same = refl }
+ranged (suc (suc form)) = record { order = lit≤ tt; high = lit≤ tt; count = refl; same = refl }
+
+pub row-in : (form k : ℕ) → k < length (rowsOf form) → rowAt (rowsOf form) k ≡ rowAt table (fromOf form + k)
+row-in form k h =
+    let r = ranged form in
+    ap (λ (l : List Row). rowAt l k) (r .same) ∙ getD-take (toOf form - fromOf form) (drop (fromOf form) table) k noRow (rw (← r .count) h) ∙ getD-drop (fromOf form) table k noRow
+
+-- no form is known beyond the last
+pub no-row : (form : ℕ) (s : List ℕ) → formCount ≤ form → (k : ℕ) (vs : List (List ℕ)) → Matches (rowsOf form) s k vs → ⊥
+no-row zero s h k vs f = absurd (omega arith)
+no-row (suc zero) s h k vs f = absurd (omega arith)
+no-row (suc (suc form)) s h k vs f = omega (arith, f .listed)
+
+-- ---- the first lines
+
+-- what a first line's numbers say
+abbrev pub sizesOf : Numbered → Sizes
+sizesOf n = record { cores = n 0; lines = n 1; width = n 2; lease = n 3 }
+
+opening-at : (j : ℕ) (n : Numbered) → j < openingCount → rowAt table (stepCount + j) .says n ≡ opens (j + 1) (sizesOf n)
+opening-at zero n h = refl
+opening-at (suc j) n h = absurd (omega arith)
+
+-- the first lines open the forms in turn
+pub opening-row : (row : ℕ) (n : Numbered) → stepCount ≤ row → row < rowCount → rowAt table row .says n ≡ opens (row - stepCount + 1) (sizesOf n)
+opening-row row n a b =
+    let e : stepCount + (row - stepCount) ≡ row = omega arith in
+    subst (λ (m : ℕ). rowAt table m .says n ≡ opens (row - stepCount + 1) (sizesOf n)) e (opening-at (row - stepCount) n (omega arith))
+
+-- ---- the shape of a row, and what it says
 
 pub row-shape : (form k : ℕ) → k < length (rowsOf form) → Shaped (rowAt (rowsOf form) k .form)
 row-shape form k h = let r = ranged form in rw (row-in form k h) (entry-at (fromOf form + k) (omega (arith, r .count, r .order, r .high)) .shape)

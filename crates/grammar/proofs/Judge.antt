@@ -2,12 +2,12 @@
 use Prim.Native.Nat.{ℕ, zero, suc, _+_, _≤_, _<_, _-_}
 use mathlib.Core.{Path.{_≡_, refl, sym, _∙_, ap, subst}, List.{List, [], _∷_, _++_}, Logic.{⊎-elim, inl, inr}}
 use native.Mathlib.Omega.{arith}
-use lib.{Dec.lit≤, ListN.{length, getD, take, drop, List·getD-append, List·getD-eq-default}}
-use lib.Seq.{sets, sets-eq, getD-append-add, getD-take, getD-drop}
+use lib.{ListN.{length, getD, drop, List·getD-append, List·getD-eq-default}}
+use lib.Seq.{sets, sets-eq, getD-append-add, getD-drop}
 use Rattle.spelling.{specs.Hex.hex, proofs.{Lists.le-or-lt, Decide.{Told, same-number}}}
-use Rattle.grammar.specs.{Form.{Part, fixed, value, number, pairs, Has, Given}, Table.{Row, rowAt, noRow, rowsOf}}
+use Rattle.grammar.specs.{Form.{Part, fixed, value, number, pairs, Has, Given}, Table.{Row, rowAt, table, rowCount, numberCount}}
 use Rattle.grammar.specs.Line.{said, Matches, LineOf, noForm, wrongNumber, wrongData, spelt}
-use Rattle.grammar.specs.Scan.{rowCount, numberCount, formCount, zeros, fromOf, toOf, RowAt, Scans, table, formOf, valuesIn, nothingRead}
+use Rattle.grammar.specs.Scan.{zeros, RowAt, Scans, formOf, valuesIn, nothingRead}
 use Rattle.grammar.specs.{Scan.{Fails, FoundIn, nowhere, here, answerOf, RowFound}, declared.Found.Found}
 use Rattle.grammar.proofs.{Outcome.{Outcome, fails, badNumber, badData, fine, outcome-of, fails-of}, Rows.{lineTag, entry-at, same-tag}}
 
@@ -92,30 +92,6 @@ module _ (rows : List Row) (from to : ℕ) (count : length rows ≡ to - from) (
 pub row-found : (s : List ℕ) (from to : ℕ) (f : Found) → to ≤ rowCount → FoundIn s from to f → RowFound f
 row-found s from to f h (nowhere e n) z = absurd (omega (arith, e, z))
 row-found s from to f h (here a b d x) z = omega arith
-
--- ---- the rows of each form are one part of the table
-
-pub record Ranged (form : ℕ) : Type 0 where
-  pub order : fromOf form ≤ toOf form
-  pub high : toOf form ≤ rowCount
-  pub count : length (rowsOf form) ≡ toOf form - fromOf form
-  pub same : rowsOf form ≡ take (toOf form - fromOf form) (drop (fromOf form) table)
-
-pub ranged : (form : ℕ) → Ranged form
-ranged zero = record { order = lit≤ tt; high = lit≤ tt; count = refl; same = refl }
-ranged (suc zero) = record { order = lit≤ tt; high = lit≤ tt; count = refl; same = refl }
-ranged (suc (suc form)) = record { order = lit≤ tt; high = lit≤ tt; count = refl; same = refl }
-
-pub row-in : (form k : ℕ) → k < length (rowsOf form) → rowAt (rowsOf form) k ≡ rowAt table (fromOf form + k)
-row-in form k h =
-    let r = ranged form in
-    ap (λ (l : List Row). rowAt l k) (r .same) ∙ getD-take (toOf form - fromOf form) (drop (fromOf form) table) k noRow (rw (← r .count) h) ∙ getD-drop (fromOf form) table k noRow
-
--- no form is known beyond the last
-pub no-row : (form : ℕ) (s : List ℕ) → formCount ≤ form → (k : ℕ) (vs : List (List ℕ)) → Matches (rowsOf form) s k vs → ⊥
-no-row zero s h k vs f = absurd (omega arith)
-no-row (suc zero) s h k vs f = absurd (omega arith)
-no-row (suc (suc form)) s h k vs f = omega (arith, f .listed)
 
 -- ---- which row was found
 

@@ -5,12 +5,12 @@ use native.Mathlib.Omega.{arith}
 use lib.ListN.{length, getD}
 use Rattle.spelling.{specs.{Decimal.IsNumber, Hex.IsData, One.One}, proofs.{Lists.le-or-lt, Decide.{Told, same-number, number-told, data-told}}}
 use Rattle.spelling.proofs.Split.{upTo-within}
-use Rattle.grammar.specs.{Form.{Part, fixed, value, number, pairs, Has}, Table.{Row, rowAt, rowsOf}, Line.{Matches, LineOf, tooLong}}
+use Rattle.grammar.specs.{Form.{Part, fixed, value, number, pairs, Has}, Table.{Row, rowAt, rowsOf, table, rowCount, fromOf, toOf}, Line.{Matches, LineOf, tooLong}}
 use Rattle.grammar.specs.Theorems.{OneAnswerTheorem}
-use Rattle.grammar.specs.Scan.{valueAt, rowCount, fromOf, toOf, table, formOf, Scans, right, wrong, ended, longer, same, other, aValue}
+use Rattle.grammar.specs.Scan.{valueAt, formOf, Scans, right, wrong, ended, longer, same, other, aValue}
 use Rattle.grammar.specs.Scan.{nothingRead, withNumber, withoutNumber, withData, withoutData, Fails, FoundIn, nowhere, here}
 use Rattle.grammar.specs.declared.{Line.Line, Values.Values, Found.Found}
-use Rattle.grammar.proofs.{Fit.Shaped, Outcome.fails-of, Rows.{letters, lineTag, entry-at, row-told}, Judge.{answer-line, ranged, row-in}}
+use Rattle.grammar.proofs.{Fit.Shaped, Outcome.fails-of, Rows.{letters, lineTag, entry-at, row-told}, Judge.answer-line, Forms.{ranged, row-in}}
 use Rattle.grammar.proofs.Unique.{same-answer}
 
 -- ---- a line is read in some way by each form

@@ -5,9 +5,8 @@ use mathlib.Core.{Path.{_≡_, refl, sym, _∙_, ap, ap₂, subst}, Bool.{Bool, 
 use native.Mathlib.{Omega.arith, Nat.{le-of-suc-le-suc, not-suc-le-zero, suc-add, add-suc, add-zero, zero-add}}
 use lib.{Dec.{leb, eqb}, ListN.{length, getD}}
 use borrow.Author.Tests.{leb-true, eqb-true}
-use Rattle.grammar.specs.{Form.{Part, fixed, value, number, pairs, Has}, Table.{Numbered, opens, Row, rowAt}}
-use Rattle.grammar.specs.Scan.{stepCount, openingCount, rowCount, numberCount, table, formOf, byteOf, tagOf, rowTag, valuesIn}
-use Rattle.protocol.specs.declared.Opening.{Opening as Sizes}
+use Rattle.grammar.specs.{Form.{Part, fixed, value, number, pairs, Has}, Table.{Row, rowAt, table, rowCount, numberCount}}
+use Rattle.grammar.specs.Scan.{formOf, byteOf, tagOf, rowTag, valuesIn}
 use Rattle.grammar.proofs.Fit.{Edged, Shaped, byte-only}
 
 -- ---- the code's table of tags, as the rows of the definitions make it
@@ -156,22 +155,6 @@ same-tag k s vs h f =
 -- TWO ROWS NEVER HAVE THE SAME LINE: the row is told by the tag
 pub row-told : (k : ℕ) (s : List ℕ) (vs : List (List ℕ)) → k < rowCount → Has s (formOf k) vs → getD letters (lineTag s) 0 ≡ 97 + k
 row-told k s vs h f = ap (λ (m : ℕ). getD letters m 0) (sym (same-tag k s vs h f .1)) ∙ entry-at k h .found
-
--- ---- the first lines
-
--- what a first line's numbers say
-abbrev pub sizesOf : Numbered → Sizes
-sizesOf n = record { cores = n 0; lines = n 1; width = n 2; lease = n 3 }
-
-opening-at : (j : ℕ) (n : Numbered) → j < openingCount → rowAt table (stepCount + j) .says n ≡ opens (j + 1) (sizesOf n)
-opening-at zero n h = refl
-opening-at (suc j) n h = absurd (omega arith)
-
--- the first lines open the forms in turn
-pub opening-row : (row : ℕ) (n : Numbered) → stepCount ≤ row → row < rowCount → rowAt table row .says n ≡ opens (row - stepCount + 1) (sizesOf n)
-opening-row row n a b =
-    let e : stepCount + (row - stepCount) ≡ row = omega arith in
-    subst (λ (m : ℕ). rowAt table m .says n ≡ opens (row - stepCount + 1) (sizesOf n)) e (opening-at (row - stepCount) n (omega arith))
 
 -- ---- a match on a number
 

@@ -1,10 +1,10 @@
 -- How one line is read against one form, key by key: what the private functions promise. The public promises rest on `Line`
 -- alone. Assumes nothing.
 use Prim.Native.Nat.{ℕ, zero, suc, _+_, _*_, _/_, _%_, _≤_, _<_}
-use mathlib.Core.{Path._≡_, Bool.cond, List.{List, [], _∷_, _++_}}
+use mathlib.Core.{Path._≡_, Bool.cond, List.{List, [], _∷_}}
 use lib.{Dec.eqb, ListN.{length, drop, getD, set}}
 use Rattle.spelling.specs.{Bytes.{upTo, Below}, Text.text, Decimal.{decimal, greatest, IsNumber}, Hex.IsData}
-use Rattle.grammar.specs.{Form.{Part, fixed, value, Value, number, pairs, Has}, Line.said, Table.{calls, Row, openings, steps, rowAt}}
+use Rattle.grammar.specs.{Form.{Part, fixed, value, Value, number, pairs, Has}, Line.said, Table.{calls, Row, rowAt, table, numberCount, rowCount}}
 use Rattle.grammar.specs.declared.{Line.{Line, the-variants.Refused}, Values.Values, Found.Found}
 use Rattle.protocol.specs.declared.Call.{Call}
 
@@ -57,23 +57,6 @@ pub data Scans (s : List ℕ) : List Part → ℕ → Values → Values → Type
   other : {p : List Part} {b at : ℕ} {v r : Values} → (at < length s → getD s at 0 ≡ b → ⊥) → r .fault ≡ 11 → Scans s (fixed b ∷ p) at v r
   aValue : {p : List Part} {q : Value} {at : ℕ} {v w r : Values} → ValueRead q v (valueAt s at) at w → Scans s p (at + length (valueAt s at)) w r → Scans s (value q ∷ p) at v r
 
--- how many numbers a line has at most, how many of the rows are steps and first lines, and how many forms of journal there are (form
--- 0, where the first line is due, counted)
-abbrev pub numberCount : ℕ
-numberCount = 4
-
-abbrev pub stepCount : ℕ
-stepCount = 9
-
-abbrev pub openingCount : ℕ
-openingCount = 1
-
-abbrev pub rowCount : ℕ
-rowCount = stepCount + openingCount
-
-abbrev pub formCount : ℕ
-formCount = 2
-
 -- no numbers yet
 abbrev pub zeros : ℕ → List ℕ
 zeros zero = []
@@ -125,19 +108,9 @@ pub record Filled (s : List ℕ) (head : ℕ) (p : List Part) (r : Values) : Typ
 
 -- ---- the rows
 
--- all rows, in the order of the code's table: the first lines last, so that a new one moves no other row
-abbrev pub table : List Row
-table = steps ++ openings
-
+-- the form of a row of the table
 abbrev pub formOf : ℕ → List Part
 formOf k = rowAt table k .form
-
--- the rows of a form of journal are those from one up to another
-abbrev pub fromOf : ℕ → ℕ
-fromOf form = getD (9 ∷ 0 ∷ []) form 0
-
-abbrev pub toOf : ℕ → ℕ
-toOf form = getD (10 ∷ 9 ∷ []) form 0
 
 -- the byte of a part of fixed text
 abbrev pub byteOf : Part → ℕ

@@ -1,6 +1,6 @@
 -- The grammar of 01, "Journal and driver": the first line, and the nine step lines. Assumes nothing.
-use Prim.Native.{Nat.{ℕ, zero, suc}, String.String}
-use mathlib.Core.List.{List, [], _∷_}
+use Prim.Native.{Nat.{ℕ, zero, suc, _+_}, String.String}
+use mathlib.Core.List.{List, [], _∷_, _++_}
 use lib.ListN.{getD}
 use Rattle.spelling.specs.Text.{text}
 use Rattle.protocol.specs.declared.Opening.{Opening as Sizes}
@@ -57,3 +57,33 @@ noRow = record { form = []; says = λ n. opens 0 (record { cores = 0; lines = 0;
 -- the row at a place of a table
 abbrev pub rowAt : List Row → ℕ → Row
 rowAt rows k = getD rows k noRow
+
+-- ---- the rows as the code has them: one table, and a part of it for each form of journal
+
+-- all rows, in the order of the code's table: the first lines last, so that a new one moves no other row
+abbrev pub table : List Row
+table = steps ++ openings
+
+-- how many numbers a line has at most, how many of the rows are steps and first lines, and how many forms of journal there are (form
+-- 0, where the first line is due, counted)
+abbrev pub numberCount : ℕ
+numberCount = 4
+
+abbrev pub stepCount : ℕ
+stepCount = 9
+
+abbrev pub openingCount : ℕ
+openingCount = 1
+
+abbrev pub rowCount : ℕ
+rowCount = stepCount + openingCount
+
+abbrev pub formCount : ℕ
+formCount = 2
+
+-- the rows of a form of journal are those from one up to another
+abbrev pub fromOf : ℕ → ℕ
+fromOf form = getD (9 ∷ 0 ∷ []) form 0
+
+abbrev pub toOf : ℕ → ℕ
+toOf form = getD (10 ∷ 9 ∷ []) form 0

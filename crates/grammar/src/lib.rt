@@ -2,14 +2,14 @@
 //
 // A form is a kind (`op=load`) and then keys, each with its value. Two bytes of a line, its tag, tell the only row of the table that it
 // may have; one function, `fill`, reads the keys of any row. A new first line or step is a new row: here in `ROWS_BY_TAG`, `fill_row`
-// and, for a step, `call_of`; in specs/Table.antt; and in the counts of specs/Scan.antt. The rows that a journal of some form has are
+// and, for a step, `call_of`; and in specs/Table.antt with its counts. The rows that a journal of some form has are
 // one part of the table, from one row up to another. Texts are named where they are compared, and not in a table of texts, since a
 // constant array is made anew at each use.
 ghost use mathlib.Core.{Path._≡_, Bool.cond};
 ghost use Prim.Native.Nat.{_≤_, _<_};
 ghost use lib.{Dec.eqb, ListN.length};
-ghost use Rattle.grammar.specs.Scan.{numberCount, stepCount, rowCount, formCount, fromOf, toOf, tagOf, RowAt, formOf, keyText, fieldParts};
-ghost use Rattle.grammar.specs.{Scan.{After, Filled, Scans, nothingRead, FoundIn, answerOf, RowFound, Called}, Table.rowsOf};
+ghost use Rattle.grammar.specs.Scan.{tagOf, RowAt, formOf, keyText, fieldParts};
+ghost use Rattle.grammar.specs.{Scan.{After, Filled, Scans, nothingRead, FoundIn, answerOf, RowFound, Called}, Table.{rowsOf, numberCount, stepCount, rowCount, formCount, fromOf, toOf}};
 ghost use Rattle.grammar.specs.Line.{LineOf, numberOf};
 use protocol::Call;
 use protocol::Opening;
@@ -33,7 +33,7 @@ pub enum Line {
 }
 
 // How many of the rows are steps (the others are first lines), how many numbers a line has at most, and how many forms of journal there
-// are, where the first line is due counted as one (`stepCount`, `numberCount` and `formCount` of specs/Scan.antt).
+// are, where the first line is due counted as one (`stepCount`, `numberCount` and `formCount` of specs/Table.antt).
 const STEPS: usize = 9;
 
 const NUMBERS: usize = 4;

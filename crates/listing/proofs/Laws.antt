@@ -8,7 +8,7 @@ use Rattle.spelling.specs.{Over.{over, PutAt, PutBefore}, Decimal.decimal, Hex.
 use Rattle.spelling.proofs.OverLaws.{over-from, over-length, over-append, before-place, before-laid, before-from, decimal-short, put-done, put-short}
 use Rattle.spelling.proofs.HexLaws.{hex-length}
 use Rattle.protocol.specs.{declared.Name.Name, Step.fence}
-use Rattle.listing.specs.{Record.{nameText, doneText, commitText}, Back.{Room, Field, Tail, names, Named, three, access}}
+use Rattle.listing.specs.{Record.{nameText, doneText, commitText}, Back.{Room, Field, Tail, three, access, doneEnd}}
 
 -- a text that was put where it fits
 module _ (old : List ℕ) (at : ℕ) (t new : List ℕ) (r : Put) (p : PutAt old at t new r) (h : at + length t ≤ length old) where
@@ -104,9 +104,8 @@ four a b c d e f g h t x y = simp append-assoc
 
 -- the place, and the end that names what was done
 pub done-line :
-    {d : Name} {start stop : ℕ} {old : List ℕ} {end n : ℕ} {new : List ℕ} {r : ℕ} → Named d start stop → drop end old ≡ take (stop - start) (drop start names)
-    → Field old end (text "n=") n new r → take (128 - r) (drop r new) ≡ doneText n d
-done-line {d} {n = n} h e f = first f (e ∙ h .same) ∙ regroup (text "n=") (decimal n) (text " done=") (nameText d) (text "\n")
+    (d : Name) {old : List ℕ} {end n : ℕ} {new : List ℕ} {r : ℕ} → drop end old ≡ doneEnd d → Field old end (text "n=") n new r → take (128 - r) (drop r new) ≡ doneText n d
+done-line d {n = n} e f = first f e ∙ regroup (text "n=") (decimal n) (text " done=") (nameText d) (text "\n")
   where
     regroup : (a b c d e : List ℕ) → a ++ (b ++ (c ++ d ++ e)) ≡ a ++ b ++ c ++ d ++ e
     regroup a b c d e = simp append-assoc

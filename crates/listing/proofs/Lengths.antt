@@ -7,7 +7,7 @@ use Rattle.protocol.specs.declared.{Place.Place, Name.{Name, the-variants.{Open
 use Rattle.protocol.specs.declared.{Counts.Counts, Answer.{Answer, the-variants.{Refused, Done, Commit}}, Kind.the-variants.{Load, Store, Fence}}
 use Rattle.protocol.specs.Step.{meaning}
 use Rattle.spelling.proofs.{OverLaws.decimal-short, HexLaws.hex-length}
-use Rattle.listing.specs.Record.{nameText, recordText, endText}
+use Rattle.listing.specs.{Record.{nameText, recordText, endText}, Back.doneEnd}
 
 name-length : (d : Name) → length (nameText d) ≤ 7
 name-length Open = omega arith
@@ -21,6 +21,9 @@ name-length Evict = omega arith
 name-length Advance = omega arith
 name-length Yield = omega arith
 name-length Take = omega arith
+
+pub done-length : (d : Name) → length (doneEnd d) ≤ 14
+done-length d = simp length-append (omega (arith, name-length d))
 
 -- a record has at most 118 bytes beside its data
 pub record-length : (p : Place) (a : Answer) (bytes : List ℕ) → length (recordText p (meaning a bytes)) ≤ 118 + 2 * length bytes

@@ -1,7 +1,7 @@
 -- A line of text that is built back to front, at the end of a buffer of 128 bytes. What it holds then. Assumes nothing.
-use Prim.Native.Nat.{ℕ, _+_, _-_, _≤_}
+use Prim.Native.Nat.{ℕ, _+_, _≤_}
 use mathlib.Core.{Path._≡_, List.{List, _++_}}
-use lib.ListN.{length, take, drop}
+use lib.ListN.{length, drop}
 use Rattle.spelling.specs.{Text.text, Decimal.decimal, Hex.hex}
 use Rattle.protocol.specs.declared.Name.{Name}
 use Rattle.listing.specs.Record.{nameText}
@@ -34,12 +34,6 @@ access n commit core line ts bytes =
     text "n=" ++ decimal n ++ commit ++ decimal core ++ text " line=" ++ decimal line ++ text " ts=" ++ decimal ts ++ text " data=" ++ hex bytes
     ++ text "\n"
 
--- how the records end that name what was done, one end after the other
-abbrev pub names : List ℕ
-names =
-    text " done=open\n done=ask\n done=recall\n done=share\n done=renew\n done=own\n done=drop\n done=evict\n done=advance\n done=yield\n done=take\n"
-
--- the end of the record that names it is the part of them from `start` up to `end`, and is short
-pub record Named (d : Name) (start end : ℕ) : Type 0 where
-  pub room : (start ≤ end) × (end ≤ 128) × (end ≤ start + 14)
-  pub same : take (end - start) (drop start names) ≡ text " done=" ++ nameText d ++ text "\n"
+-- how a record ends that names what was done
+abbrev pub doneEnd : Name → List ℕ
+doneEnd d = text " done=" ++ nameText d ++ text "\n"

@@ -9,17 +9,13 @@ ghost use lib.ListN.{length};
 ghost use Rattle.protocol.specs.Step.{valued, meaning};
 ghost use Rattle.spelling.specs.{Text.text, Hex.hex, Over.PutAt};
 ghost use Rattle.listing.specs.Record.{doneText, refusedText, commitText, recordText, endText};
-ghost use Rattle.listing.specs.Back.{Room, Field, Tail, Named, three, access};
+ghost use Rattle.listing.specs.Back.{Room, Field, Tail, three, access, doneEnd};
 use protocol::Answer;
 use protocol::Counts;
 use protocol::Kind;
 use protocol::Name;
 use protocol::Place;
 use spelling::Put;
-
-// How a record ends that names what was done, one end after the other.
-const NAMES: [u8; 128] =
-    *b" done=open\n done=ask\n done=recall\n done=share\n done=renew\n done=own\n done=drop\n done=evict\n done=advance\n done=yield\n done=take\n";
 
 // A key and its number, just before a place of a line; the answer is where the key starts.
 fn field(line: &mut [u8; 128], end: usize, key: &[u8], n: u64) -> usize
@@ -63,37 +59,22 @@ pub fn put_with_data(out: &mut [u8], at: usize, head: &[u8], bytes: &[u8]) -> Pu
     spelling::put_text(out, end, b"\n")
 }
 
-// Where the end of a record that names what was done is found in NAMES.
-struct Part {
-    start: usize,
-    end: usize,
-}
-
-// The end of the record that names it, with its newline.
-fn end_of(name: Name) -> Part
-    ensures { λ r. ⌜ Named name (r .start) (r .end) ⌝ }
+// How a record ends that names what was done, at the end of a line; the answer is where it starts.
+fn done_tail(line: &mut [u8; 128], name: Name) -> usize
+    ensures { λ r. ⌜ Tail (doneEnd name) (now (line .exit)) r ⌝ }
 {
     match name {
-        Name::Open => Part { start: 0, end: 11 },
-        Name::Ask => Part { start: 11, end: 21 },
-        Name::Recall => Part { start: 21, end: 34 },
-        Name::Share => Part { start: 34, end: 46 },
-        Name::Renew => Part { start: 46, end: 58 },
-        Name::Own => Part { start: 58, end: 68 },
-        Name::Drop => Part { start: 68, end: 79 },
-        Name::Evict => Part { start: 79, end: 91 },
-        Name::Advance => Part {
-            start: 91,
-            end: 105,
-        },
-        Name::Yield => Part {
-            start: 105,
-            end: 117,
-        },
-        Name::Take => Part {
-            start: 117,
-            end: 128,
-        },
+        Name::Open => tail(line, b" done=open\n"),
+        Name::Ask => tail(line, b" done=ask\n"),
+        Name::Recall => tail(line, b" done=recall\n"),
+        Name::Share => tail(line, b" done=share\n"),
+        Name::Renew => tail(line, b" done=renew\n"),
+        Name::Own => tail(line, b" done=own\n"),
+        Name::Drop => tail(line, b" done=drop\n"),
+        Name::Evict => tail(line, b" done=evict\n"),
+        Name::Advance => tail(line, b" done=advance\n"),
+        Name::Yield => tail(line, b" done=yield\n"),
+        Name::Take => tail(line, b" done=take\n"),
     }
 }
 
@@ -102,11 +83,7 @@ fn put_done(out: &mut [u8], at: usize, place: u64, name: Name) -> Put
     ensures { λ r. ⌜ PutAt (now (out .entry)) at (doneText place name) (now (out .exit)) r ⌝ }
 {
     let mut line = [0u8; 128];
-    let ends = NAMES;
-    let word = end_of(name);
-    let start = word.start;
-    let end = word.end;
-    let a = tail(&mut line, &ends[start..end]);
+    let a = done_tail(&mut line, name);
     let b = field(&mut line, a, b"n=", place);
     spelling::put_text(out, at, &line[b..])
 }

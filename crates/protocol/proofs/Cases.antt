@@ -18,8 +18,16 @@ use Rattle.protocol.specs.declared.{Want.{Want, the-variants.{Load as Wa
 use Rattle.protocol.specs.declared.{Slot.{Slot, the-variants.{Empty, Asked, Answered}}, Manager.{Manager, the-variants.{Shared, Owned}}}
 use Rattle.protocol.specs.declared.{Writeback.{Writeback, the-variants.{None as NoWriteback, Flight}}, Opening.Opening, State.State}
 use Rattle.protocol.specs.declared.{Call.{Call, the-variants.{Load, Store, Fence, Evict, Advance, Serve, Receive, Yield, Take}}, Effect.Effect}
+use Rattle.protocol.specs.declared.Name.{Name, the-variants.Evict as Evicted}
 use Rattle.protocol.specs.declared.Grant.the-variants.{Share as GrantShare, Renew as GrantRenew, Own as GrantOwn}
 use Rattle.protocol.proofs.{Tests.{never, both-true, both-false}, Refusals.{not-true, passed, machine-fit, call-there, NotRefused, not-refused}}
+
+-- the calls that give up a shared copy, and an owned one, each with the name that it answers
+pub data Drops (c l : ℕ) : Call → Name → Type 0 where
+  evict : Drops c l (Evict c l) Evicted
+
+pub data WritesBack (c l : ℕ) : Call → Name → Type 0 where
+  evict : WritesBack c l (Evict c l) Evicted
 
 -- a row of the table of a call about core c and line l, on the pieces p of these two
 pub data Row (c l : ℕ) (p : Pieces) (o : Opening) : Call → Effect → Type 0 where
@@ -32,8 +40,10 @@ pub data Row (c l : ℕ) (p : Pieces) (o : Opening) : Call → Effect → Type 0
       → Row c l p o (Store c l) (storeTable (CopyOwned d w r) c l p)
   fences : Row c l p o (Fence c) (fenceTable c p)
   advances : {by : ℕ} → canAdd (p .core .clocks .lts) by ≡ true → Row c l p o (Advance c by) (advanceTable by p)
-  evicts-shared : {w r : Stamp} → p .copy ≡ CopyShared w r → Row c l p o (Evict c l) (evictTable (CopyShared w r) p)
-  evicts-owned : {d : Bool} {w r : Stamp} → p .copy ≡ CopyOwned d w r → Row c l p o (Evict c l) (evictTable (CopyOwned d w r) p)
+  evicts-shared : {call : Call} {n : Name} {w r : Stamp} → Drops c l call n → p .copy ≡ CopyShared w r
+      → Row c l p o call (evictTable n (CopyShared w r) p)
+  evicts-owned : {call : Call} {n : Name} {d : Bool} {w r : Stamp} → WritesBack c l call n → p .copy ≡ CopyOwned d w r
+      → Row c l p o call (evictTable n (CopyOwned d w r) p)
   recalls : {a : Want} {t : Stamp} {h : Held} {k : ℕ} → p .core .slot ≡ Asked a l t h → p .line .manager ≡ Owned k
       → Row c l p o (Serve c) (serveAsked (Owned k) a c l t h p o)
   renews : {t : Stamp} {h : Held} {w r : Stamp} → p .core .slot ≡ Asked WantLoad l t h → p .line .manager ≡ Shared w r
@@ -78,11 +88,10 @@ module _ {p : Pieces} {o : Opening} where
   store-row c l (CopyShared w r) e h k = asks-store (not-true _ h) (rw e refl)
   store-row c l (CopyOwned d w r) e h k = writes e (rw e k)
 
-  evict-row : (c l : ℕ) (v : Copy) → p .copy ≡ v → isHeld v ≡ true → Row c l p o (Evict c l) (evictTable v p)
-  unfolding evictTable
+  evict-row : (c l : ℕ) (v : Copy) → p .copy ≡ v → isHeld v ≡ true → Row c l p o (Evict c l) (evictTable Evicted v p)
   evict-row c l NoCopy e h = never (sym h)
-  evict-row c l (CopyShared w r) e h = evicts-shared e
-  evict-row c l (CopyOwned d w r) e h = evicts-owned e
+  evict-row c l (CopyShared w r) e h = evicts-shared evict e
+  evict-row c l (CopyOwned d w r) e h = evicts-owned evict e
 
   asked-row : (c l n : ℕ) (a : Want) (t : Stamp) (h : Held) (v : Manager) → p .core .slot ≡ Asked a l t h → p .line .manager ≡ v
       → servePasses (Asked a n t h) v o ≡ false → Row c l p o (Serve c) (serveAsked v a c l t h p o)

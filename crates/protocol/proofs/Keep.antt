@@ -33,8 +33,8 @@ module _ {o : Opening} {n c l : ℕ} {p : Pieces} (q : There o c l) (slot : slot
   row-fits w (writes e h) = record { slot = slot; owner = owner; bytes = eq-eqb _ _ (store-width o n w) }
   row-fits w fences = record { slot = slot; owner = owner; bytes = refl }
   row-fits w (advances h) = record { slot = slot; owner = owner; bytes = refl }
-  row-fits w (evicts-shared e) = record { slot = slot; owner = owner; bytes = refl }
-  row-fits w (evicts-owned e) = record { slot = slot; owner = owner; bytes = refl }
+  row-fits w (evicts-shared i e) = record { slot = slot; owner = owner; bytes = refl }
+  row-fits w (evicts-owned i e) = record { slot = slot; owner = owner; bytes = refl }
   row-fits w (recalls e i) = record { slot = slot; owner = owner; bytes = refl }
   row-fits w (renews e i v h) = record { slot = lt-ltb l (o .lines) (q .line); owner = cc; bytes = refl }
   row-fits w (shares e i v h) = record { slot = lt-ltb l (o .lines) (q .line); owner = cc; bytes = refl }

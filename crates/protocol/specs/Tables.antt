@@ -15,7 +15,7 @@ use Rattle.protocol.specs.declared.Recall.{Recall, the-variants.{None as
 use Rattle.protocol.specs.declared.{Writeback.{Writeback, the-variants.{None as NoWriteback, Flight}}, ManagerLine.ManagerLine, Opening.Opening}
 use Rattle.protocol.specs.declared.Call.{Call, the-variants.{Load, Store, Fence, Evict, Advance, Serve, Receive, Yield, Take}}
 use Rattle.protocol.specs.declared.Answer.{Answer, the-variants.{Refused, Done, Commit}}
-use Rattle.protocol.specs.declared.Name.the-variants.{Ask, Recall as RecallSent, Share, Renew, Own, Drop, Evict as Evicted}
+use Rattle.protocol.specs.declared.Name.{Name, the-variants.{Ask, Recall as RecallSent, Share, Renew, Own, Drop, Evict as Evicted}}
 use Rattle.protocol.specs.declared.Name.the-variants.{Advance as Advanced, Yield as Yielded, Take as Taken}
 use Rattle.protocol.specs.declared.Kind.the-variants.{Load as OfLoad, Store as OfStore, Fence as OfFence}
 use Rattle.protocol.specs.declared.Move.{Move, the-variants.{Still, Store as MoveStore, Answer as MoveAnswer, Receive as MoveReceive}}
@@ -103,11 +103,11 @@ advanceTable by p = row (Done Advanced) Still (clocked (p .core) (advanced (p .c
 abbrev pub writtenBack : ManagerLine → Stamp → Stamp → ManagerLine
 writtenBack m w r = record { manager = m .manager; recall = m .recall; writeback = Flight w r }
 
--- "shared: copy becomes none. Owned: its wts, rts and bytes become the writeback, copy none."
-unfoldable pub evictTable : Copy → Pieces → Effect
-evictTable (CopyShared w r) p = row (Done Evicted) Still (p .core) NoCopy (p .line)
-evictTable (CopyOwned d w r) p = row (Done Evicted) MoveWriteback (p .core) NoCopy (writtenBack (p .line) w r)
-evictTable NoCopy p = refusedRow 26 p
+-- "shared: copy becomes none. Owned: its wts, rts and bytes become the writeback, copy none." The name is the answer's
+unfoldable pub evictTable : Name → Copy → Pieces → Effect
+evictTable n (CopyShared w r) p = row (Done n) Still (p .core) NoCopy (p .line)
+evictTable n (CopyOwned d w r) p = row (Done n) MoveWriteback (p .core) NoCopy (writtenBack (p .line) w r)
+evictTable n NoCopy p = refusedRow 26 p
 
 -- ---- serve
 
@@ -202,7 +202,7 @@ unfoldable pub tableOf : Call → Pieces → Opening → Effect
 tableOf (Load c l) p o = loadTable (p .copy) c l p
 tableOf (Store c l) p o = storeTable (p .copy) c l p
 tableOf (Fence c) p o = fenceTable c p
-tableOf (Evict c l) p o = evictTable (p .copy) p
+tableOf (Evict c l) p o = evictTable Evicted (p .copy) p
 tableOf (Advance c by) p o = advanceTable by p
 tableOf (Serve c) p o = serveTable (p .core .slot) c p o
 tableOf (Receive c) p o = receiveTable (p .core .slot) p

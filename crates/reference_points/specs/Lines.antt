@@ -55,7 +55,7 @@ formless =
     ∷ written 1 (text "fabric=1 cores=2 lines=3 width=4 lease=5")
     ∷ written 1 []
     ∷ written 1 (replicate 200 97)
-    ∷ written 0 (text "fabric=2 cores=2 lines=3 width=4 lease=5")
+    ∷ written 0 (text "fabric=9 cores=2 lines=3 width=4 lease=5")
     ∷ written 0 (text "op=load core=3 line=4")
     ∷ []
 

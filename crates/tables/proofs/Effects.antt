@@ -79,8 +79,8 @@ module _ {o : Opening} {c l : ℕ} {given p q : Bytes} {k : Pieces} where
       record { fits = eq-eqb _ _ b; bytes = rw (over-part p (copyStart o c l) given (rw b h) (o .width) b) }
   row-sound n h fences = record { fits = refl; bytes = refl }
   row-sound n h (advances e) = record { fits = refl; bytes = refl }
-  row-sound n h (evicts-shared e) = record { fits = refl; bytes = refl }
-  row-sound n h (evicts-owned e) = record { fits = refl; bytes = refl }
+  row-sound n h (evicts-shared i e) = record { fits = refl; bytes = refl }
+  row-sound n h (evicts-owned i e) = record { fits = refl; bytes = refl }
   row-sound n h (recalls e i) = record { fits = refl; bytes = refl }
   row-sound n h (renews e i v t) = record { fits = refl; bytes = refl }
   row-sound n h (shares e i v t) = record { fits = refl; bytes = refl }

@@ -1,7 +1,7 @@
 // The rows of evict, yield and take.
 ghost use Prim.Native.Nat.{ℕ};
 ghost use mathlib.Core.Path.{_≡_};
-ghost use Rattle.protocol.specs.{Pick.both, Refusals.{hasOwner, stands}, Machine.pieces, Tables.{writtenBack, yielded, effectOf}};
+ghost use Rattle.protocol.specs.{Pick.both, Refusals.{hasOwner, stands}, Machine.pieces, Tables.{writtenBack, evictTable, yielded, effectOf}};
 use protocol::Answer;
 use protocol::Call;
 use protocol::Copy;
@@ -29,14 +29,14 @@ fn written_back(line: ManagerLine, wts: Stamp, rts: Stamp) -> ManagerLine
     }
 }
 
-// evict: a shared copy goes; an owned one becomes the writeback; 26 where there is none.
-pub fn evict(core: Core, copy: Copy, line: ManagerLine) -> Effect
-    ensures { λ r. ⌜ ((c l n : ℕ) (o : Opening) → r ≡ effectOf (Call.Evict c l) (pieces n core copy line) o) ⌝ }
+// A copy is given up, and the answer is this name: a shared one goes; an owned one becomes the writeback; 26 where there is none.
+fn give_up(name: Name, core: Core, copy: Copy, line: ManagerLine) -> Effect
+    ensures { λ r. ⌜ ((n : ℕ) → r ≡ evictTable name copy (pieces n core copy line)) ⌝ }
 {
     match copy {
         Copy::None => refusals::refused(26, core, copy, line),
         Copy::Shared { .. } => Effect {
-            answer: Answer::Done(Name::Evict),
+            answer: Answer::Done(name),
             moves: Move::Still,
             core,
             copy: Copy::None,
@@ -45,7 +45,7 @@ pub fn evict(core: Core, copy: Copy, line: ManagerLine) -> Effect
         Copy::Owned { wts, rts, .. } => {
             let back = written_back(line, wts, rts);
             Effect {
-                answer: Answer::Done(Name::Evict),
+                answer: Answer::Done(name),
                 moves: Move::Writeback,
                 core,
                 copy: Copy::None,
@@ -53,6 +53,13 @@ pub fn evict(core: Core, copy: Copy, line: ManagerLine) -> Effect
             }
         }
     }
+}
+
+// evict: whichever fits the copy.
+pub fn evict(core: Core, copy: Copy, line: ManagerLine) -> Effect
+    ensures { λ r. ⌜ ((c l n : ℕ) (o : Opening) → r ≡ effectOf (Call.Evict c l) (pieces n core copy line) o) ⌝ }
+{
+    give_up(Name::Evict, core, copy, line)
 }
 
 // What a recall leaves of the owner's copy.

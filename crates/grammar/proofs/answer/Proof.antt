@@ -3,8 +3,8 @@ use Prim.Native.Nat.{_<_}
 use native.Mathlib.Omega.{arith}
 use lib.ListN.{getD}
 use borrow.Author.{Tests.ne-eqb, Needs.needs}
-use Rattle.grammar.specs.Scan.{rowCount}
-use Rattle.grammar.proofs.{Rows.opening-row, answer.Statement.statement}
+use Rattle.grammar.specs.Table.{rowCount}
+use Rattle.grammar.proofs.{Forms.opening-row, answer.Statement.statement}
 use Rattle.grammar.proofs.answer.Tie as tie
 
 -- a row past the steps is one of the table's

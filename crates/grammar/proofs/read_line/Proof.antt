@@ -2,8 +2,8 @@
 use Prim.Native.Nat.{ℕ}
 use mathlib.Core.Path.{subst₂}
 use native.Mathlib.Omega.{arith}
-use Rattle.grammar.specs.{Line.{tooLong, noForm}, Table.rowsOf, Scan.{fromOf, toOf, FoundIn}}
-use Rattle.grammar.proofs.{Judge.{answer-line, row-found, ranged, row-in, no-row}, read_line.Statement.statement}
+use Rattle.grammar.specs.{Line.{tooLong, noForm}, Table.{rowsOf, fromOf, toOf}, Scan.FoundIn}
+use Rattle.grammar.proofs.{Judge.{answer-line, row-found}, Forms.{ranged, row-in, no-row}, read_line.Statement.statement}
 use borrow.Author.Needs.{needs}
 use Rattle.grammar.proofs.read_line.Tie as tie
 

@@ -5,7 +5,7 @@ use native.Mathlib.Omega.{arith}
 use borrow.Author.Tests.{eqb-true}
 use Rattle.protocol.specs.{Stamps.stamp, Machine.Pieces}
 use Rattle.protocol.specs.Tables.{loadOwned, loadShared, storeTable, evictTable, sameVersion, leasedTo, serveLoad, yieldTable}
-use Rattle.protocol.specs.declared.{Stamp.Stamp, Copy.{Copy, the-variants.{None as NoCopy, Shared as CopyShared, Owned as CopyOwned}}}
+use Rattle.protocol.specs.declared.{Name.Name, Stamp.Stamp, Copy.{Copy, the-variants.{None as NoCopy, Shared as CopyShared, Owned as CopyOwned}}}
 use Rattle.protocol.specs.declared.Held.{Held, the-variants.{None as NothingHeld, Version}}
 use Rattle.protocol.specs.declared.{Slot.{Slot, the-variants.{Empty, Asked, Answered}}, Manager.{Manager, the-variants.{Shared, Owned}}}
 use Rattle.protocol.specs.declared.Writeback.{Writeback, the-variants.{None as NoWriteback, Flight}}
@@ -117,18 +117,18 @@ manager-grows l w r t lease p false = omega arith
 
 module _ (w r : Stamp) (d : Bool) (p : Pieces) where
   -- the writeback has the whole lease of the owner's copy
-  pub evict-lease : r .0 ≤ writebackRts (evictTable (CopyOwned d w r) p .line .writeback)
+  pub evict-lease : (n : Name) → r .0 ≤ writebackRts (evictTable n (CopyOwned d w r) p .line .writeback)
   unfolding evictTable
-  evict-lease = omega arith
+  evict-lease n = omega arith
 
   pub yield-lease : r .0 ≤ writebackRts (yieldTable (CopyOwned d w r) p .line .writeback)
   unfolding yieldTable
   yield-lease = omega arith
 
   -- its bytes come along
-  pub evict-moves : evictTable (CopyOwned d w r) p .moves ≡ MoveWriteback
+  pub evict-moves : (n : Name) → evictTable n (CopyOwned d w r) p .moves ≡ MoveWriteback
   unfolding evictTable
-  evict-moves = refl
+  evict-moves n = refl
 
   pub yield-moves : yieldTable (CopyOwned d w r) p .moves ≡ MoveWriteback
   unfolding yieldTable

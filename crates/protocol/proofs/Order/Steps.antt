@@ -16,7 +16,7 @@ use Rattle.protocol.specs.declared.{Grant.{Grant, the-variants.{Share as
 use Rattle.protocol.specs.declared.{Manager.{Manager, the-variants.Shared}, Recall.{Recall, the-variants.{None as NoRecall, Downgrade, Flush}}}
 use Rattle.protocol.specs.declared.{Writeback.{Writeback, the-variants.Flight}, Opening.Opening, Call.{Call, the-variants.Load}}
 use Rattle.protocol.specs.declared.{Answer.{Answer, the-variants.Done}, Move.{Move, the-variants.Writeback as MoveWriteback}, Effect.Effect}
-use Rattle.protocol.specs.declared.{Slot.the-variants.{Asked, Answered}, Name.the-variants.{Evict as Evicted, Yield as Yielded}}
+use Rattle.protocol.specs.declared.{Slot.the-variants.{Asked, Answered}, Name.the-variants.Yield as Yielded}
 use Rattle.protocol.proofs.{Tests.never, Refusals.{Fit, machine-fit}, Written.core-at}
 use Rattle.protocol.proofs.Cases.{Row, asks-load, reads-shared, reads-dirty, reads-clean, asks-store, writes, fences, advances, evicts-shared}
 use Rattle.protocol.proofs.Cases.{evicts-owned, recalls, renews, shares, grants, gets-share, gets-own, gets-renewal, drops-none, drops-owned}
@@ -344,10 +344,10 @@ module _ (z : Value) (p : ℕ) {H : List (Commit Bytes)} (given : Bytes) {m : Ma
       still l′ x e = let n : _≡_ {A = ℕ} 0 1 = cc in omega arith
   row-good (advances h) fit =
       keeps fit (inl (refl, tt)) pair (omega arith) (as-was fit (at atManager, at atWriteback, at (atCopy c), at (atSlot c)))
-  row-good (evicts-shared e) fit =
+  row-good (evicts-shared i e) fit =
       keeps fit (inl (refl, tt)) (λ _. tt) (omega arith) (as-was fit (at atManager, at atWriteback, tt, at (atSlot c)))
-  row-good (evicts-owned {d = b} {w = w} {r = r} e) fit =
-      writes-back (Done Evicted) (evictTable (CopyOwned b w r) ps .moves) w r r b NoCopy (g .leased) fit e (evict-moves w r b ps) (evict-lease w r b ps)
+  row-good (evicts-owned {n = n} {d = b} {w = w} {r = r} i e) fit =
+      writes-back (Done n) (evictTable n (CopyOwned b w r) ps .moves) w r r b NoCopy (g .leased) fit e (evict-moves w r b ps n) (evict-lease w r b ps n)
       (omega arith) (omega (arith, ok .lr, at-copy (CopyOwned b w r) e .0 .isR)) (λ _. tt)
   row-good (recalls e i) fit =
       keeps fit (inl (refl, tt)) pair (omega arith) (as-was fit (at atManager, at atWriteback, at (atCopy c), at (atSlot c)))
