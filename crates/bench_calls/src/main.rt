@@ -57,7 +57,7 @@ fn call_of(kind: u64, core: usize, line: usize) -> Call {
     Call::Advance { core, by: 1 }
 }
 
-// Whether the calls are made by their names; the benchmark builds the program both ways.
+// Whether loads are made by their name; the benchmark builds the program both ways.
 const NAMED: bool = false;
 
 // Makes a call, a load by its name.

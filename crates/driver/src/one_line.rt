@@ -3,7 +3,8 @@
 ghost use mathlib.Core.{Path._≡_, Bool.true, List.[]};
 ghost use Prim.Native.Nat.{_-_, _≤_, _<_};
 ghost use lib.ListN.{length};
-ghost use Rattle.protocol.specs.{Buffers.part, Refusals.{machineRefusal, callRefusal, orElse}, Run.place, Counts.{countsOf, plus}, Step.{done, meaning}};
+ghost use Rattle.protocol.specs.{Buffers.part, Refusals.{machineRefusal, callRefusal, orElse}, Run.place, Counts.{countsOf, plus}};
+ghost use Rattle.protocol.specs.Step.{done, meaning};
 ghost use Rattle.refusals.specs.Input.{machineWith};
 ghost use Rattle.spelling.specs.Over.{PutAt};
 ghost use Rattle.listing.specs.Record.{recordText};

@@ -2,13 +2,12 @@
 use Prim.Native.Nat.{ℕ, zero, suc, _+_, _≤_, _<_, _-_}
 use mathlib.Core.{Path.{_≡_, refl, sym, _∙_, ap, subst}, List.{List, [], _∷_, _++_}, Logic.{⊎-elim, inl, inr}}
 use native.Mathlib.Omega.{arith}
-use lib.{ListN.{length, getD, drop, List·getD-append, List·getD-eq-default}}
-use lib.Seq.{sets, sets-eq, getD-append-add, getD-drop}
+use lib.{ListN.{length, getD, drop, List·getD-append, List·getD-eq-default}, Seq.{sets, sets-eq, getD-append-add, getD-drop}}
 use Rattle.spelling.{specs.Hex.hex, proofs.{Lists.le-or-lt, Decide.{Told, same-number}}}
 use Rattle.grammar.specs.{Form.{Part, fixed, value, number, pairs, Has, Given}, Table.{Row, rowAt, table, rowCount, numberCount}}
 use Rattle.grammar.specs.Line.{said, Matches, LineOf, noForm, wrongNumber, wrongData, spelt}
-use Rattle.grammar.specs.Scan.{zeros, RowAt, Scans, formOf, valuesIn, nothingRead}
-use Rattle.grammar.specs.{Scan.{Fails, FoundIn, nowhere, here, answerOf, RowFound}, declared.Found.Found}
+use Rattle.grammar.specs.Scan.{zeros, RowAt, Scans, formOf, valuesIn, nothingRead, Fails, FoundIn, nowhere, here, answerOf, RowFound}
+use Rattle.grammar.specs.declared.Found.{Found}
 use Rattle.grammar.proofs.{Outcome.{Outcome, fails, badNumber, badData, fine, outcome-of, fails-of}, Rows.{lineTag, entry-at, same-tag}}
 
 -- ---- the numbers that were read, as the row's numbers

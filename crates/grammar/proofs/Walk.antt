@@ -4,10 +4,9 @@ use mathlib.Core.{Path.{_≡_, refl, subst}, List.{List, [], _∷_}, Logic.{_⊎
 use native.Mathlib.{Omega.arith, Nat.{add-zero, le-of-suc-le-suc}}
 use lib.ListN.{length, getD, take, drop}
 use Rattle.spelling.{specs.Bytes.Below, proofs.{Lists.le-or-lt, Decide.{Told, same-number}, Split.{upTo-within, upTo-part}}}
-use Rattle.grammar.specs.Form.{Part, fixed, value, Value, number, pairs}
-use Rattle.grammar.specs.Table.{numberCount}
-use Rattle.grammar.specs.Scan.{valueAt, texted, keyText, keyValue, fieldParts, TextAt, After, there, elsewhere, Filled, ValueRead}
-use Rattle.grammar.specs.{Scan.{Scans, right, wrong, ended, longer, same, other, aValue, nothingRead}, declared.Values.Values}
+use Rattle.grammar.specs.{Form.{Part, fixed, value, Value, number, pairs}, Table.numberCount}
+use Rattle.grammar.specs.Scan.{valueAt, texted, keyText, keyValue, fieldParts, TextAt, After, there, elsewhere, Filled, ValueRead, Scans}
+use Rattle.grammar.specs.{Scan.{right, wrong, ended, longer, same, other, aValue, nothingRead}, declared.Values.Values}
 
 -- ---- a text
 

@@ -8,8 +8,8 @@
 ghost use mathlib.Core.{Path._≡_, Bool.cond};
 ghost use Prim.Native.Nat.{_≤_, _<_};
 ghost use lib.{Dec.eqb, ListN.length};
-ghost use Rattle.grammar.specs.Scan.{tagOf, RowAt, formOf, keyText, fieldParts};
-ghost use Rattle.grammar.specs.{Scan.{After, Filled, Scans, nothingRead, FoundIn, answerOf, RowFound, Called}, Table.{rowsOf, numberCount, stepCount, rowCount, formCount, fromOf, toOf}};
+ghost use Rattle.grammar.specs.Scan.{tagOf, RowAt, formOf, keyText, fieldParts, After, Filled, Scans, nothingRead, FoundIn, answerOf};
+ghost use Rattle.grammar.specs.{Scan.{RowFound, Called}, Table.{rowsOf, numberCount, stepCount, rowCount, formCount, fromOf, toOf}};
 ghost use Rattle.grammar.specs.Line.{LineOf, numberOf};
 use protocol::Call;
 use protocol::Opening;

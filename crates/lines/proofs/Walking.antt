@@ -4,8 +4,8 @@ use mathlib.Core.{Path.{_≡_, ap}, Bool.{true, false}, List.List}
 use native.Mathlib.Omega.{arith}
 use lib.ListN.{length, length-append, length-drop}
 use Rattle.grammar.specs.declared.Line.{Line, the-variants.{Opening as OpeningLine, Step as StepLine, Refused as RefusedLine}}
-use Rattle.journal.specs.{Journal.{inJournal, LineAt, NextOf, tooMuch, empty, ended, unended, aLine, goesOn, offsetAfter}, Theorems.{Reached, start, on}}
-use Rattle.journal.specs.declared.Next.{Next}
+use Rattle.journal.specs.Journal.{inJournal, LineAt, NextOf, tooMuch, empty, ended, unended, aLine, goesOn, offsetAfter}
+use Rattle.journal.specs.{Theorems.{Reached, start, on}, declared.Next.Next}
 
 stopped : {A : Type 0} → false ≡ true → A
 stopped e = absurd (let z : _≡_ {A = ℕ} 0 1 = cc in omega arith)

@@ -20,7 +20,8 @@ use Rattle.protocol.specs.declared.{Writeback.{Writeback, the-variants.{
 use Rattle.protocol.specs.declared.{Call.{Call, the-variants.{Load, Store, Fence, Evict, Advance, Serve, Receive, Yield, Take}}, Effect.Effect}
 use Rattle.protocol.specs.declared.Name.{Name, the-variants.Evict as Evicted}
 use Rattle.protocol.specs.declared.Grant.the-variants.{Share as GrantShare, Renew as GrantRenew, Own as GrantOwn}
-use Rattle.protocol.proofs.{Tests.{never, both-true, both-false}, Refusals.{not-true, passed, machine-fit, call-there, NotRefused, not-refused}}
+use Rattle.protocol.proofs.Tests.{never, both-true, both-false}
+use Rattle.protocol.proofs.Refusals.{not-true, passed, machine-fit, call-there, NotRefused, not-refused}
 
 -- the calls that give up a shared copy, and an owned one, each with the name that it answers
 pub data Drops (c l : ℕ) : Call → Name → Type 0 where

@@ -6,8 +6,9 @@ use Prim.Native.Nat.{ℕ}
 use mathlib.Core.List.{List, [], _∷_}
 use Rattle.protocol.specs.{Stamps.stamp, Step.{load, store, fence, refused, done, commit}, declared.Copy.{Copy, the-variants.None as NoCopy}}
 use Rattle.protocol.specs.declared.{Name.the-variants.{Ask as ask, Share as share}, Slot.the-variants.Empty, Want.the-variants.Load as WantLoad}
-use Rattle.protocol.specs.declared.{ManagerLine.ManagerLine, Held.the-variants.{None as NothingHeld, Version}, Grant.the-variants.Share as GrantShare}
-use Rattle.protocol.specs.declared.{Recall.the-variants.None as NoRecall, Call.the-variants.{Load, Store, Fence, Serve}}
+use Rattle.protocol.specs.declared.{ManagerLine.ManagerLine, Held.the-variants.{None as NothingHeld, Version}}
+use Rattle.protocol.specs.declared.{Grant.the-variants.Share as GrantShare, Recall.the-variants.None as NoRecall}
+use Rattle.protocol.specs.declared.Call.the-variants.{Load, Store, Fence, Serve}
 use Rattle.reference_points.specs.Rows.{core, asked, answered, askedElsewhere, sharedCopy, cleanCopy, dirtyCopy, sharedLine, ownedLine, pieces}
 use Rattle.reference_points.specs.Rows.{busy, places, copyBytes, managerBytes, writebackBytes, answerBytes, unmoved, given, Row, AllHold}
 

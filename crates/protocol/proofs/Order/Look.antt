@@ -9,8 +9,8 @@ use Rattle.protocol.specs.declared.Copy.{Copy, the-variants.{None as NoC
 use Rattle.protocol.specs.declared.Grant.{Grant, the-variants.{Share as GrantShare, Renew as GrantRenew, Own as GrantOwn}}
 use Rattle.protocol.specs.declared.{Slot.{Slot, the-variants.{Empty, Asked, Answered}}, Core.Core}
 use Rattle.protocol.specs.declared.Manager.{Manager, the-variants.{Shared, Owned}}
-use Rattle.protocol.specs.declared.{Writeback.{Writeback, the-variants.{None as NoWriteback, Flight}}, ManagerLine.ManagerLine, Opening.Opening}
-use Rattle.protocol.specs.declared.Effect.{Effect}
+use Rattle.protocol.specs.declared.{Writeback.{Writeback, the-variants.{None as NoWriteback, Flight}}, ManagerLine.ManagerLine}
+use Rattle.protocol.specs.declared.{Opening.Opening, Effect.Effect}
 use Rattle.protocol.proofs.Moves.{managerAfter, writebackAfter, copyAfter, answerAfter, AnswerStays, manager-after, writeback-after}
 use Rattle.protocol.proofs.{Moves.{copy-after, answer-after, manager-other, writeback-other, answer-other, private-other}, Refusals.Fit}
 use Rattle.protocol.proofs.Written.{Arrays, core-at, core-off, line-at, line-off, copy-at, copy-off}

@@ -1,12 +1,8 @@
 -- By the copy: 26, or the row.
 use mathlib.Core.Path.{_∙_}
 use borrow.Author.Needs.{needs}
-use Rattle.transfer_rows.proofs.Laws.{evict-effect}
-use Rattle.transfer_rows.proofs.writebacks.evict.Statement.{statement}
+use Rattle.transfer_rows.proofs.{Laws.evict-effect, writebacks.evict.Statement.statement}
 use Rattle.transfer_rows.proofs.writebacks.evict.Tie as tie
 
-returns : tie.Need-returns
-returns c k l n o = c .give-up .ensures n ∙ evict-effect _ _ _ k l n o
-
 pub evict-spec : {M : Type 1} → statement M
-evict-spec = tie.close (tie.spec (λ c κs. search needs) returns)
+evict-spec = tie.close (tie.spec (λ c κs. search needs) (λ c k l n o. c .give-up .ensures n ∙ evict-effect _ _ _ k l n o))

@@ -4,18 +4,6 @@ use Rattle.protocol.specs.Tables.{evictTable}
 use Rattle.transfer_rows.proofs.writebacks.give_up.Statement.{statement}
 use Rattle.transfer_rows.proofs.writebacks.give_up.Tie as tie
 
-returns : tie.Need-returns
-unfolding evictTable
-returns c n = rw (c .refused .ensures, c .before .enum-told .given .1)
-
-returns-2 : tie.Need-returns-2
-unfolding evictTable
-returns-2 c n = rw (c .enum-told2 .given .1)
-
-returns-3 : tie.Need-returns-3
-unfolding evictTable
-returns-3 c n = rw (c .before .before .copy .given .1, c .written-back .ensures)
-
 pub give-up-spec : {M : Type 1} → statement M
 give-up-spec =
     tie.close
@@ -25,6 +13,6 @@ give-up-spec =
     (λ c. search needs)
     (λ c. search needs)
     (λ c κs. search needs)
-    returns
-    returns-2
-    returns-3)
+    (λ c n. unfold evictTable in rw (c .refused .ensures, c .before .enum-told .given .1))
+    (λ c n. unfold evictTable in rw (c .enum-told2 .given .1))
+    (λ c n. unfold evictTable in rw (c .before .before .copy .given .1, c .written-back .ensures)))
