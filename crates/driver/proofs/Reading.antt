@@ -72,9 +72,9 @@ line-known form s (wrongNumber k vs l f n) = omega arith
 line-known form s (wrongData k vs l f n d) = omega arith
 line-known form s {a} (spelt l x) = spelt-known form s a l x
 
--- ---- a place of a journal
+-- ---- an offset of a journal
 
--- a step at a place of a journal, and the next line after it
+-- a step at an offset of a journal, and the next line after it
 pub record StepAt (j : Bytes) (at start end next : ℕ) : Type 0 where
   pub forward : at < next
   pub inside : next ≤ length j

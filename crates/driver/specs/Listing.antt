@@ -28,7 +28,7 @@ pub data Between (journal : Bytes) (form : ℕ) : ℕ → List Entry → ℕ →
       → Data (part journal start (end - start)) bs → Between journal form next gs to
       → Between journal form at (record { call = call; bytes = bs } ∷ gs) to
 
--- no step stands at a place: the journal ends there
+-- no step is at an offset: the journal ends there
 pub data EndsAt (journal : Bytes) (form at : ℕ) : Ending → Type 0 where
   atEnd : NextOf journal at form End → EndsAt journal form at ended
   atRefusal : {n : ℕ} → NextOf journal at form (Refused n) → EndsAt journal form at (stopped n)

@@ -39,7 +39,7 @@ abbrev pub Numbered : Last → Type 0
 Numbered End = Unit {0}
 Numbered (Refused n) = n < 256
 
--- a step at a place of a journal: the step's bytes are the first `count` of the buffer, and n is the first of 1 to 6 that applies
+-- a step at an offset of a journal: the step's bytes are the first `count` of the buffer, and n is the first of 1 to 6 that applies
 pub record StepDue (journal : Bytes) (at form base : ℕ) (o : Sizes) (buf : Bytes) (call : Call) (n count next : ℕ) : Type 0 where
   pub start : ℕ
   pub end : ℕ
@@ -49,7 +49,7 @@ pub record StepDue (journal : Bytes) (at form base : ℕ) (o : Sizes) (buf : Byt
   pub forward : at < next
   pub inside : next ≤ length journal
 
--- what is due at a place of a journal: a step, or its end
+-- what is due at an offset of a journal: a step, or its end
 pub data DueAt (journal : Bytes) (at form base : ℕ) (o : Sizes) (buf : Bytes) : Due → Type 0 where
   aStep : {call : Call} {n count next : ℕ} → StepDue journal at form base o buf call n count next → DueAt journal at form base o buf (Step call n count next)
   theEnd : {w : Last} → EndsAt journal form at (endingOf w) → Numbered w → DueAt journal at form base o buf (AtLast w)
@@ -108,7 +108,7 @@ abbrev pub refusedBy : Put → Played
 refusedBy (PutEnd e) = record { progress = Finished; written = e; checkpoint = unopened }
 refusedBy Short = record { progress = TooShort; written = 0; checkpoint = unopened }
 
--- the line of an opening after which a run goes on at a place of a journal of some form
+-- the line of an opening after which a run goes on at an offset of a journal of some form
 abbrev pub openedBy : ℕ → ℕ → Sizes → Put → Played
 openedBy at form o (PutEnd e) = record { progress = More; written = e; checkpoint = firstCheckpoint at form o }
 openedBy at form o Short = record { progress = TooShort; written = 0; checkpoint = unopened }

@@ -16,7 +16,7 @@ use protocol::Opening;
 use protocol::State;
 use spelling::Put;
 
-// A run between two lines: the place in the journal, its form, what was met so far, and the state.
+// A run between two lines: the offset in the journal, its form, what was met so far, and the state.
 pub struct Checkpoint {
     pub at: usize,
     pub form: u32,
@@ -50,7 +50,7 @@ enum Last {
     Refused(u32),
 }
 
-// What is due at a place of a journal: a step with the first of 1 to 6 that applies or 0, the count of
+// What is due at an offset of a journal: a step with the first of 1 to 6 that applies or 0, the count of
 // the bytes given to it and the place of the next line; or the journal's end.
 enum Due {
     Step {

@@ -64,7 +64,7 @@ fn decode(buf: &mut [u8], journal: &[u8], start: usize, end: usize) -> usize
     }
 }
 
-// What is due at a place of a journal whose first line was read; a step's bytes are put to the start of
+// What is due at an offset of a journal whose first line was read; a step's bytes are put to the start of
 // a buffer.
 pub(crate) fn due(
     journal: &[u8],
@@ -287,7 +287,7 @@ pub(crate) fn refuse(out: &mut [u8], number: u32) -> Played
     }
 }
 
-// The line of an opening, where it fits, after which the run goes on at a place of the journal.
+// The line of an opening, where it fits, after which the run goes on at an offset of the journal.
 pub(crate) fn open(out: &mut [u8], at: usize, form: u32, opening: Opening) -> Played
     ensures { λ r. ⌜ Puts (recordText (place 0) (done Name.Open)) (openedBy at form opening) (now (out .entry)) (now (out .exit)) r ⌝ }
 {

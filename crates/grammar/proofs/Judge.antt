@@ -30,7 +30,7 @@ zeros-count : (n : ℕ) → length (zeros n) ≡ n
 zeros-count zero = refl
 zeros-count (suc n) = ap suc (zeros-count n)
 
--- the places hold the numbers, and zeros past them
+-- the elements hold the numbers, and zeros past them
 padded : (m : ℕ) (ns : List ℕ) → length ns ≤ m → (i : ℕ) → getD (sets (zeros m) 0 ns) i 0 ≡ getD ns i 0
 padded m ns h i =
     ap (λ (l : List ℕ). getD l i 0) (sets-eq ns (zeros m) 0 (omega (arith, zeros-count m)))
@@ -50,7 +50,7 @@ numbers-same f g h = λ j i. h i j
 -- ---- the answer by a part of the table
 
 module _ (rows : List Row) (from to : ℕ) (count : length rows ≡ to - from) (below : to ≤ rowCount) (same : (k : ℕ) → k < length rows → rowAt rows k ≡ rowAt table (from + k)) where
-  -- the row at a place of the table, as a row of this part
+  -- the row at an index of the table, as a row of this part
   part-row : (row : ℕ) → from ≤ row → row < to → rowAt rows (row - from) ≡ rowAt table row
   part-row row a b =
       let n : from + (row - from) ≡ row = omega arith in

@@ -10,7 +10,7 @@ use Rattle.grammar.specs.Scan.{Fails, valueAt, NumberRead, DataRead, Sca
 use Rattle.grammar.specs.{Scan.{withNumber, nothingRead}, declared.Values.Values}
 use Rattle.grammar.proofs.Fit.{Shaped, edge-after, shaped-after, ends-here, ends-only, byte-here, byte-only, after, value-here, value-only}
 
--- the rest of a line, from a place on
+-- the rest of a line, from an offset on
 at-byte : (s : List ℕ) (at : ℕ) → at < length s → drop at s ≡ getD s at 0 ∷ drop (at + 1) s
 at-byte s at h = rw (add-one at) (drop-cons s at 0 h)
 
@@ -95,7 +95,7 @@ last : {s : List ℕ} {at : ℕ} {v r : Values} → Scans s [] at v r → Last s
 last (ended e) = whole e refl
 last (longer l e) = more l e
 
--- the value at a place, and the rest
+-- the value at an offset, and the rest
 value-rest : (s : List ℕ) (at : ℕ) → drop at s ≡ valueAt s at ++ drop (at + length (valueAt s at)) s
 value-rest s at = upTo-split 32 (drop at s) .0 ∙ ap (λ (l : List ℕ). valueAt s at ++ l) (sym (after-value s at))
 

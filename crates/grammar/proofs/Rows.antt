@@ -118,7 +118,7 @@ entry k r t0 =
       found = eqb-true _ _ (both-right _ _ t2);
     }
 
--- the test f passes at each row and its place, counted from i
+-- the test f passes at each row and its index, counted from i
 abbrev pub every : (ℕ → Row → Bool) → ℕ → List Row → Bool
 every f i [] = true
 every f i (r ∷ rs) = both (f i r) (every f (suc i) rs)

@@ -9,7 +9,7 @@ use Rattle.grammar.specs.{Table.{calls, Row, rowAt, table, numberCount, 
 use Rattle.grammar.specs.declared.Found.{Found}
 use Rattle.protocol.specs.declared.Call.{Call}
 
--- the value that starts at a place of a line: up to the next blank or the end
+-- the value that starts at an offset of a line: up to the next blank or the end
 abbrev pub valueAt : List ℕ → ℕ → List ℕ
 valueAt s at = upTo 32 (drop at s)
 
@@ -40,7 +40,7 @@ pub data NumberRead (v : Values) (s : List ℕ) (r : Values) : Type 0 where
   right : (n : ℕ) → n ≤ greatest → s ≡ decimal n → r ≡ withNumber v n → NumberRead v s r
   wrong : (IsNumber s → ⊥) → r ≡ withoutNumber v → NumberRead v s r
 
--- the value s, where an H is, takes v to r; the value starts at a place of the line
+-- the value s, where an H is, takes v to r; the value starts at an offset of the line
 pub data DataRead (v : Values) (s : List ℕ) (at : ℕ) (r : Values) : Type 0 where
   right : IsData s → r ≡ withData v at → DataRead v s at r
   wrong : (IsData s → ⊥) → r ≡ withoutData v → DataRead v s at r
@@ -50,7 +50,7 @@ abbrev pub ValueRead : Value → Values → List ℕ → ℕ → Values → Type
 ValueRead number v s at r = NumberRead v s r
 ValueRead pairs v s at r = DataRead v s at r
 
--- the line s is read from a place on against the rest of a form, which takes the values v to r
+-- the line s is read from an offset on against the rest of a form, which takes the values v to r
 pub data Scans (s : List ℕ) : List Part → ℕ → Values → Values → Type 0 where
   ended : {at : ℕ} {v : Values} → at ≡ length s → Scans s [] at v v
   longer : {at : ℕ} {v r : Values} → at < length s → r .fault ≡ 11 → Scans s [] at v r
@@ -93,16 +93,16 @@ unfoldable pub fieldParts : ℕ → ℕ → List Part
 fieldParts zero k = []
 fieldParts (suc n) k = texted (keyText (k % 16)) (value (keyValue (k % 16)) ∷ fieldParts n (k / 16))
 
--- the text t is in the line s at a place
+-- the text t is in the line s at an offset
 abbrev pub TextAt : List ℕ → ℕ → List ℕ → Type 0
 TextAt s at t = (at + length t ≤ length s) × Below (length t) (λ k. getD s (at + k) 0 ≡ getD t k 0)
 
--- the place after it, or 0
+-- the offset after it, or 0
 pub data After (s : List ℕ) (at : ℕ) (t : List ℕ) (r : ℕ) : Type 0 where
   there : TextAt s at t → r ≡ at + length t → After s at t r
   elsewhere : (TextAt s at t → ⊥) → r ≡ 0 → After s at t r
 
--- what is read of the parts p from a place on, which is 0 where the line has another kind
+-- what is read of the parts p from an offset on, which is 0 where the line has another kind
 pub record Filled (s : List ℕ) (head : ℕ) (p : List Part) (r : Values) : Type 0 where
   pub otherKind : head ≡ 0 → r .fault ≡ 11
   pub itsKind : (head ≡ 0 → ⊥) → Scans s p head (nothingRead s) r

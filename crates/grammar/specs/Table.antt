@@ -54,7 +54,7 @@ rowsOf (suc (suc f)) = []
 abbrev pub noRow : Row
 noRow = record { form = []; says = λ n. opens 0 (record { cores = 0; lines = 0; width = 0; lease = 0 }) }
 
--- the row at a place of a table
+-- the row at an index of a table
 abbrev pub rowAt : List Row → ℕ → Row
 rowAt rows k = getD rows k noRow
 

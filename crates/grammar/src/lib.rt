@@ -70,7 +70,7 @@ fn no_form() -> Values
     }
 }
 
-// The place after a text that is in a line at a place, or 0 where it is not there.
+// The offset after a text that is in a line at an offset, or 0 where it is not there.
 fn after(line: &[u8], at: usize, text: &[u8]) -> usize
     requires { ⌜ at ≤ length (now line) ⌝ }
     ensures { λ r. ⌜ After (now (line .entry)) at (now (text .entry)) r ⌝ }
@@ -90,7 +90,7 @@ fn after(line: &[u8], at: usize, text: &[u8]) -> usize
     at + k
 }
 
-// The place after a key, by its number, or 0 where it is not there.
+// The offset after a key, by its number, or 0 where it is not there.
 fn after_key(line: &[u8], at: usize, key: u32) -> usize
     requires { ⌜ at ≤ length (now line) ⌝ }
     ensures { λ r. ⌜ After (now (line .entry)) at (keyText key) r ⌝ }

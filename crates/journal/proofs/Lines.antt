@@ -7,7 +7,7 @@ use Rattle.spelling.{specs.Bytes.{Without, upTo}, proofs.Split.{Edge, upTo-clea
 use Rattle.grammar.specs.{Table.rowsOf, Line.LineOf, declared.Line.Line}
 use Rattle.journal.specs.Journal.{inJournal, LineAt, NextOf, aLine}
 
--- the line from a place up to a newline at e, or to the end
+-- the line from an offset up to a newline at e, or to the end
 module _ (j : List ℕ) (at e : ℕ) (ends : e ≡ at + length (upTo 10 (drop at j))) where
   rest : drop (length (upTo 10 (drop at j))) (drop at j) ≡ drop e j
   rest = drop-drop (length (upTo 10 (drop at j))) at j ∙ ap (λ (k : ℕ). drop k j) (sym ends)
@@ -34,6 +34,6 @@ module _ (j : List ℕ) (at e : ℕ) (ends : e ≡ at + length (upTo 10 (drop at
       let z : drop at j ≡ upTo 10 (drop at j) = split ∙ ap (λ (l : List ℕ). upTo 10 (drop at j) ++ l) (drop-of-length-le j h) ∙ append-nil (upTo 10 (drop at j)) in
       subst (Without 10) (sym z) (upTo-clean 10 (drop at j))
 
--- a line that was read is the answer at its place
+-- a line that was read is the answer at its offset
 pub line-answer : (j : List ℕ) (at e form : ℕ) (a : Line) → length j ≤ 65536 → e ≡ at + length (upTo 10 (drop at j)) → e < length j → LineOf (rowsOf form) (take (e - at) (drop at j)) a → NextOf j at form (inJournal a at (e + 1))
 line-answer j at e form a s ends h o = aLine (take (e - at) (drop at j)) (e + 1) s (line-here j at e ends h) o

@@ -1,4 +1,4 @@
--- At each place of a journal there is exactly one answer. Assumes nothing.
+-- At each offset of a journal there is exactly one answer. Assumes nothing.
 use Prim.Native.Nat.{ℕ, _+_, _≤_, _<_}
 use mathlib.Core.{Path.{_≡_, refl, sym, _∙_, ap, ap₂, subst}, List.{List, [], _∷_, _++_}, Logic.{_⊎_, inl, inr}}
 use native.Mathlib.Omega.{arith}
@@ -14,7 +14,7 @@ has-byte : (b : ℕ) (l r : List ℕ) → Without b (l ++ (b ∷ r)) → ⊥
 has-byte b [] r w = w .0 refl
 has-byte b (x ∷ l) r w = has-byte b l r (w .1)
 
--- the line at a place is determined
+-- the line at an offset is determined
 line-same : (j : List ℕ) (at : ℕ) (l : List ℕ) (next : ℕ) → LineAt j at l next → upTo 10 (drop at j) ≡ l
 line-same j at l next h = ap (upTo 10) (h .whole) ∙ upTo-unique 10 l (10 ∷ drop next j) (h .clean) (inr (drop next j, refl))
 
@@ -22,7 +22,7 @@ line-before-end : (j : List ℕ) (at : ℕ) (l : List ℕ) (next : ℕ) → Line
 line-before-end j at l next h = omega (arith, simp (length-append, length-drop) at (ap length (h .whole)))
 
 module _ (j : List ℕ) (at form : ℕ) where
-  -- an answer, seen by what is at the place
+  -- an answer, seen by what is at the offset
   data View (b : Next) : Type 0 where
     long : 65536 < length j → b ≡ Refused 14 → View b
     first : length j ≤ 65536 → length j ≤ at → form ≡ 0 → b ≡ Refused 11 → View b

@@ -1,5 +1,5 @@
 -- No byte is passed over: however far a journal was read on from its start, the lines that were read, joined, are the bytes up to
--- the place reached, and at the end they are the journal. Assumes nothing.
+-- the offset reached, and at the end they are the journal. Assumes nothing.
 use Prim.Native.Nat.{ℕ, _+_}
 use mathlib.Core.{Path.{_≡_, refl, sym, _∙_, ap}, Bool.{true, false}, List.{List, [], _∷_, _++_, append-assoc}}
 use native.Mathlib.Omega.{arith}
@@ -27,7 +27,7 @@ take-line j at l next h =
     sym (take-append-drop at j) ∙ ap (λ (x : List ℕ). take at j ++ x) (h .whole ∙ sym (append-assoc l (10 ∷ []) (drop next j))) ∙ sym (append-assoc (take at j) (l ++ (10 ∷ [])) (drop next j)) in
     ap (take next) e ∙ take-at (take at j ++ (l ++ (10 ∷ []))) (drop next j) next m
 
--- lines whose bytes are those before a place
+-- lines whose bytes are those before an offset
 passed-lines : (j : List ℕ) (k at : ℕ) (ls : List (List ℕ)) → length ls ≡ k → Lines ls → take at j ≡ joined ls → Passed j k at
 passed-lines j k at ls n c e = record { lines = ls; count = n; clean = c; bytes = e; whole = λ h. sym (take-all at j h) ∙ e }
 

@@ -1,4 +1,4 @@
--- What is at a place of a journal: 01's next line, the end, or a refusal 10 to 14. Assumes nothing.
+-- What is at an offset of a journal: 01's next line, the end, or a refusal 10 to 14. Assumes nothing.
 use Prim.Native.Nat.{ℕ, _+_, _≤_, _<_}
 use mathlib.Core.{Path._≡_, Bool.{Bool, true, false}, List.{List, _∷_, _++_}}
 use lib.ListN.{length, drop}
@@ -8,19 +8,19 @@ use Rattle.grammar.specs.{Table.rowsOf, Line.LineOf}
 use Rattle.grammar.specs.declared.Line.{Line, the-variants.{Opening as OpeningLine, Step as StepLine, Refused as RefusedLine}}
 use Rattle.journal.specs.declared.{Next.{Next, the-variants.{Opening, Step, End, Refused}}, Read.Read, Reader.Reader, Step.Step as Reading}
 
--- a line's answer, where the line is at a place of the journal and the next one at `next`
+-- a line's answer, where the line is at an offset of the journal and the next one at `next`
 abbrev pub inJournal : Line → ℕ → ℕ → Next
 inJournal (OpeningLine form sizes) at next = Opening form sizes next
 inJournal (StepLine call start end) at next = Step call (at + start) (at + end) next
 inJournal (RefusedLine n) at next = Refused n
 
--- the line l is at a place of the journal, ended by a newline; the next line is at `next`
+-- the line l is at an offset of the journal, ended by a newline; the next line is at `next`
 pub record LineAt (journal : List ℕ) (at : ℕ) (l : List ℕ) (next : ℕ) : Type 0 where
   pub clean : Without 10 l
   pub whole : drop at journal ≡ l ++ (10 ∷ drop next journal)
   pub after : next ≡ at + length l + 1
 
--- THE ANSWER at a place of a journal of some form, where in form 0 the first line is due
+-- THE ANSWER at an offset of a journal of some form, where in form 0 the first line is due
 pub data NextOf (journal : List ℕ) (at form : ℕ) : Next → Type 0 where
   -- 14 journal over 65,536 bytes, before anything else
   tooMuch : 65536 < length journal → NextOf journal at form (Refused 14)
@@ -40,7 +40,7 @@ goesOn (Step call start end next) = true
 goesOn End = false
 goesOn (Refused n) = false
 
--- the place after an answer: the next line's, and the same after the end or a refusal
+-- the offset after an answer: the next line's, and the same after the end or a refusal
 abbrev pub offsetAfter : ℕ → Next → ℕ
 offsetAfter at (Opening form sizes next) = next
 offsetAfter at (Step call start end next) = next
@@ -54,13 +54,13 @@ formAfter form (Step call start end next) = form
 formAfter form End = form
 formAfter form (Refused n) = form
 
--- one reading at a place: the answer, and the place and the form after it
+-- one reading at an offset: the answer, and the offset and the form after it
 pub record ReadOf (journal : List ℕ) (at form : ℕ) (r : Read) : Type 0 where
   pub found : NextOf journal at form (r .next)
   pub place : r .at ≡ offsetAfter at (r .next)
   pub formed : r .form ≡ formAfter form (r .next)
 
--- the reader after an answer: the same bytes at the same place in memory, and the place and the form after it
+-- the reader after an answer: the same bytes at the same address in memory, and the offset and the form after it
 abbrev pub readerAfter : Reader → Next → Reader
 readerAfter r n = record { journal = r .journal; at = offsetAfter (r .at) n; form = formAfter (r .form) n }
 

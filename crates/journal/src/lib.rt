@@ -1,8 +1,8 @@
 // A journal read line by line.
 //
-// A place and a form say where reading is: it starts at place 0 in form 0, where the first line is due. `step_at` says what
-// is there. A `Reader` holds the journal with the place and the form; `next` returns what is there and the reader after
-// it together, and nobody else can set its place, so no byte is passed over. A refusal, or the end, leaves the reader where it is:
+// An offset and a form say where reading is: it starts at offset 0 in form 0, where the first line is due. `step_at` says what
+// is there. A `Reader` holds the journal with the offset and the form; `next` returns what is there and the reader after
+// it together, and nobody else can set its offset, so no byte is passed over. A refusal, or the end, leaves the reader where it is:
 // asking again gives the same answer.
 ghost use mathlib.Core.Path.{_≡_};
 ghost use Rattle.journal.specs.Journal.{NextOf, offsetAfter, formAfter, ReadOf, StepOf};
@@ -10,7 +10,7 @@ use grammar::Line;
 use protocol::Call;
 use protocol::Opening;
 
-// What is at a place of a journal. `next` is the place of the line after it.
+// What is at an offset of a journal. `next` is the offset of the line after it.
 pub enum Next {
     // The first line: the journal's form, and the opening sizes and lease.
     Opening {
@@ -31,7 +31,7 @@ pub enum Next {
     Refused(u32),
 }
 
-// What is at a place of a journal of the form given. Form 0 expects the first line.
+// What is at an offset of a journal of the form given. Form 0 expects the first line.
 pub fn step_at(journal: &[u8], at: usize, form: u32) -> Next
     ensures { λ r. ⌜ NextOf (now (journal .entry)) at form r ⌝ }
 {
@@ -64,7 +64,7 @@ pub fn step_at(journal: &[u8], at: usize, form: u32) -> Next
     }
 }
 
-// The place after an answer: the next line's; a refusal, or the end, leaves it.
+// The offset after an answer: the next line's; a refusal, or the end, leaves it.
 fn offset_after(at: usize, n: Next) -> usize
     ensures { λ r. ⌜ r ≡ offsetAfter at n ⌝ }
 {
@@ -88,7 +88,7 @@ fn form_after(form: u32, n: Next) -> u32
     }
 }
 
-// One reading: what is at a place, and the place and the form after it.
+// One reading: what is at an offset, and the offset and the form after it.
 struct Read {
     at: usize,
     form: u32,
@@ -107,7 +107,7 @@ fn read_at(journal: &[u8], at: usize, form: u32) -> Read
     }
 }
 
-// A journal, a place in it where a line starts, and the journal's form: 0 until its first line was read.
+// A journal, an offset in it where a line starts, and the journal's form: 0 until its first line was read.
 pub struct Reader<'a> {
     journal: &'a [u8],
     at: usize,

@@ -29,7 +29,7 @@ onward (ended l h e) g = stopped g
 onward (unended l h w) g = stopped g
 onward {j} {at} (aLine {a = a} l next s h o) g = placed-onward j at next a (line-onward j at l next h) g
 
--- the place reached lies in the journal, and each line that was read took a byte or more
+-- the offset reached lies in the journal, and each line that was read took a byte or more
 pub few-lines : {j : List ℕ} {k at form : ℕ} → Reached j k at form → (k ≤ at) × (at ≤ length j)
 few-lines start = (omega arith, omega arith)
 few-lines (on r n g) = (omega (arith, few-lines r .0, onward n g .0), onward n g .1)

@@ -4,7 +4,7 @@ use mathlib.Core.{Path._≡_, Bool.false, List.List}
 use Rattle.journal.specs.{Journal.{NextOf, goesOn}, Theorems.Reached}
 use Rattle.lines.specs.declared.LineCount.{LineCount}
 
--- so many lines were read on from the start, to a place where reading does not go on, and what is there
+-- so many lines were read on from the start, to an offset where reading does not go on, and what is there
 pub record CountsLines (j : List ℕ) (t : LineCount) : Type 0 where
   pub at : ℕ
   pub form : ℕ

@@ -21,7 +21,7 @@ module _ (old : List ℕ) (at : ℕ) (t new : List ℕ) (r : Put) (p : PutAt old
   pub put-length : length new ≡ length old
   put-length = ap length put-laid ∙ over-length old at t h
 
-  -- what stands from the text on
+  -- what is there from the text on
   pub put-from : drop at new ≡ t ++ drop (at + length t) old
   put-from = ap (drop at) put-laid ∙ over-from old at t (omega arith)
 

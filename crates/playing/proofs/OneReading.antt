@@ -41,7 +41,7 @@ step-same {j} {start = p} {end = q} {start' = p'} {end' = q'} {bs' = bs'} x a y 
       next = cc;
     }
 
--- a journal ends at a place in one way only, and not where a step stands
+-- a journal ends at an offset in one way only, and not where a step is
 pub ends-same : {j : Bytes} {form at : ℕ} {e d : Ending} → EndsAt j form at e → EndsAt j form at d → e ≡ d
 ends-same (atEnd x) (atEnd y) = refl
 ends-same (atEnd x) (atRefusal y) = absurd (let s = same-next x y in let z : _≡_ {A = ℕ} 0 1 = cc in omega arith)
@@ -75,7 +75,7 @@ compare {j} {form} {to' = to'} (aLine x a r) (aLine {gs = hs} y b t) =
     after (ap₂ (λ (c : Call) (bs : Bytes). record { call = c; bytes = bs }) (s .call) (s .bytes))
     (compare r (subst (λ (k : ℕ). Between j form k hs to') (s .next) t))
 
--- no step stands where a journal ends
+-- no step is where a journal ends
 pub none-after : {j : Bytes} {form at to : ℕ} {g : Entry} {ks : List Entry} {e : Ending} → Between j form at (g ∷ ks) to → EndsAt j form at e → ⊥
 none-after (aLine x d r) y = no-end x y
 

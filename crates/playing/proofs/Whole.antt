@@ -76,7 +76,7 @@ told-finished {j} {from} {p} {q} (finished s l r t) e = subst (ListingAt j from 
 told-finished (more s l t x h) e = absurd (let z : _≡_ {A = ℕ} 0 1 = cc in omega arith)
 told-finished (unfit s a b d t) e = absurd (let z : _≡_ {A = ℕ} 0 1 = cc in omega arith)
 
--- and what one that goes on wrote stands before the listing from where it got to
+-- and what one that goes on wrote is before the listing from where it got to
 told-more :
     {j : Bytes} {from : Checkpoint} {p q : Bytes} {there : Checkpoint} {p' q' text : Bytes} {room : ℕ} {g : Progress} → Tells j from p q there p' q' text room g
     → g ≡ More → {u : Bytes} → ListingAt j there p' q' u → ListingAt j from p q (text ++ u)

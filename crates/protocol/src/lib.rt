@@ -141,7 +141,7 @@ impl Clocks {
 }
 
 // A core's private copy of a line: wts is the timestamp of the store that made it, rts the end of
-// its lease, dirty whether this core has stored to it since it became owned. dirty stands first, in
+// its lease, dirty whether this core has stored to it since it became owned. dirty is first, in
 // the room beside the variant's tag: a copy then takes 12 bytes, not 16.
 pub enum Copy {
     None,
@@ -288,7 +288,7 @@ impl Opening {
     // One copy for each core and line.
     pub const MOST_COPIES: usize = Opening::MOST_CORES * Opening::MOST_LINES;
 
-    // The opening of the state that a refused opening hands back.
+    // The opening of the state that a refused opening returns.
     pub const SMALLEST: Opening = Opening {
         cores: 1,
         lines: 1,

@@ -18,7 +18,7 @@ use Rattle.reference_points.proofs.{Rows.calling, Lines.{takes, saying,
 abbrev from : ℕ → ℕ → List ℕ
 from at e = take (e - at) (drop at sampleJournal)
 
--- a line stands from a place up to e, and the row at k takes these numbers and bytes
+-- a line is from an offset up to e, and the row at k takes these numbers and bytes
 stands : ℕ → ℕ → ℕ → ℕ → List ℕ → List ℕ → Bool
 unfolding upTo takes
 stands form at e k ns bs =

@@ -15,7 +15,7 @@ pub record Written : Type 0 where
 abbrev pub written : ℕ → List ℕ → Written
 written form s = record { form = form; line = s }
 
--- what a line says. A step's data stand from one place of the line up to another; a step without data has none at the line's end
+-- what a line says. A step's data are from one offset of the line up to another; a step without data has none at the line's end
 pub record Spoken : Type 0 where
   pub line : Written
   pub says : Line

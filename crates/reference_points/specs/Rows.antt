@@ -83,7 +83,7 @@ abbrev pub counting : ℕ → ℕ → Bytes
 counting zero a = []
 counting (suc n) a = a ∷ counting n (suc a)
 
--- what stands at each of them before the call
+-- what is at each of them before the call
 abbrev pub copyBytes : Bytes
 copyBytes = counting 5 40
 

@@ -116,7 +116,7 @@ fn load<'a>(n: u64, s: State, private: &'a mut [u8], shared: &'a mut [u8]) {
     print::call(n, d, private, shared, 0, 0);
 }
 
-// 7; and on the state that a refused opening hands back, 2 with a shared buffer that is too short,
+// 7; and on the state that a refused opening returns, 2 with a shared buffer that is too short,
 // and 1 with a lease of 0.
 fn outside() {
     let o = engine::open(Opening {

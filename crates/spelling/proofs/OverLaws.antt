@@ -132,7 +132,7 @@ room-yes size at n r e f = leb-true (at + n) size (sym e ∙ not-false r f)
 pub room-no : (size at n : ℕ) (r : Bool) → r ≡ hasRoom size at n → not r ≡ true → size < at + n
 room-no size at n r e f = leb-false (at + n) size (sym e ∙ not-true r f)
 
--- what the test for twenty bytes before a place shows
+-- what the test for twenty bytes before an offset shows
 pub twenty-yes : (size end : ℕ) → 20 ≤ end → end ≤ size → twentyBefore size end ≡ true
 twenty-yes size end t w = rw (le-leb 20 end t, le-leb end size w)
 
@@ -166,7 +166,7 @@ over-before old at t b p h =
     ∙ set-at (take (at - 1) old) (getD old (at - 1) 0) rest b (at - 1) (length-take-le (at - 1) old (omega arith))
     ∙ ap (λ (k : ℕ). take (at - 1) old ++ (b ∷ (t ++ drop k old))) m
 
--- the digits so far: they are there from k on, end before a place, and come after the digits of m
+-- the digits so far: they are there from k on, end before an offset, and come after the digits of m
 pub record Digits (old : List ℕ) (end n : ℕ) (l : List ℕ) (k m : ℕ) : Type 0 where
   pub digits : List ℕ
   pub twenty : 20 ≤ end
@@ -211,7 +211,7 @@ module _ (old : List ℕ) (end n : ℕ) (l : List ℕ) (k m : ℕ) (d : Digits o
       let room = twenty-yes (length old) end (d .twenty) (d .within) in
       record { answer = rw room start; bytes = rw room (put-digit ∙ ap₂ (over old) start whole) }
 
--- what a number that was put before a place leaves
+-- what a number that was put before an offset leaves
 module _ (old : List ℕ) (end n : ℕ) (new : List ℕ) (r : ℕ) (p : PutBefore old end (decimal n) new r) (t : 20 ≤ end) (w : end ≤ length old) where
   pub before-place : r + length (decimal n) ≡ end
   before-place = omega (arith, decimal-short n, rw (twenty-yes (length old) end t w) at (p .answer))

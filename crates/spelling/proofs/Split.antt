@@ -58,7 +58,7 @@ module _ (stop : ℕ) where
   pub upTo-end : (s : List ℕ) (i : ℕ) → length s ≤ i → length (upTo stop (drop i s)) ≡ 0
   upTo-end s i h = rw (drop-of-length-le s h, none)
 
-  -- the place where they end
+  -- the offset where they end
   pub upTo-within : (s : List ℕ) (at : ℕ) → at ≤ length s → at + length (upTo stop (drop at s)) ≤ length s
   upTo-within s at h = omega (arith, simp (length-append, length-drop) at (ap length (upTo-split (drop at s) .0)))
 

@@ -22,7 +22,7 @@ fn is_clear(s: &[u8], at: usize, stop: u8) -> bool
     clear
 }
 
-// A place at or after `at`, before which no byte from `at` on is `stop`: eight bytes at a time.
+// An offset at or after `at`, before which no byte from `at` on is `stop`: eight bytes at a time.
 fn past_clear(s: &[u8], at: usize, stop: u8) -> usize
     ensures { λ r. ⌜ at + length (upTo stop (drop at (now (s .entry)))) ≡ r + length (upTo stop (drop r (now (s .entry)))) ⌝ }
 {
@@ -128,13 +128,13 @@ pub fn is_data(s: &[u8]) -> bool
     ok
 }
 
-// What putting a text into a buffer answers: the place after the text, or that it does not fit.
+// What putting a text into a buffer answers: the offset after the text, or that it does not fit.
 pub enum Put {
     End(usize),
     Short,
 }
 
-// Whether `n` bytes fit at a place of a buffer of `size` bytes.
+// Whether `n` bytes fit at an offset of a buffer of `size` bytes.
 fn has_room(size: usize, at: usize, n: usize) -> bool
     ensures { λ r. ⌜ r ≡ hasRoom size at n ⌝ }
 {
@@ -147,7 +147,7 @@ fn has_room(size: usize, at: usize, n: usize) -> bool
     true
 }
 
-// A text as it is, into a lent buffer at a place. Where it does not fit, the buffer is left as it was.
+// A text as it is, into a lent buffer at an offset. Where it does not fit, the buffer is left as it was.
 pub fn put_text(out: &mut [u8], at: usize, text: &[u8]) -> Put
     ensures { λ r. ⌜ PutAt (now (out .entry)) at (now (text .entry)) (now (out .exit)) r ⌝ }
 {
@@ -162,9 +162,9 @@ pub fn put_text(out: &mut [u8], at: usize, text: &[u8]) -> Put
     Put::End(at + i)
 }
 
-// A number in decimal, the last digit just before a place of a lent buffer; the answer is where the first digit is. A
-// number has at most twenty digits: where fewer bytes lie before the place, or it lies past the buffer's end, the buffer is
-// left as it was and the answer is the place itself.
+// A number in decimal, the last digit just before an offset of a lent buffer; the answer is where the first digit is. A
+// number has at most twenty digits: where fewer bytes lie before the offset, or it lies past the buffer's end, the buffer is
+// left as it was and the answer is the offset itself.
 pub fn put_number_before(out: &mut [u8], end: usize, n: u64) -> usize
     ensures { λ r. ⌜ PutBefore (now (out .entry)) end (decimal n) (now (out .exit)) r ⌝ }
 {
@@ -194,7 +194,7 @@ fn hex_digit(d: u8) -> u8
     if d < 10 { b'0' + d } else { 87 + d }
 }
 
-// Bytes in hex, two digits a byte, into a lent buffer at a place. Where they do not fit, the buffer is left as it was.
+// Bytes in hex, two digits a byte, into a lent buffer at an offset. Where they do not fit, the buffer is left as it was.
 pub fn put_hex(out: &mut [u8], at: usize, bytes: &[u8]) -> Put
     ensures { λ r. ⌜ PutAt (now (out .entry)) at (hex (now (bytes .entry))) (now (out .exit)) r ⌝ }
 {

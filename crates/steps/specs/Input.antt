@@ -3,7 +3,7 @@ use Rattle.protocol.specs.Buffers.{Bytes}
 use Rattle.io.specs.Counts.{Counts}
 use Rattle.steps.specs.declared.Input.{Input, the-variants.{Read, Failed}}
 
--- so many bytes stand at the start of the buffer, or a read failed
+-- so many bytes are at the start of the buffer, or a read failed
 abbrev pub ReadInto : Input → Bytes → Type 0
 ReadInto (Read n) buffer = Counts n buffer
 ReadInto Failed buffer = Unit {0}

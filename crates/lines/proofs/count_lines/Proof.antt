@@ -98,7 +98,7 @@ module _ {M : Type 1} (𝓤 : URA M) (H : Heap 𝓤) (A : Atoms 𝓤) (W : Given
   abbrev Token : Item 𝓤
   Token = ‵ (flft κ q) ⊛ ‵ ftrue
 
-  -- the reader at a place, in a form; and what it hands out where n stands there
+  -- the reader at an offset, in a form; and what it gives where n is there
   abbrev reader : ℕ → ℕ → Reader
   reader at form = record { journal = s; at = at; form = form }
 
@@ -132,7 +132,7 @@ module _ {M : Type 1} (𝓤 : URA M) (H : Heap 𝓤) (A : Atoms 𝓤) (W : Given
   abbrev to-next : ℕ → ℕ → NextC 𝓤 H A mem run .Ghost
   to-next at form = (((κ, tt), (q, tt), tt, (reader at form, tt), (reader-val at form ∷ [], tt)), tt)
 
-  -- the slice is shared: what it owns makes a reader at any place, and is kept
+  -- the slice is shared: what it owns makes a reader at any offset, and is kept
   goes-next : (at form : ℕ) → at < 2 ^ 64 → form < 2 ^ 32 → ent 𝓤 (⋆ 𝓤 H A (Token ∷ ‵ Own ∷ [])) (sep 𝓤 (NextC 𝓤 H A mem run .pre (to-next at form)) (sem 𝓤 H A Own))
   goes-next at form ok fine =
       qed W (Token ∷ ‵ Own ∷ []) ∵ move ! (1 ∷ []) $ use1 W (‵ Own ⊛ ‵ Own) (shr-slice-copy 𝓤 H A W (named 0) κ u8 .twice s (v ∷ [])) $ split ! $
@@ -156,7 +156,7 @@ module _ {M : Type 1} (𝓤 : URA M) (H : Heap 𝓤) (A : Atoms 𝓤) (W : Given
   test-said : (n : Next) (b : Bool) → ent 𝓤 (ensured 𝓤 H A test.ended (test.clauses 𝓤 H A mem run) tt (n, tt) tt b) (fact 𝓤 (b ≡ goesOn n))
   test-said n b = exE 𝓤 _ (λ ws. snd∗ 𝓤 (sem 𝓤 H A (lasts test.ended tt (n, tt) ws)) (fact 𝓤 (b ≡ goesOn n)))
 
-  -- ---- where the loop stands: so many lines were read, to a place and a form, where n stands
+  -- ---- how far the loop is: so many lines were read, to an offset and a form, where n is
 
   record Stand : Type 0 where
     k : ℕ
@@ -271,7 +271,7 @@ module _ {M : Type 1} (𝓤 : URA M) (H : Heap 𝓤) (A : Atoms 𝓤) (W : Given
         forget ! 4 refl $ forget ! 6 refl $ forget ! 8 refl $ keep ! (2 ∷ 3 ∷ 4 ∷ 5 ∷ 6 ∷ 7 ∷ 8 ∷ 9 ∷ 10 ∷ 11 ∷ 12 ∷ 13 ∷ 14 ∷ 15 ∷ 16 ∷ 17 ∷ 18 ∷ 19 ∷ 0 ∷ 1 ∷ []) $
         again ! Nearer At i (stand a f st u e is (i .k + 1) (on (i .reached) (i .found) g)) (omega (arith, onward (i .found) g .0, onward (i .found) g .1))))))
 
-    -- reading does not go on: what was counted, and what is there, are handed back
+    -- reading does not go on: what was counted, and what is there, are returned
     stops : (i : Stand) → goesOn (i .n) ≡ false → Sq W
         (‵ (froom S′.mir l₈ 0) ∷ ‵ (fdies S′.mir l₈) ∷ ‵ (froom (T′.mir erased) l₇ 0) ∷ ‵ (fdies (T′.mir erased) l₇) ∷ ‵ (fat fullShare S′.mir l₆ 0 (next-val (i .n))) ∷ ‵ (fdies S′.mir l₆) ∷ ‵ (fat fullShare tyBool l₅ 0 (vbool false)) ∷ ‵ (fdies tyBool l₅)
         ∷ ‵ (froom (T′.mir erased) l₄ 0) ∷ ‵ (fdies (T′.mir erased) l₄) ∷ ‵ (fat fullShare (P′.mir erased) l₃ 0 (handed-val (i .at) (i .form) (i .n))) ∷ ‵ (fdies (P′.mir erased) l₃)

@@ -1,4 +1,4 @@
--- `listing::field` meets its contract: the digits stand before the place, and the key before the digits. Assumes nothing.
+-- `listing::field` meets its contract: the digits are before the offset, and the key before the digits. Assumes nothing.
 use native.Mathlib.Omega.{arith}
 use borrow.Author.Needs.{needs}
 use Rattle.listing.proofs.{Laws.{field-put, digits-far}, field.Statement.statement}

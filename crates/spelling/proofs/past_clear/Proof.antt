@@ -1,4 +1,4 @@
--- `spelling::past_clear` meets its contract. The invariant: the contract, of the place reached. Assumes nothing.
+-- `spelling::past_clear` meets its contract. The invariant: the contract, of the offset reached. Assumes nothing.
 use Prim.Native.Nat.{_+_, _-_}
 use mathlib.Core.Path.{_≡_, refl, _∙_, subst}
 use native.Mathlib.Omega.{arith}

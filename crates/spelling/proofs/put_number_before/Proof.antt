@@ -1,4 +1,4 @@
--- `spelling::put_number_before` meets its contract. The loop's invariant: the digits so far are before the place, and come after those of `m`.
+-- `spelling::put_number_before` meets its contract. The loop's invariant: the digits so far are before the offset, and come after those of `m`.
 -- Assumes nothing.
 use native.Mathlib.Omega.{arith}
 use lib.ListN.{length-set}

@@ -1,4 +1,4 @@
--- `journal::Reader::new` meets its contract: a walk of its MIR, by hand. The struct is made of the slice, at place 0 in form 0.
+-- `journal::Reader::new` meets its contract: a walk of its MIR, by hand. The struct is made of the slice, at offset 0 in form 0.
 -- Assumes nothing.
 use mathlib.Core.{Path.refl, List.{List, [], _∷_}}
 use Prim.Native.Nat.{ℕ}
