@@ -1,4 +1,4 @@
--- Laws for the proofs here and for callers: a part by its end, places that fit.
+-- Laws for the proofs here and for callers: a part by its end, cores and lines that are there.
 use Prim.Native.Nat.{ℕ, _+_, _-_}
 use mathlib.Core.{Path._≡_, Bool.true}
 use native.Mathlib.Nat.{add-sub-cancel-left}
@@ -12,14 +12,14 @@ use Rattle.buffers.specs.Moves.{isThere}
 pub part-to : (xs : Bytes) (a n : ℕ) → take (a + n - a) (drop a xs) ≡ part xs a n
 part-to xs a n = rw add-sub-cancel-left
 
--- a place that fits has its core and its line
+-- what the test says
 pub to-there : (o : Opening) (c l : ℕ) → isThere o c l ≡ true → There o c l
 to-there o c l e =
     let a = both-true (openingFits o) _ e in
     let b = both-true (ltb c (o .cores)) _ (a .1) in
     there-at (inside o (a .0)) (ltb-true _ _ (b .0)) (ltb-true _ _ (b .1))
 
--- a core and a line that are there have a place that fits
+-- what it is, of a core and a line that are there
 pub from-there : {o : Opening} {c l : ℕ} → openingFits o ≡ true → There o c l → isThere o c l ≡ true
 from-there e a = rw (e, lt-ltb _ _ (a .core), lt-ltb _ _ (a .line))
 

@@ -4,25 +4,25 @@ use mathlib.Core.{Path.{_≡_, refl, sym, _∙_, ap}, Bool.true, List.{List, [],
 use native.Mathlib.{Nat.{add-assoc, add-zero, zero-add}, Omega.arith}
 use lib.{Dec.leb, ListN.length}
 use borrow.Author.Tests.{leb-true, le-leb}
-use Rattle.protocol.specs.{Buffers.Bytes, Step.{Reply, refused, done, commit, meaning}, Run.Record, Counts.{nothingMet, countsOf, plus, total}}
+use Rattle.protocol.specs.{Buffers.Bytes, Step.{Reply, refused, done, commit, meaning}, Run.Record, Counts.{nothingMet, countsOf, sum, total}}
 use Rattle.protocol.{specs.declared.{Call.Call, Answer.{Answer, the-variants.{Refused, Done, Commit}}, Counts.Counts}, proofs.Tests.both-true}
 use Rattle.driver.specs.Play.{few}
 
 -- ---- sums
 
-pub plus-assoc : (a b c : Counts) → plus (plus a b) c ≡ plus a (plus b c)
+pub plus-assoc : (a b c : Counts) → sum (sum a b) c ≡ sum a (sum b c)
 plus-assoc a b c = rw (add-assoc, add-assoc, add-assoc)
 
-pub plus-none : (a : Counts) → plus a nothingMet ≡ a
+pub plus-none : (a : Counts) → sum a nothingMet ≡ a
 plus-none a = rw (add-zero (a .steps), add-zero (a .commits), add-zero (a .refusals))
 
-none-plus : (a : Counts) → plus nothingMet a ≡ a
+none-plus : (a : Counts) → sum nothingMet a ≡ a
 none-plus a = rw (zero-add (a .steps), zero-add (a .commits), zero-add (a .refusals))
 
-pub total-append : (rs ts : List Record) → total (rs ++ ts) ≡ plus (total rs) (total ts)
+pub total-append : (rs ts : List Record) → total (rs ++ ts) ≡ sum (total rs) (total ts)
 unfolding total
 total-append [] ts = sym (none-plus (total ts))
-total-append (r ∷ rs) ts = ap (plus (countsOf (r .given .call) (r .reply))) (total-append rs ts) ∙ sym (plus-assoc (countsOf (r .given .call) (r .reply)) (total rs) (total ts))
+total-append (r ∷ rs) ts = ap (sum (countsOf (r .given .call) (r .reply))) (total-append rs ts) ∙ sym (plus-assoc (countsOf (r .given .call) (r .reply)) (total rs) (total ts))
 
 -- a record is a step line
 pub one-step : (call : Call) (x : Reply) → countsOf call x .steps ≡ 1
@@ -62,8 +62,8 @@ few-each k n a = rw (le-leb _ _ (a .steps), le-leb _ _ (a .commits), le-leb _ _ 
 pub few-later : (k : Counts) (n m : ℕ) → few k n ≡ true → n ≤ m → few k m ≡ true
 few-later k n m e h = let a = each k n e in few-each k m (omega arith)
 
-pub few-sum : (a b : Counts) (n m l : ℕ) → few a n ≡ true → few b m ≡ true → n + m ≤ l → few (plus a b) l ≡ true
-few-sum a b n m l e f h = let x = each a n e in let y = each b m f in few-each (plus a b) l (omega arith)
+pub few-sum : (a b : Counts) (n m l : ℕ) → few a n ≡ true → few b m ≡ true → n + m ≤ l → few (sum a b) l ≡ true
+few-sum a b n m l e f h = let x = each a n e in let y = each b m f in few-each (sum a b) l (omega arith)
 
 -- a record counts once at most, in each
 pub few-one : (call : Call) (x : Reply) → few (countsOf call x) 1 ≡ true

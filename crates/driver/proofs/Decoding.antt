@@ -26,7 +26,7 @@ decodes-some {digits} {old} {new} {n = n} (decoded bs s h e) x =
 decodes-some (noRoom bs s h e) x = absurd (let z : _≡_ {A = ℕ} 0 1 = cc in omega arith)
 decodes-some (noData h e) x = absurd (let z : _≡_ {A = ℕ} 0 1 = cc in omega arith)
 
--- the digits of a step: as many as lie between their places
+-- the digits of a step: as many as lie between their offsets
 digits-long : {j : Bytes} {start end : ℕ} → Digits j start end → length (part j start (end - start)) ≡ end - start
 digits-long {j} {start} {end} d = length-take-le (end - start) (drop start j) (rw (length-drop start j) (omega (arith, d .inside)))
 

@@ -6,7 +6,7 @@ use lib.{Dec.{eqb, leb}, ListN.{length, take, drop}, Seq.{length-take-le, drop-d
 use borrow.Author.Tests.{leb-true, eqb-false}
 use Rattle.protocol.specs.{Pick.fails, Limits.{mostCores, mostLines}, Buffers.Bytes, About.{about, namedLine}, Refusals.machineRefusal}
 use Rattle.protocol.specs.Machine.{Machine, machine, coreAt, lineAt, piecesAt, theCore, theLine, written, applied}
-use Rattle.protocol.specs.{Step.{Reply, meaning, actBytes, Outcome, accepted, step}, Run.{Entry, place, run}, Counts.{countsOf, plus}}
+use Rattle.protocol.specs.{Step.{Reply, meaning, actBytes, Outcome, accepted, step}, Run.{Entry, place, run}, Counts.{countsOf, sum}}
 use Rattle.protocol.specs.declared.{Opening.Opening as Sizes, State.State, Call.Call, About.About, Counts.Counts, Effect.Effect}
 use Rattle.protocol.proofs.{Tests.both-true, Keep.still}
 use Rattle.spelling.specs.{Over.PutAt, declared.Put.{Put, the-variants.{End as PutEnd, Short as NoRoom}}}
@@ -16,7 +16,7 @@ use Rattle.listing.specs.Record.{recordText}
 use Rattle.tables.{specs.Found.{Found, effectWith}, proofs.Making.{Finds, made, is-step, is-moved, is-inside}}
 use Rattle.driver.specs.Listing.{Ending, EndsAt, lines, lastLines}
 use Rattle.driver.specs.Play.{runFrom, few, resumable, Leads, Piece, aStep, theEnd, finished, more, Plays}
-use Rattle.driver.specs.Pieces.{endingOf, Numbered, StepDue, DueAt, aStep as isStep, theEnd as isEnd, shown, Shows, answerLine, checkpointAt}
+use Rattle.driver.specs.Pieces.{endingOf, IsByte, StepDue, DueAt, aStep as isStep, theEnd as isEnd, beside, BesideInside, answerLine, checkpointAt}
 use Rattle.driver.specs.{Pieces.playedBy, declared.{Checkpoint.Checkpoint, Played.Played, Last.Last}}
 use Rattle.driver.specs.declared.Due.{Due, the-variants.{Step, Last as AtLast}}
 use Rattle.driver.proofs.{Counting.{one-step, same-counts, few-one, few-later, few-sum}, Stepping.replied}
@@ -129,7 +129,7 @@ module _ {j : Bytes} {from : Checkpoint} {p₀ q₀ old : Bytes} {o : Sizes} {ba
 
     -- a step more, whose line was put
     stepped :
-        (s' : State) (p' q' out' : Bytes) (e : ℕ) (k : Counts) → machine s' p' q' ≡ step m call bs .machine → s' .opening ≡ o → k ≡ plus (there .counts) (countsOf call reply)
+        (s' : State) (p' q' out' : Bytes) (e : ℕ) (k : Counts) → machine s' p' q' ≡ step m call bs .machine → s' .opening ≡ o → k ≡ sum (there .counts) (countsOf call reply)
         → Written out used (recordText (place (there .counts .steps + 1)) reply) out' e
         → Reached j from p₀ q₀ old o base p' q' out' (checkpointAt next (there .form) k s') e
     stepped s' p' q' out' e k em eo ek v =
@@ -163,7 +163,7 @@ step-due (isEnd x h) e = absurd (let z : _≡_ {A = ℕ} 0 1 = cc in omega arith
 
 pub end-due :
     {j : Bytes} {at form base : ℕ} {o : Sizes} {buf : Bytes} {u : Due} {w : Last} → DueAt j at form base o buf u → u ≡ AtLast w
-    → EndsAt j form at (endingOf w) × Numbered w
+    → EndsAt j form at (endingOf w) × IsByte w
 end-due (isStep x) e = absurd (let z : _≡_ {A = ℕ} 0 1 = cc in omega arith)
 end-due {j} {at} {form} {w = w} (isEnd {w = w'} x h) e = let ew : w' ≡ w = cc in rw (← ew) (x, h)
 
@@ -194,7 +194,7 @@ pub record Made (j : Bytes) (from : Checkpoint) (p₀ q₀ old : Bytes) : Type 0
   pub core : Found (theCore (w .core) (lineAt (there .state) v .manager)) (o .cores) mostCores c
   pub line : Found (theLine (w .line) (coreAt (there .state) c .slot)) (o .lines) mostLines l
   pub effect : d ≡ effectWith n call (piecesAt (there .state) c l) o
-  pub counts : k ≡ plus (there .counts) (countsOf call (meaning (d .answer) []))
+  pub counts : k ≡ sum (there .counts) (countsOf call (meaning (d .answer) []))
 
 module _ {j : Bytes} {from : Checkpoint} {p₀ q₀ old : Bytes} (s : Made j from p₀ q₀ old) where
   abbrev given-bytes : Bytes
@@ -219,7 +219,7 @@ module _ {j : Bytes} {from : Checkpoint} {p₀ q₀ old : Bytes} (s : Made j fro
   effect-is = rw (s .reached .opening) (s .effect)
 
   -- the bytes beside the answer lie in the private buffer
-  pub shows : Shows (s .d .answer) (s .o) (s .c) (s .l) (length (s .p))
+  pub shows : BesideInside (s .d .answer) (s .o) (s .c) (s .l) (length (s .p))
   shows = rw (effect-is, ← s .reached .opening) (is-inside here (s .call) given-bytes (s .n) number-is (s .v) (s .c) (s .l) finds _ refl)
 
   -- the line that is put is the reply's; the bytes are lent as the part of the buffer from 0 on
@@ -227,14 +227,14 @@ module _ {j : Bytes} {from : Checkpoint} {p₀ q₀ old : Bytes} (s : Made j fro
   line-put = answerLine (s .k .steps) (s .w .act) (s .d .answer) (take (s .count - 0) (s .buf)) (s .o) (s .p) (s .c) (s .l)
 
   reply-is :
-      meaning (s .d .answer) (actBytes (s .w .act) (take (s .count - 0) (s .buf)) (shown (s .d .answer) (s .o) (s .p) (s .c) (s .l)))
+      meaning (s .d .answer) (actBytes (s .w .act) (take (s .count - 0) (s .buf)) (beside (s .d .answer) (s .o) (s .p) (s .c) (s .l)))
       ≡ outcome .reply
   reply-is =
       let z : s .count - 0 ≡ s .count = omega arith in
       rw (z, effect-is, s .about, ← s .reached .opening) (replied here (s .call) given-bytes (s .n) number-is (s .v) (s .c) (s .l) finds)
 
-  counts-are : s .k ≡ plus (s .there .counts) (countsOf (s .call) (outcome .reply))
-  counts-are = s .counts ∙ ap (plus (s .there .counts)) (same-counts (s .call) (s .d .answer) [] _ ∙ ap (countsOf (s .call)) reply-is)
+  counts-are : s .k ≡ sum (s .there .counts) (countsOf (s .call) (outcome .reply))
+  counts-are = s .counts ∙ ap (sum (s .there .counts)) (same-counts (s .call) (s .d .answer) [] _ ∙ ap (countsOf (s .call)) reply-is)
 
   place-is : s .k .steps ≡ s .there .counts .steps + 1
   place-is = ap (λ (x : Counts). x .steps) counts-are ∙ ap (λ (i : ℕ). s .there .counts .steps + i) (one-step (s .call) (outcome .reply))

@@ -1,4 +1,4 @@
--- A text put at a place of the output: what is written before it and past it.
+-- A text put at an offset of the output: what is written before it and past it.
 use Prim.Native.Nat.{ℕ, _+_, _-_, _≤_, _<_}
 use mathlib.Core.{Path.{_≡_, refl, sym, _∙_, ap}, Bool.{Bool, true, false, cond}, List.{[], _++_, append-assoc}}
 use native.Mathlib.Omega.{arith}
@@ -9,7 +9,7 @@ use Rattle.spelling.specs.{Over.{hasRoom, over, PutAt}, declared.Put.{Put, the-
 use Rattle.listing.{specs.Record.{recordText, endText}, proofs.Lengths.{record-length, end-length}}
 use Rattle.driver.specs.Listing.{stopLines}
 
--- a text that was put: the place after it, the output up to there, and the output past it
+-- a text that was put: the offset after it, the output up to there, and the output past it
 pub record Written (old : Bytes) (at : ℕ) (t new : Bytes) (e : ℕ) : Type 0 where
   pub room : at + length t ≤ length old
   pub end : e ≡ at + length t
@@ -73,7 +73,7 @@ module _ {old : Bytes} (k : Counts) (n : ℕ) (size : length old ≡ 256) where
     pub last-place : {new : Bytes} {q : Put} {f : ℕ} → PutAt mid e (endText k) new q → q ≡ End f → f ≤ length new
     last-place v x = let s = put-written v x in omega (arith, s .room, s .end, s .size)
 
-    -- the text up to the place after both
+    -- the text up to the offset after both
     pub last-text : {new : Bytes} {q : Put} {f : ℕ} → PutAt mid e (endText k) new q → q ≡ End f → take (f - 0) new ≡ stopLines k n
     last-text {new} {f = f} v x =
         let s = put-written v x in

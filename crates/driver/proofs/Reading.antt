@@ -1,4 +1,4 @@
--- Reading a journal: what is known of the answer at a place.
+-- Reading a journal: what is known of the answer at an offset.
 use Prim.Native.Nat.{ℕ, suc, _+_, _-_, _≤_, _<_}
 use mathlib.Core.{Path.{_≡_, refl, sym, _∙_, ap, ap₂, subst}, List.{List, [], _∷_, _++_, append-assoc, append-nil}}
 use native.Mathlib.Omega.{arith}
@@ -80,7 +80,7 @@ pub record StepAt (j : Bytes) (at start end next : ℕ) : Type 0 where
   pub inside : next ≤ length j
   pub digits : Digits j start end
 
--- what is known of an answer at a place, in a journal of some form
+-- what is known of an answer at an offset, in a journal of some form
 abbrev pub Known : Bytes → ℕ → ℕ → Next → Type 0
 Known j at form (Opening f o next) = (form ≡ 0) × (f ≡ 0 → ⊥)
 Known j at form (Step call start end next) = (form ≡ 0 → ⊥) × StepAt j at start end next

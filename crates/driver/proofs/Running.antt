@@ -4,7 +4,7 @@ use mathlib.Core.{Path.{_≡_, refl, sym, _∙_, ap}, List.{List, [], _∷_, _++
 use native.Mathlib.Omega.{arith}
 use lib.ListN.{length}
 use Rattle.protocol.specs.{Buffers.{Bytes, part}, Machine.{Machine, machine}, Step.{Reply, step}, Run.{Entry, Record, place, run}}
-use Rattle.protocol.specs.{Counts.{countsOf, plus, total}, declared.{Call.Call, Counts.Counts}}
+use Rattle.protocol.specs.{Counts.{countsOf, sum, total}, declared.{Call.Call, Counts.Counts}}
 use Rattle.journal.specs.{Journal.NextOf, declared.Next.the-variants.Step}
 use Rattle.listing.specs.Record.{recordText}
 use Rattle.driver.specs.{Listing.{Data, Between, noLine, aLine, lines}, Play.{runFrom, Leads}, declared.Checkpoint.Checkpoint}
@@ -75,16 +75,16 @@ module _ {j : Bytes} {a b : Checkpoint} {p q p' q' : Bytes} {gs : List Entry} (l
       ap lines records-more ∙ lines-append before (recordAt b p' q' call bs ∷ [])
       ∙ ap (λ (t : Bytes). lines before ++ t) (append-nil (recordText (place (b .counts .steps + 1)) reply))
 
-  counts-more : plus (b .counts) (countsOf call reply) ≡ plus (a .counts) (total (runFrom a p q (gs ++ (given call bs ∷ [])) .records))
+  counts-more : sum (b .counts) (countsOf call reply) ≡ sum (a .counts) (total (runFrom a p q (gs ++ (given call bs ∷ [])) .records))
   unfolding total
   counts-more =
-      ap (λ (k : Counts). plus k (countsOf call reply)) (l .counts) ∙ plus-assoc (a .counts) (total before) (countsOf call reply)
-      ∙ ap (plus (a .counts))
-      (ap (plus (total before)) (sym (plus-none (countsOf call reply))) ∙ sym (ap total records-more ∙ total-append before (recordAt b p' q' call bs ∷ [])))
+      ap (λ (k : Counts). sum k (countsOf call reply)) (l .counts) ∙ plus-assoc (a .counts) (total before) (countsOf call reply)
+      ∙ ap (sum (a .counts))
+      (ap (sum (total before)) (sym (plus-none (countsOf call reply))) ∙ sym (ap total records-more ∙ total-append before (recordAt b p' q' call bs ∷ [])))
 
   pub leads-more :
       (d : Checkpoint) (x y : Bytes) {start end : ℕ} → NextOf j (b .at) (b .form) (Step call start end (d .at)) → Data (part j start (end - start)) bs
-      → d .form ≡ b .form → machine (d .state) x y ≡ step (machine (b .state) p' q') call bs .machine → d .counts ≡ plus (b .counts) (countsOf call reply)
+      → d .form ≡ b .form → machine (d .state) x y ≡ step (machine (b .state) p' q') call bs .machine → d .counts ≡ sum (b .counts) (countsOf call reply)
       → Leads j a p q (gs ++ (given call bs ∷ [])) d x y
   unfolding run
   leads-more d x y n g ef em ek =

@@ -7,7 +7,7 @@ use Rattle.protocol.specs.{Step.{meaning, actBytes, Outcome, accepted, step}, d
 use Rattle.protocol.specs.declared.{Act.{Act, the-variants.{Load, Store, Fence, Advance, Transfer}}, Answer.Answer}
 use Rattle.refusals.specs.Input.{machineWith, inputRefusal}
 use Rattle.tables.proofs.Making.{Finds, made, is-step, is-shown}
-use Rattle.driver.specs.Pieces.{shown}
+use Rattle.driver.specs.Pieces.{beside}
 
 -- what is found by looking the state over, and the lengths of the buffers
 pub looked-over :
@@ -29,7 +29,7 @@ act-bytes Transfer a given x y e = e
 pub replied :
     (m : Machine) (call : Call) (given : Bytes) (n : ℕ) (e : n ≡ inputRefusal m call (length given)) (v c l : ℕ) (f : Finds m call v c l)
     → meaning (made m call given n e v c l f .answer)
-    (actBytes (about call .act) given (shown (made m call given n e v c l f .answer) (m .state .opening) (m .private) c l))
+    (actBytes (about call .act) given (beside (made m call given n e v c l f .answer) (m .state .opening) (m .private) c l))
     ≡ step m call given .reply
 unfolding accepted
 replied m call given n e v c l f =

@@ -2,7 +2,7 @@
 -- last lines, whose counts are those of the records.
 use Prim.Native.Nat.{ℕ, _-_}
 use mathlib.Core.{Path._≡_, List.{List, [], _∷_, _++_}}
-use Rattle.protocol.specs.{Buffers.{Bytes, part}, Refusals.openRefusal, Step.refused, Run.{Entry, Record, place}, Counts.{counts, plus}}
+use Rattle.protocol.specs.{Buffers.{Bytes, part}, Refusals.openRefusal, Step.refused, Run.{Entry, Record, place}, Counts.{counts, sum}}
 use Rattle.protocol.specs.declared.{Opening.Opening as Sizes, Call.Call, Counts.Counts}
 use Rattle.spelling.specs.Hex.{Spells}
 use Rattle.journal.specs.{Journal.NextOf, declared.Next.the-variants.{Opening, Step, End, Refused}}
@@ -20,7 +20,7 @@ pub data Data (digits : Bytes) : Bytes → Type 0 where
   noData : digits ≡ [] → Data digits []
   someData : {bs : Bytes} → Spells digits bs → Data digits bs
 
--- the lines of a journal of some form from one place up to another spell these steps, one after the other
+-- the lines of a journal of some form from one offset up to another spell these steps, one after the other
 pub data Between (journal : Bytes) (form : ℕ) : ℕ → List Entry → ℕ → Type 0 where
   noLine : {at : ℕ} → Between journal form at [] at
   aLine :
@@ -47,7 +47,7 @@ stopLines k n = recordText (place (k .steps)) (refused n) ++ endText k
 -- "The end line counts step lines met, the one that ends the run too": after the steps counted in k
 abbrev pub lastLines : Counts → Ending → Bytes
 lastLines k ended = endText k
-lastLines k (stopped n) = stopLines (plus k (counts 1 0 1)) n
+lastLines k (stopped n) = stopLines (sum k (counts 1 0 1)) n
 
 -- no engine is opened: the first line's sizes or lease lie outside the limits (7); or the first line is refused (10 to 12), the input is
 -- empty (11) or over 65,536 bytes (14)

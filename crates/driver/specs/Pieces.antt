@@ -1,7 +1,8 @@
--- The parts of the driver's loop: what is due at a place, the bytes of a step, the bytes beside an answer, how far a call came.
+-- The parts of the driver's loop: what is due at an offset, the bytes of a step, the bytes beside an answer, how far a call came.
 use Prim.Native.Nat.{ℕ, _+_, _-_, _≤_, _<_}
 use mathlib.Core.{Path._≡_, Bool.{Bool, true, false}}
 use lib.ListN.{length, take}
+use denote.Ref.{RefT, now}
 use Rattle.protocol.specs.{Pick.pick, Buffers.{Bytes, part, copyStart}, Refusals.{callRefusal, orElse}, Run.place, Step.{meaning, actBytes}}
 use Rattle.protocol.specs.declared.{Opening.Opening as Sizes, State.State, Call.Call}
 use Rattle.protocol.specs.declared.{Act.{Act, the-variants.{Load, Store, Fence, Advance, Transfer}}, Answer.Answer, Counts.Counts}
@@ -35,9 +36,9 @@ endingOf End = ended
 endingOf (Refused n) = stopped n
 
 -- the number of a refused line is a byte
-abbrev pub Numbered : Last → Type 0
-Numbered End = Unit {0}
-Numbered (Refused n) = n < 256
+abbrev pub IsByte : Last → Type 0
+IsByte End = Unit {0}
+IsByte (Refused n) = n < 256
 
 -- a step at an offset of a journal: the step's bytes are the first `count` of the buffer, and n is the first of 1 to 6 that applies
 pub record StepDue (journal : Bytes) (at form base : ℕ) (o : Sizes) (buf : Bytes) (call : Call) (n count next : ℕ) : Type 0 where
@@ -52,7 +53,7 @@ pub record StepDue (journal : Bytes) (at form base : ℕ) (o : Sizes) (buf : Byt
 -- what is due at an offset of a journal: a step, or its end
 pub data DueAt (journal : Bytes) (at form base : ℕ) (o : Sizes) (buf : Bytes) : Due → Type 0 where
   aStep : {call : Call} {n count next : ℕ} → StepDue journal at form base o buf call n count next → DueAt journal at form base o buf (Step call n count next)
-  theEnd : {w : Last} → EndsAt journal form at (endingOf w) → Numbered w → DueAt journal at form base o buf (AtLast w)
+  theEnd : {w : Last} → EndsAt journal form at (endingOf w) → IsByte w → DueAt journal at form base o buf (AtLast w)
 
 -- ---- the line of an answer
 
@@ -65,19 +66,23 @@ isStore (Advance n) = false
 isStore Transfer = false
 
 -- where the bytes beside an answer lie in the private buffer, those of a store's commit apart
-abbrev pub shownAt : Answer → Sizes → ℕ → ℕ → Span
-shownAt a o c l = spanOf a (pick (isThere o c l) (copyStart o c l) 0) (o .width)
+abbrev pub besideAt : Answer → Sizes → ℕ → ℕ → Span
+besideAt a o c l = spanOf a (pick (isThere o c l) (copyStart o c l) 0) (o .width)
 
-abbrev pub shown : Answer → Sizes → Bytes → ℕ → ℕ → Bytes
-shown a o p c l = part p (shownAt a o c l .start) (shownAt a o c l .count)
+abbrev pub beside : Answer → Sizes → Bytes → ℕ → ℕ → Bytes
+beside a o p c l = part p (besideAt a o c l .start) (besideAt a o c l .count)
 
 -- the line of an answer at place n: a store's bytes are those given
 abbrev pub answerLine : ℕ → Act → Answer → Bytes → Sizes → Bytes → ℕ → ℕ → Bytes
-answerLine n t a given o p c l = recordText (place n) (meaning a (actBytes t given (shown a o p c l)))
+answerLine n t a given o p c l = recordText (place n) (meaning a (actBytes t given (beside a o p c l)))
 
--- those shown lie in a buffer of n bytes
-abbrev pub Shows : Answer → Sizes → ℕ → ℕ → ℕ → Type 0
-Shows a o c l n = shownAt a o c l .start + shownAt a o c l .count ≤ n
+-- that line put at an offset of a lent output
+abbrev pub PutsAnswer : RefT Bytes → ℕ → ℕ → Act → Answer → RefT Bytes → Sizes → RefT Bytes → ℕ → ℕ → RefT Bytes → Put → Type 0
+PutsAnswer out at n t a given o p c l out' r = PutAt (now out) at (answerLine n t a (now given) o (now p) c l) (now out') r
+
+-- those beside lie in a buffer of n bytes
+abbrev pub BesideInside : Answer → Sizes → ℕ → ℕ → ℕ → Type 0
+BesideInside a o c l n = besideAt a o c l .start + besideAt a o c l .count ≤ n
 
 -- ---- how far a call came
 

@@ -5,7 +5,7 @@ use mathlib.Core.{Path._≡_, Bool.{Bool, true, false}, List.{List, [], _++_}}
 use lib.{Dec.{leb, eqb}, ListN.{length, take, drop}}
 use denote.Ref.{RefT, now}
 use Rattle.protocol.specs.{Pick.{both, fails as untrue}, Fresh.{freshState, smallest}, Buffers.{Bytes, part}, Machine.machine, Refusals.openRefusal}
-use Rattle.protocol.specs.{Step.{openReply, step}, Run.{Entry, Run, place, run}, Counts.{nothingMet, plus, total}, declared.Opening.Opening as Sizes}
+use Rattle.protocol.specs.{Step.{openReply, step}, Run.{Entry, Run, place, run}, Counts.{nothingMet, sum, total}, declared.Opening.Opening as Sizes}
 use Rattle.protocol.specs.declared.{Call.Call, Counts.Counts}
 use Rattle.journal.specs.{Journal.NextOf, declared.Next.the-variants.{Opening, Step}}
 use Rattle.listing.specs.Record.{recordText}
@@ -22,8 +22,8 @@ runFrom s p q gs = run gs (s .counts .steps + 1) (machine (s .state) p q)
 abbrev pub few : Counts → ℕ → Bool
 few k n = both (leb (k .steps) n) (both (leb (k .commits) n) (leb (k .refusals) n))
 
--- a run of a journal of n bytes may have such a checkpoint: its first line was read, the place is not past the end, and no more was met than
--- there are bytes before the place (a line has one byte or more)
+-- a run of a journal of n bytes may have such a checkpoint: its first line was read, the offset is not past the end, and no more was met than
+-- there are bytes before the offset (a line has one byte or more)
 abbrev pub resumableAt : ℕ → ℕ → ℕ → Counts → Bool
 resumableAt n at form k = both (untrue (eqb form 0)) (both (leb at n) (few k at))
 
@@ -31,12 +31,12 @@ abbrev pub resumable : ℕ → Checkpoint → Bool
 resumable n s = resumableAt n (s .at) (s .form) (s .counts)
 
 -- the steps gs lead from the checkpoint a, with the buffers p and q, to the checkpoint b, with the buffers p' and q': the lines of the journal
--- between the two places spell them, the machine is the one after them, and they are counted
+-- between the two offsets spell them, the machine is the one after them, and they are counted
 pub record Leads (journal : Bytes) (a : Checkpoint) (p q : Bytes) (gs : List Entry) (b : Checkpoint) (p' q' : Bytes) : Type 0 where
   pub steps : Between journal (a .form) (a .at) gs (b .at)
   pub form : b .form ≡ a .form
   pub machine : machine (b .state) p' q' ≡ runFrom a p q gs .last
-  pub counts : b .counts ≡ plus (a .counts) (total (runFrom a p q gs .records))
+  pub counts : b .counts ≡ sum (a .counts) (total (runFrom a p q gs .records))
 
 -- what is written next from a checkpoint, in one piece: a step's line, or the last lines
 pub data Piece (journal : Bytes) (s : Checkpoint) (p q : Bytes) : Bytes → Type 0 where

@@ -32,8 +32,8 @@ pub enum Progress {
     More,
     // `start` has no room for the first line: call it again, with room.
     Short,
-    // No run of the journal has such a checkpoint: its first line is still due, the place lies past its
-    // end, or more was met than there are bytes before the place.
+    // No run of the journal has such a checkpoint: its first line is still due, the offset lies past its
+    // end, or more was met than there are bytes before the offset.
     Unfit,
 }
 
@@ -51,7 +51,7 @@ enum Last {
 }
 
 // What is due at an offset of a journal: a step with the first of 1 to 6 that applies or 0, the count of
-// the bytes given to it and the place of the next line; or the journal's end.
+// the bytes given to it and the offset of the next line; or the journal's end.
 enum Due {
     Step {
         call: Call,
@@ -75,7 +75,7 @@ fn few(counts: Counts, most: u64) -> bool
     counts.refusals <= most
 }
 
-// Whether a run of a journal of n bytes may have a checkpoint with such a place, form and counts.
+// Whether a run of a journal of n bytes may have a checkpoint with such an offset, form and counts.
 fn resumable(n: usize, at: usize, form: u32, counts: Counts) -> bool
     ensures { λ r. ⌜ r ≡ resumableAt n at form counts ⌝ }
 {

@@ -3,13 +3,13 @@
 ghost use mathlib.Core.{Path._≡_, Bool.true, List.[]};
 ghost use Prim.Native.Nat.{_-_, _≤_, _<_};
 ghost use lib.ListN.{length};
-ghost use Rattle.protocol.specs.{Buffers.part, Refusals.{machineRefusal, callRefusal, orElse}, Run.place, Counts.{countsOf, plus}};
+ghost use Rattle.protocol.specs.{Buffers.part, Refusals.{machineRefusal, callRefusal, orElse}, Run.place, Counts.{countsOf, sum}};
 ghost use Rattle.protocol.specs.Step.{done, meaning};
 ghost use Rattle.refusals.specs.Input.{machineWith};
 ghost use Rattle.spelling.specs.Over.{PutAt};
 ghost use Rattle.listing.specs.Record.{recordText};
 ghost use Rattle.driver.specs.{Listing.{stopLines, lastLines, notOpened}, Play.{few, firstCheckpoint, unopened}};
-ghost use Rattle.driver.specs.Pieces.{isStore, Digits, Decodes, DueAt, answerLine, Shows, endingOf, Numbered, checkpointAt, playedBy, Puts};
+ghost use Rattle.driver.specs.Pieces.{isStore, Digits, Decodes, DueAt, PutsAnswer, BesideInside, endingOf, IsByte, checkpointAt, playedBy, Puts};
 ghost use Rattle.driver.specs.Pieces.{progressBy, writtenBy, refusedBy, openedBy};
 use super::Checkpoint;
 use super::Due;
@@ -101,9 +101,9 @@ pub(crate) fn due(
 }
 
 // The counts with so many more.
-fn plus(counts: Counts, more: Counts) -> Counts
+fn sum(counts: Counts, more: Counts) -> Counts
     requires { ⌜ (few counts 9223372036854775807 ≡ true) × (few more 1 ≡ true) ⌝ }
-    ensures { λ r. ⌜ r ≡ plus counts more ⌝ }
+    ensures { λ r. ⌜ r ≡ sum counts more ⌝ }
 {
     Counts {
         steps: counts.steps + more.steps,
@@ -115,9 +115,9 @@ fn plus(counts: Counts, more: Counts) -> Counts
 // The counts with a call and its answer.
 pub(crate) fn met(counts: Counts, call: Call, answer: Answer) -> Counts
     requires { ⌜ few counts 9223372036854775807 ≡ true ⌝ }
-    ensures { λ r. ⌜ r ≡ plus counts (countsOf call (meaning answer [])) ⌝ }
+    ensures { λ r. ⌜ r ≡ sum counts (countsOf call (meaning answer [])) ⌝ }
 {
-    plus(counts, Counts::of(call, answer))
+    sum(counts, Counts::of(call, answer))
 }
 
 // Whether a call stores.
@@ -146,8 +146,8 @@ pub(crate) fn put_answer(
     c: usize,
     l: usize,
 ) -> Put
-    requires { ⌜ Shows answer opening c l (length (now «private»)) ⌝ }
-    ensures { λ r. ⌜ PutAt (now (out .entry)) at (answerLine (met .steps) act answer (now (given .entry)) opening (now («private» .entry)) c l) (now (out .exit)) r ⌝ }
+    requires { ⌜ BesideInside answer opening c l (length (now «private»)) ⌝ }
+    ensures { λ r. ⌜ PutsAnswer (out .entry) at (met .steps) act answer (given .entry) opening («private» .entry) c l (out .exit) r ⌝ }
 {
     if is_store(act) {
         return listing::put_record(out, at, Place(met.steps), answer, given);
@@ -186,7 +186,7 @@ fn put_stop(out: &mut [u8], at: usize, number: u32, counts: Counts) -> Put
 
 // The last lines of a run, where they fit, after what was counted.
 pub(crate) fn put_last(out: &mut [u8], at: usize, last: Last, counts: Counts) -> Put
-    requires { ⌜ (few counts 9223372036854775807 ≡ true) × Numbered last ⌝ }
+    requires { ⌜ (few counts 9223372036854775807 ≡ true) × IsByte last ⌝ }
     ensures { λ r. ⌜ PutAt (now (out .entry)) at (lastLines counts (endingOf last)) (now (out .exit)) r ⌝ }
 {
     match last {
@@ -197,7 +197,7 @@ pub(crate) fn put_last(out: &mut [u8], at: usize, last: Last, counts: Counts) ->
                 commits: 0,
                 refusals: 1,
             };
-            put_stop(out, at, n, plus(counts, line))
+            put_stop(out, at, n, sum(counts, line))
         }
     }
 }

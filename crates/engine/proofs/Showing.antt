@@ -37,7 +37,7 @@ module _ (s : State) (p q : RefT Bytes) (c l n : ℕ) (e : n ≡ inputRefusal (l
     pub there : There (s .opening) c l
     there = call-there fit (Load c l) 0 (or-none (machineRefusal (machine s (now p) (now q))) _ (sym here ∙ z) .1)
 
-    -- a start as crate `places` gives it
+    -- a start as `buffers` gives it
     exact : (a start : ℕ) → start ≡ pick (isThere (s .opening) c l) a 0 → start ≡ a
     exact = start-there (s .opening) c l (from-there (fit .opening) there)
 

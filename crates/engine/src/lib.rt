@@ -2,7 +2,7 @@
 // bytes of a line or of a commit.
 //
 // Every function takes any values at all and has no `requires`. What each promises is an equation with
-// `opened`, `step`, `shown` or `part` of crate `protocol`; of a part that is handed out, its place too.
+// `opened`, `step`, `shown` or `part` of crate `protocol`; of a part that is returned, its place too.
 // Callers write `d = load(d.state, ..)`, which saves a copy of the state against one by way of a local.
 // `step` saves another copy against the nine.
 ghost use mathlib.Core.{Path._≡_, List.[]};

@@ -9,9 +9,9 @@ use Rattle.journal.{specs.{Journal.NextOf, declared.Next.{Next, the-variants.{O
 use Rattle.driver.{specs.Listing.{Ending, Data, noData, someData, Between, noLine, aLine, EndsAt, atEnd, atRefusal}, proofs.Reading.known}
 use Rattle.playing.specs.{Listing.ReadAs, Theorems.{OneReading, OneReadingTheorem}}
 
--- ---- at one place
+-- ---- at one offset
 
--- two answers at a place are one
+-- two answers at an offset are one
 pub same-next : {j : Bytes} {at form : ℕ} {a b : Next} → NextOf j at form a → NextOf j at form b → a ≡ b
 same-next {j} {at} {form} x y = let o = one-next-theorem j at form in o .only _ x ∙ sym (o .only _ y)
 
@@ -21,7 +21,7 @@ data-same {cs = cs} (noData e) (someData s) = absurd (omega (arith, hex-length c
 data-same {bs = bs} (someData s) (noData e) = absurd (omega (arith, hex-length bs, ap length (sym e ∙ s .same), s .some))
 data-same {bs = bs} {cs = cs} (someData s) (someData t) = hex-injective bs cs (s .bytes) (t .bytes) (sym (s .same) ∙ t .same)
 
--- a place has one step at most, with one place after it
+-- an offset has one step at most, with one offset after it
 pub record SameStep (c c' : Call) (bs bs' : Bytes) (n n' : ℕ) : Type 0 where
   pub call : c' ≡ c
   pub bytes : bs' ≡ bs
@@ -52,9 +52,9 @@ pub no-end : {j : Bytes} {form at : ℕ} {e : Ending} {call : Call} {start end n
 no-end x (atEnd y) = let s = same-next x y in let z : _≡_ {A = ℕ} 0 1 = cc in omega arith
 no-end x (atRefusal y) = let s = same-next x y in let z : _≡_ {A = ℕ} 0 1 = cc in omega arith
 
--- ---- from a place on
+-- ---- from an offset on
 
--- steps of a journal up to the place `to`, and hs up to the place `to'`, from one place: they are the same, or the ones go on from where the
+-- steps of a journal up to the offset `to`, and hs up to the offset `to'`, from one offset: they are the same, or the ones go on from where the
 -- others end
 pub data Compared (j : Bytes) (form : ℕ) (gs hs : List Entry) (to to' : ℕ) : Type 0 where
   alike : gs ≡ hs → to ≡ to' → Compared j form gs hs to to'
@@ -79,7 +79,7 @@ compare {j} {form} {to' = to'} (aLine x a r) (aLine {gs = hs} y b t) =
 pub none-after : {j : Bytes} {form at to : ℕ} {g : Entry} {ks : List Entry} {e : Ending} → Between j form at (g ∷ ks) to → EndsAt j form at e → ⊥
 none-after (aLine x d r) y = no-end x y
 
--- a journal reads from a place in one way only
+-- a journal reads from an offset in one way only
 pub reads-same :
     {j : Bytes} {form at : ℕ} {gs hs : List Entry} {e d : Ending} → ReadAs j form at gs e → ReadAs j form at hs d → (gs ≡ hs) × (e ≡ d)
 reads-same {j} {form} {gs = gs} {hs} {e} {d} r t = go (compare (r .steps) (t .steps))

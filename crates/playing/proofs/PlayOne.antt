@@ -4,7 +4,7 @@ use Prim.Native.Nat.{ℕ, _+_, _≤_, _<_}
 use mathlib.Core.{Path.{_≡_, refl, sym, _∙_, ap}, List.{List, [], _∷_, _++_}}
 use native.Mathlib.Omega.{arith}
 use lib.{ListN.{length, length-append}, Seq.append-snoc}
-use Rattle.protocol.specs.{Buffers.Bytes, Machine.{Machine, machine}, Run.{Entry, Record, run}, Counts.{plus, total}}
+use Rattle.protocol.specs.{Buffers.Bytes, Machine.{Machine, machine}, Run.{Entry, Record, run}, Counts.{sum, total}}
 use Rattle.driver.specs.Listing.{Ending, Between, aLine, EndsAt, lines, lastLines}
 use Rattle.driver.specs.{Play.{runFrom, Leads, Piece, aStep, theEnd, Tells, finished, more, unfit}, declared.Checkpoint.Checkpoint}
 use Rattle.driver.{specs.declared.Progress.Progress, proofs.Running.{given, lines-append, run-records, lines-more}}
@@ -68,7 +68,7 @@ module _ {j : Bytes} {a b d : Checkpoint} {p q p₁ q₁ p₂ q₂ : Bytes} {gs 
   leads-same e n =
       checkpoint-same b d p₁ q₁ p₂ q₂ n (l .form ∙ sym (m .form))
       (l .machine ∙ ap (λ (ks : List Entry). runFrom a p q ks .last) e ∙ sym (m .machine))
-      (l .counts ∙ ap (λ (ks : List Entry). plus (a .counts) (total (runFrom a p q ks .records))) e ∙ sym (m .counts))
+      (l .counts ∙ ap (λ (ks : List Entry). sum (a .counts) (total (runFrom a p q ks .records))) e ∙ sym (m .counts))
 
   -- a run with no room for the next piece, and one that made more steps
   no-fewer :

@@ -8,7 +8,7 @@ use borrow.Author.Tests.{eqb-true, ne-eqb, le-leb}
 use Rattle.protocol.specs.{Pick.pick, Buffers.{Bytes, copyStart, copyBytes}, About.about, Machine.{Machine, machine}}
 use Rattle.protocol.specs.{Refusals.{openRefusal, wrongCount, refusal}, Run.{Entry, Record, place, run}}
 use Rattle.protocol.specs.Step.{refused, done as reply, meaning, actBytes, commitBytes, openReply, accepted, step}
-use Rattle.protocol.specs.{Counts.{counts, countsOf, plus, total}, declared.{Place.Place, Counts.Counts, Opening.Opening as Sizes, Call.Call}}
+use Rattle.protocol.specs.{Counts.{counts, countsOf, sum, total}, declared.{Place.Place, Counts.Counts, Opening.Opening as Sizes, Call.Call}}
 use Rattle.protocol.specs.declared.{Act.{Act, the-variants.{Load, Store, Fence, Advance, Transfer}}, Answer.the-variants.Done}
 use Rattle.protocol.{specs.declared.{Name.the-variants.Open, Effect.Effect}, proofs.Extents.inside}
 use Rattle.protocol.proofs.Refusals.{machine-fit, named, store-width, not-refused}
@@ -57,7 +57,7 @@ step-length at m call bs = go (eqb (refusal m call (length bs)) 0) refl _ _ _
 last-length : (k : Counts) (e : Ending) → length (lastLines k e) ≤ pieceBytes
 last-length k ended = omega (arith, end-length k)
 last-length k (stopped n) =
-    simp length-append (omega (arith, refused-length (place (k .steps + 1)) n, end-length (plus k (counts 1 0 1))))
+    simp length-append (omega (arith, refused-length (place (k .steps + 1)) n, end-length (sum k (counts 1 0 1))))
 
 -- what is written next, whatever it is
 piece-length : {j : Bytes} {s : Checkpoint} {p q t : Bytes} → Piece j s p q t → length t ≤ pieceBytes

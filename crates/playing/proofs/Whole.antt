@@ -3,7 +3,7 @@ use Prim.Native.Nat.{ℕ, _+_}
 use mathlib.Core.{Path.{_≡_, sym, _∙_, ap, ap₂, subst}, List.{List, [], _++_, append-nil, append-assoc}}
 use native.Mathlib.Omega.{arith}
 use lib.ListN.{length, replicate}
-use Rattle.protocol.specs.{Buffers.{Bytes, privateLength, sharedLength}, Machine.{Machine, machine}, Counts.{plus, total}, Run.{Entry, Record, run}}
+use Rattle.protocol.specs.{Buffers.{Bytes, privateLength, sharedLength}, Machine.{Machine, machine}, Counts.{sum, total}, Run.{Entry, Record, run}}
 use Rattle.protocol.specs.declared.Counts.{Counts}
 use Rattle.driver.specs.{Listing.{Ending, noLine, EndsAt, lines, lastLines}, declared.Checkpoint.Checkpoint}
 use Rattle.driver.specs.declared.Progress.{Progress, the-variants.{Finished, More}}
@@ -19,16 +19,16 @@ listing-append :
     (m : Machine) (k : Counts) (gs hs : List Entry) (e : Ending)
     → listingFrom m k (gs ++ hs) e
     ≡ lines (run gs (k .steps + 1) m .records)
-    ++ listingFrom (run gs (k .steps + 1) m .last) (plus k (total (run gs (k .steps + 1) m .records))) hs e
+    ++ listingFrom (run gs (k .steps + 1) m .last) (sum k (total (run gs (k .steps + 1) m .records))) hs e
 listing-append m k gs hs e =
     let rs : List Record = run gs (k .steps + 1) m .records in
     let n : k .steps + 1 + length gs ≡ k .steps + total rs .steps + 1 = omega (arith, run-length gs (k .steps + 1) m, total-steps rs) in
     let ts : List Record = run hs (k .steps + total rs .steps + 1) (run gs (k .steps + 1) m .last) .records in
     let r : run (gs ++ hs) (k .steps + 1) m .records ≡ rs ++ ts =
     run-records gs hs (k .steps + 1) m ∙ ap (λ (i : ℕ). rs ++ run hs i (run gs (k .steps + 1) m .last) .records) n in
-    ap (λ (l : List Record). lines l ++ lastLines (plus k (total l)) e) r
-    ∙ ap₂ (λ (l : Bytes) (c : Counts). l ++ lastLines c e) (lines-append rs ts) (ap (plus k) (total-append rs ts) ∙ sym (plus-assoc k (total rs) (total ts)))
-    ∙ append-assoc (lines rs) (lines ts) (lastLines (plus (plus k (total rs)) (total ts)) e)
+    ap (λ (l : List Record). lines l ++ lastLines (sum k (total l)) e) r
+    ∙ ap₂ (λ (l : Bytes) (c : Counts). l ++ lastLines c e) (lines-append rs ts) (ap (sum k) (total-append rs ts) ∙ sym (plus-assoc k (total rs) (total ts)))
+    ∙ append-assoc (lines rs) (lines ts) (lastLines (sum (sum k (total rs)) (total ts)) e)
 
 -- the text t is the listing of a journal from a checkpoint on, with the buffers p and q
 record ListingAt (j : Bytes) (from : Checkpoint) (p q t : Bytes) : Type 0 where

@@ -3,12 +3,12 @@
 use Prim.Native.Nat.{ℕ, _+_}
 use mathlib.Core.{Path._≡_, List.{List, _++_}}
 use Rattle.protocol.specs.{Buffers.Bytes, Machine.{Machine, freshMachine}, Refusals.openRefusal, Step.openReply, Run.{Entry, place, run}}
-use Rattle.protocol.specs.{Counts.{nothingMet, plus, total}, declared.{Opening.Opening as Sizes, Counts.Counts}}
+use Rattle.protocol.specs.{Counts.{nothingMet, sum, total}, declared.{Opening.Opening as Sizes, Counts.Counts}}
 use Rattle.journal.specs.{Journal.NextOf, declared.Next.the-variants.Opening}
 use Rattle.listing.specs.Record.{recordText}
 use Rattle.driver.specs.Listing.{Ending, Between, EndsAt, lines, lastLines, NotOpened, notOpened}
 
--- the steps that a journal of some form spells from a place on, and how it ends
+-- the steps that a journal of some form spells from an offset on, and how it ends
 pub record ReadAs (journal : Bytes) (form at : ℕ) (gs : List Entry) (e : Ending) : Type 0 where
   pub to : ℕ
   pub steps : Between journal form at gs to
@@ -16,7 +16,7 @@ pub record ReadAs (journal : Bytes) (form at : ℕ) (gs : List Entry) (e : Endin
 
 -- the listing from a machine on, after k was met: the records of the steps, and the last lines
 abbrev pub listingFrom : Machine → Counts → List Entry → Ending → Bytes
-listingFrom m k gs e = lines (run gs (k .steps + 1) m .records) ++ lastLines (plus k (total (run gs (k .steps + 1) m .records))) e
+listingFrom m k gs e = lines (run gs (k .steps + 1) m .records) ++ lastLines (sum k (total (run gs (k .steps + 1) m .records))) e
 
 -- THE LISTING of a journal
 pub data Listing (journal : Bytes) : Bytes → Type 0 where

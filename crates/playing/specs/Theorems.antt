@@ -9,14 +9,14 @@ use Rattle.playing.specs.{Listing.{ReadAs, Listing}, Calls.{joined, Play
 
 -- ---- the listing
 
--- the steps that a journal spells from a place on and how it ends, and no others
+-- the steps that a journal spells from an offset on and how it ends, and no others
 pub record OneReading (journal : Bytes) (form at : ℕ) : Type 0 where
   pub steps : List Entry
   pub ending : Ending
   pub holds : ReadAs journal form at steps ending
   pub only : (gs : List Entry) (e : Ending) → ReadAs journal form at gs e → (gs ≡ steps) × (e ≡ ending)
 
--- a journal whose first line was read reads in exactly one way from each place
+-- a journal whose first line was read reads in exactly one way from each offset
 abbrev pub OneReadingTheorem : Type 0
 OneReadingTheorem = (journal : Bytes) (form at : ℕ) → (form ≡ 0 → ⊥) → OneReading journal form at
 

@@ -16,10 +16,10 @@ countsOf call (refused n) = counts 1 0 1
 countsOf call (done d) = counts 1 0 0
 countsOf call (commit c t o) = counts 1 1 0
 
-abbrev pub plus : Counts → Counts → Counts
-plus a b = counts (a .steps + b .steps) (a .commits + b .commits) (a .refusals + b .refusals)
+abbrev pub sum : Counts → Counts → Counts
+sum a b = counts (a .steps + b .steps) (a .commits + b .commits) (a .refusals + b .refusals)
 
 -- the counts of a list of records
 unfoldable pub total : List Record → Counts
 total [] = nothingMet
-total (r ∷ rs) = plus (countsOf (r .given .call) (r .reply)) (total rs)
+total (r ∷ rs) = sum (countsOf (r .given .call) (r .reply)) (total rs)

@@ -85,7 +85,7 @@ impl Place {
 }
 
 impl Key {
-    // Whether a commit with this key stands before one with the other in the sorted order.
+    // Whether a commit with this key is before one with the other in the sorted order.
     pub fn precedes(self, other: Key) -> bool
         ensures { λ r. ⌜ r ≡ precedes self other ⌝ }
     {
@@ -114,7 +114,7 @@ impl Clocks {
         self
     }
 
-    // After a store that may stand at `earliest` at the earliest.
+    // After a store that is at `earliest` at the earliest.
     pub fn store(mut self, earliest: Stamp) -> Clocks
         ensures { λ r. ⌜ r ≡ stored self earliest ⌝ }
     {

@@ -2,10 +2,10 @@
 use mathlib.Core.Path.{refl}
 use Rattle.spelling.specs.{Decimal.{decimal, decimalUpTo}, Hex.hex}
 use Rattle.listing.specs.Record.{recordText, endText}
-use Rattle.reference_points.specs.Records.{recorded, lineOf, records, RecordsTheorem}
+use Rattle.reference_points.specs.Records.{recorded, printedLine, records, RecordsTheorem}
 use Rattle.reference_points.proofs.Each.{agree}
 
 pub records-theorem : RecordsTheorem
 unfolding decimal decimalUpTo hex recordText endText
 records-theorem =
-    record { bytes = refl; records = agree recorded lineOf records refl; end = refl; ended = refl; stopped = refl; notOpened = refl }
+    record { bytes = refl; records = agree recorded printedLine records refl; end = refl; ended = refl; stopped = refl; notOpened = refl }

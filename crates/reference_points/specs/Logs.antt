@@ -21,7 +21,7 @@ swapped a b = at 1 0 5 a ∷ at 2 0 3 b ∷ []
 
 abbrev pub disobeying : List Log
 disobeying =
-    -- order: "of two commits of one core, the one made earlier stands first, unless it is a store and the other a load"
+    -- order: "of two commits of one core, the one made earlier is first, unless it is a store and the other a load"
     swapped (store 0 1) (store 0 2)
     ∷ swapped (store 0 1) (store 1 2)
     ∷ swapped (store 0 1) fence

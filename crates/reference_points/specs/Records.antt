@@ -21,8 +21,8 @@ printed n r s = record { place = n; reply = r; line = s }
 abbrev pub recorded : Printed → Bytes
 recorded k = recordText (place (k .place)) (k .reply)
 
-abbrev pub lineOf : Printed → Bytes
-lineOf k = k .line
+abbrev pub printedLine : Printed → Bytes
+printedLine k = k .line
 
 -- "n is the place; done is open, ask, recall, share, renew, own, drop, evict, advance, yield or take; a fence prints core and ts"
 abbrev pub records : List Printed
@@ -54,7 +54,7 @@ met = counts 12 3 4
 pub record RecordsTheorem : Type 0 where
   -- a text is its bytes in ASCII, and `\n` is the newline, 10
   pub bytes : text "n=0 az\n" ≡ 110 ∷ 61 ∷ 48 ∷ 32 ∷ 97 ∷ 122 ∷ 10 ∷ []
-  pub records : Agree recorded lineOf records
+  pub records : Agree recorded printedLine records
   -- "The end line counts step lines met, the one that ends the run too, commits, and `refused=` lines above it."
   pub end : endText met ≡ text "end=12 commits=3 refused=4\n"
   pub ended : lastLines met ended ≡ text "end=12 commits=3 refused=4\n"

@@ -4,7 +4,7 @@ use Rattle.protocol.specs.Buffers.{Bytes}
 use Rattle.spelling.specs.Text.{text}
 use Rattle.playing.specs.Listing.{Listing}
 
--- "Entry"
+-- "Given"
 abbrev pub sampleJournal : Bytes
 sampleJournal =
     text "fabric=1 cores=1 lines=1 width=1 lease=10\n"

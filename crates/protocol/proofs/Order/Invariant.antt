@@ -58,15 +58,15 @@ VersionOf z l = VersionAgrees z (Writes l) (On l)
 abbrev pub SpotOf : Value → ℕ → List (Commit Bytes) → Newest LineCell Value → Spot → Content LineCell Value → Type 0
 SpotOf z l = ContentAgrees z (Writes l) (On l)
 
-abbrev pub LineOf : Value → ℕ → List (Commit Bytes) → (Spot → Content LineCell Value) → Newest LineCell Value → Type 0
-LineOf z l = LineAgrees z (Writes l) (On l)
+abbrev pub LineInv : Value → ℕ → List (Commit Bytes) → (Spot → Content LineCell Value) → Newest LineCell Value → Type 0
+LineInv z l = LineAgrees z (Writes l) (On l)
 
 -- the invariant; z is the value of a fresh cell
 pub record Inv (z : Value) (H : List (Commit Bytes)) (m : Machine) : Type 0 where
   pub arrays : Arrays (m .state)
   pub clocks : (c : ℕ) → Within H m c
   pub pairs : (c l : ℕ) → l < m .state .opening .lines → Beside l (coreAt (m .state) c .slot) (copyAt (m .state) c l)
-  pub lines : (l : ℕ) → l < m .state .opening .lines → (g : Newest LineCell Value) × LineOf z l H (look m l) g
+  pub lines : (l : ℕ) → l < m .state .opening .lines → (g : Newest LineCell Value) × LineInv z l H (look m l) g
 
 -- clocks that do not go back hold the commits so far
 abbrev pub Onward : Clocks → Clocks → Type 0
@@ -113,8 +113,8 @@ module _ {z : Value} {H : List (Commit Bytes)} {m : Machine} (I : Inv z H m) (f 
   -- the invariant after the step, for a log H′ that may have one commit more
   pub inv-applied : {g′ : Newest LineCell Value} (H′ : List (Commit Bytes)) → SlotStep m c l d → Beside l (d .core .slot) (d .copy)
       → ((c′ : ℕ) → Within H′ m′ c′)
-      → ((l′ : ℕ) (g : Newest LineCell Value) → (l′ ≡ l → ⊥) → LineOf z l′ H (look m l′) g → LineOf z l′ H′ (look m l′) g)
-      → LineOf z l H′ (look m′ l) g′ → Inv z H′ m′
+      → ((l′ : ℕ) (g : Newest LineCell Value) → (l′ ≡ l → ⊥) → LineInv z l′ H (look m l′) g → LineInv z l′ H′ (look m l′) g)
+      → LineInv z l H′ (look m′ l) g′ → Inv z H′ m′
   unfolding applied
   inv-applied {g′} H′ st pr ck grow this = record {
     arrays = arrays-written (I .arrays) q d;
@@ -123,7 +123,7 @@ module _ {z : Value} {H : List (Commit Bytes)} {m : Machine} (I : Inv z H m) (f 
     lines = λ l′ h. go l′ h (ℕ-discrete l′ l);
   }
     where
-      go : (l′ : ℕ) → l′ < o .lines → Dec (l′ ≡ l) → (g : Newest LineCell Value) × LineOf z l′ H′ (look m′ l′) g
+      go : (l′ : ℕ) → l′ < o .lines → Dec (l′ ≡ l) → (g : Newest LineCell Value) × LineInv z l′ H′ (look m′ l′) g
       go l′ h (yes e) = rw e (g′, this)
       go l′ h (no n) =
           let k = I .lines l′ h in
@@ -139,7 +139,7 @@ module _ {z : Value} {H : List (Commit Bytes)} {m : Machine} (I : Inv z H m) (f 
 
   -- line l itself, spot by spot: these four, and the other cores' as they were
   pub line-applied : {H′ : List (Commit Bytes)} {g′ : Newest LineCell Value} → VersionOf z l H′ g′
-      → ((Y : Spot) → Elsewhere c Y → SpotOf z l H′ g′ Y (look m l Y)) → Leaves H′ g′ → LineOf z l H′ (look m′ l) g′
+      → ((Y : Spot) → Elsewhere c Y → SpotOf z l H′ g′ Y (look m l Y)) → Leaves H′ g′ → LineInv z l H′ (look m′ l) g′
   line-applied {H′} {g′} ok rest x = record { version = ok; spots = go }
     where
       copy : (c′ : ℕ) → Dec (c′ ≡ c) → SpotOf z l H′ g′ (atCopy c′) (look m′ l (atCopy c′))

@@ -30,7 +30,7 @@ use Rattle.protocol.proofs.Order.Look.{SpeaksOf, SlotStep}
 use Rattle.protocol.proofs.Order.Rows.{read-within, lease-grows, read-after, read-clocked, read-version, shared-version, shared-within}
 use Rattle.protocol.proofs.Order.Rows.{store-past, store-after-loads, store-after-stores, same-version, grant-within, manager-grows}
 use Rattle.protocol.proofs.Order.Rows.{evict-lease, yield-lease, evict-moves, yield-moves}
-use Rattle.protocol.proofs.Order.Invariant.{Onward, Writes, On, Passed, Allowed, Beside, VersionOf, SpotOf, LineOf, Inv, clocks-applied}
+use Rattle.protocol.proofs.Order.Invariant.{Onward, Writes, On, Passed, Allowed, Beside, VersionOf, SpotOf, LineInv, Inv, clocks-applied}
 use Rattle.protocol.proofs.Order.Invariant.{inv-applied, Leaves, line-applied}
 
 -- the commit of core c at t
@@ -152,12 +152,12 @@ module _ (z : Value) (p : ℕ) {H : List (Commit Bytes)} (given : Bytes) {m : Ma
   -- ---- the invariant after a row that commits nothing, and after one that commits
   module _ {d : Effect} (e : Fitting d) (st : SlotStep m c l d) (pr : Beside l (d .core .slot) (d .copy))
       (a : Onward (k .clocks) (d .core .clocks)) where
-    keeps : {g′ : Newest LineCell Value} → LineOf z l H (look (next d) l) g′ → Inv z H (next d)
+    keeps : {g′ : Newest LineCell Value} → LineInv z l H (look (next d) l) g′ → Inv z H (next d)
     keeps this = inv-applied I f q given d (e .bytes) H st pr (clocks-applied I f q given d (e .bytes) a) (λ l′ g n k. k) this
 
     commits-keeps : {g′ : Newest LineCell Value} (t : Stamp) (x : Op Bytes) → Passed x (t .0) (d .core .clocks)
         → ((l′ : ℕ) → (l′ ≡ l → ⊥) → (y : Bytes) → x ≡ store l′ y → ⊥) → ((l′ : ℕ) → (l′ ≡ l → ⊥) → Touches l′ x → ⊥)
-        → LineOf z l (commitBy p c t x ∷ H) (look (next d) l) g′ → Inv z (commitBy p c t x ∷ H) (next d)
+        → LineInv z l (commitBy p c t x ∷ H) (look (next d) l) g′ → Inv z (commitBy p c t x ∷ H) (next d)
     unfolding applied
     commits-keeps t x ck nw nt this =
         inv-applied I f q given d (e .bytes) (commitBy p c t x ∷ H) st pr
@@ -176,7 +176,7 @@ module _ (z : Value) (p : ℕ) {H : List (Commit Bytes)} (given : Bytes) {m : Ma
 
   module _ {d : Effect} (e : Fitting d) where
     -- the newest version is where it was; what the row leaves at the four spots agrees with it
-    as-was : Leaves I f q given d (e .bytes) H g → LineOf z l H (look (next d) l) g
+    as-was : Leaves I f q given d (e .bytes) H g → LineInv z l H (look (next d) l) g
     as-was x = line-applied I f q given d (e .bytes) ok (λ Y _. at Y) x
 
     -- it goes from Z, one of the four spots, to S, or stays there: its lease grows to r′, and leases are handed out up to t. What is at spots of
@@ -186,7 +186,7 @@ module _ (z : Value) (p : ℕ) {H : List (Commit Bytes)} (given : Bytes) {m : Ma
         → (VersionOf z l H (version S w r′ t x)
         → ((Y : Spot) → eqb (kind Z) (kind Y) ≡ false → SpotOf z l H (version S w r′ t x) Y (look m l Y))
         → Leaves I f q given d (e .bytes) H (version S w r′ t x))
-        → LineOf z l H (look (next d) l) (version S w r′ t x)
+        → LineInv z l H (look (next d) l) (version S w r′ t x)
     goes {Z} {w} {r} {x} i near S r′ t h₁ h₂ h₃ leaves =
         let ok′ = goes-to z (Writes l) (On l) ok i S r′ t h₁ h₂ h₃ in
         line-applied I f q given d (e .bytes) ok′ (λ Y n. stays Y (λ j. near (rw j n))) (leaves ok′ (λ Y n. stays Y (λ j. apart j n)))
@@ -205,7 +205,7 @@ module _ (z : Value) (p : ℕ) {H : List (Commit Bytes)} (given : Bytes) {m : Ma
   loads : {g′ : Newest LineCell Value} {d : Effect} → Fitting d → (t : Stamp) → k .clocks .lts .0 ≤ t .0
       → ((i : LineCell) → Reading z (Writes l i) c (t .0) H (cells bytes i)) → SlotStep m c l d → Beside l (d .core .slot) (d .copy)
       → Onward (k .clocks) (d .core .clocks) → t .0 ≤ d .core .clocks .lts .0 → t .0 ≤ g′ .r
-      → LineOf z l H (look (next d) l) g′ → Good z p H (Load c l) given (commit c t (load l bytes)) (next d)
+      → LineInv z l H (look (next d) l) g′ → Good z p H (Load c l) given (commit c t (load l bytes)) (next d)
   loads fit t h s st pr a ck w this = (
     refl,
     record {

@@ -10,4 +10,4 @@ met-spec =
     tie.close
     (tie.spec
     (λ c κs. search needs) (λ c κs. let a = c .before .args in (c .before .pre, rw (c .of .ensures) (few-one (a .call) (meaning (a .answer) []))))
-    (λ c. rw (← c .before .of .ensures) (c .plus .ensures)))
+    (λ c. rw (← c .before .of .ensures) (c .sum .ensures)))
