@@ -6,14 +6,13 @@ use lib.ListN.{length}
 use borrow.Author.Tests.{lt-ltb, eq-eqb}
 use Rattle.protocol.specs.{Pick.first, Buffers.{Bytes, There, givenFits}, About.about, Machine.{Machine, Pieces, coreOf, lineOf, applied}}
 use Rattle.protocol.specs.Refusals.{ownerFits, slotFits, ownersFit, slotsFit, stateFits, buffersFit, machineRefusal, wrongCount}
-use Rattle.protocol.specs.Tables.{loadOwned, storeTable, fenceTable, advanceTable, evictTable, serveAsked, serveLoad, receiveGrant}
-use Rattle.protocol.specs.{Tables.{receiveRenew, yieldTable, takeTable}, Step.step, declared.{Core.Core, ManagerLine.ManagerLine}}
-use Rattle.protocol.specs.declared.{Opening.Opening, Call.Call, Effect.Effect}
+use Rattle.protocol.specs.Tables.{loadOwned, storeTable, fenceTable, advanceTable, evictTable, serveAsked, serveLoad, receiveGrant, receiveRenew}
+use Rattle.protocol.specs.{Tables.{yieldTable, takeTable}, Step.step, Words.{Core, ManagerLine, Opening, Call, Effect}}
 use Rattle.protocol.proofs.{Scan.every-set, Moves.{length-movedPrivate, length-movedShared}}
 use Rattle.protocol.proofs.Refusals.{Fit, machine-fit, slot-inside, owner-inside, store-width, named, NotRefused}
 use Rattle.protocol.proofs.Cases.{Row, asks-load, reads-shared, reads-dirty, reads-clean, asks-store, writes, fences, advances, evicts-shared}
-use Rattle.protocol.proofs.Cases.{evicts-owned, recalls, renews, shares, grants, gets-share, gets-own, gets-renewal, drops-none, drops-owned}
-use Rattle.protocol.proofs.Cases.{yields, takes, RowOn, kept-by-rows}
+use Rattle.protocol.proofs.Cases.{evicts-owned, recalls, renews, shares, grants, gets-share, gets-own, gets-renewal, drops-none, drops-owned, yields}
+use Rattle.protocol.proofs.Cases.{takes, RowOn, kept-by-rows}
 
 -- what a step makes fits an opening; n is the count of the store bytes
 pub record EffectFits (o : Opening) (n : ℕ) (d : Effect) : Type 0 where

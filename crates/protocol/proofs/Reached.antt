@@ -2,8 +2,7 @@
 -- reached machines goes by it, with one lemma about a step (proofs/Cases).
 use Prim.Native.Nat.{ℕ, suc}
 use mathlib.Core.{Logic.{_⊎_, inl, inr, ⊎-elim}, List.{List, [], _∷_, _++_}}
-use Rattle.protocol.specs.{Buffers.Bytes, Machine.Machine, Step.step, Run.{Entry, Record, place, run, Commit, commitOf, commits}}
-use Rattle.protocol.specs.Order.{In, here, there}
+use Rattle.protocol.specs.{Buffers.Bytes, Machine.Machine, Step.step, Run.{Entry, Record, place, run, Commit, commitOf, commits}, Order.{In, here, there}}
 
 -- the record of a call at place p
 abbrev pub recorded : ℕ → Machine → Entry → Record

@@ -3,6 +3,7 @@ pub mod Stamps
 pub mod Clock
 pub mod Limits
 pub mod Fresh
+pub mod Words
 pub mod Buffers
 pub mod About
 pub mod Machine

@@ -36,8 +36,7 @@ move-bytes-spec =
     (tie.spec
     (λ c κs. search needs)
     (λ c. let e = was-false (c .before .move-fits .ensures) (c .if1 .taken) in record { private = rw e; shared = rw e })
-    (λ c. search needs)
-    (λ c. search needs)
+    (λ c. search needs) (λ c. search needs)
     (λ c κs. fitted (c .before .before) .there)
     (λ c κs. rw (c .before .copy-at .ensures) ((fitted (c .before .before .before .before)) .store (c .before .before .enum-told2 .given .1)))
     (λ c. search needs)
@@ -61,11 +60,9 @@ move-bytes-spec =
     returns-3
     (λ c. search needs)
     returns-4
-    (λ c. search needs)
-    (λ c. search needs)
+    (λ c. search needs) (λ c. search needs)
     returns-5
-    (λ c. search needs)
-    (λ c. search needs)
+    (λ c. search needs) (λ c. search needs)
     returns-6
     (λ c. search needs)
     returns-7)

@@ -7,11 +7,7 @@ pub ask-spec : {M : Type 1} → statement M
 ask-spec =
     tie.close
     (tie.spec
-    (λ c. search needs)
-    (λ c κs. search needs)
-    (λ c. search needs)
-    (λ c κs. search needs)
-    (λ c. search needs)
+    (λ c. search needs) (λ c κs. search needs) (λ c. search needs) (λ c κs. search needs) (λ c. search needs)
     (λ c κs. search needs)
     (λ c n. rw (c .held-of .ensures, c .before .before .before .enum-told .given .1))
     (λ c n. rw (c .refused .ensures, c .before .enum-told2 .given .1))

@@ -4,18 +4,13 @@ use mathlib.Core.{Path.{_≡_, refl, _∙_, ap, ap₂}, Logic.{_⊎_, inl, inr},
 use native.Mathlib.Decide.{ℕ-discrete}
 use lib.ListN.{length}
 use Rattle.protocol.specs.Buffers.{Bytes, There, copyBytes, managerBytes, writebackBytes, answerBytes, givenFits, movedShared}
-use Rattle.protocol.specs.{Machine.{Machine, coreAt, copyAt, lineAt, applied}, declared.Stamp.Stamp}
-use Rattle.protocol.specs.declared.Copy.{Copy, the-variants.{None as NoCopy, Shared as CopyShared, Owned as CopyOwned}}
-use Rattle.protocol.specs.declared.Grant.{Grant, the-variants.{Share as GrantShare, Renew as GrantRenew, Own as GrantOwn}}
-use Rattle.protocol.specs.declared.{Slot.{Slot, the-variants.{Empty, Asked, Answered}}, Core.Core}
-use Rattle.protocol.specs.declared.Manager.{Manager, the-variants.{Shared, Owned}}
-use Rattle.protocol.specs.declared.{Writeback.{Writeback, the-variants.{None as NoWriteback, Flight}}, ManagerLine.ManagerLine}
-use Rattle.protocol.specs.declared.{Opening.Opening, Effect.Effect}
-use Rattle.protocol.proofs.Moves.{managerAfter, writebackAfter, copyAfter, answerAfter, AnswerStays, manager-after, writeback-after}
-use Rattle.protocol.proofs.{Moves.{copy-after, answer-after, manager-other, writeback-other, answer-other, private-other}, Refusals.Fit}
-use Rattle.protocol.proofs.Written.{Arrays, core-at, core-off, line-at, line-off, copy-at, copy-off}
-use Rattle.protocol.proofs.Order.Versions.{Spot, atManager, atWriteback, atCopy, atSlot, Mark, clean, mine, Content, nothing, snapshot}
-use Rattle.protocol.proofs.Order.Versions.{renewal, newest}
+use Rattle.protocol.specs.Machine.{Machine, coreAt, copyAt, lineAt, applied}
+use Rattle.protocol.specs.Words.{Stamp, Copy, NoCopy, CopyShared, CopyOwned, Grant, GrantShare, GrantRenew, GrantOwn, Slot, Empty, Asked, Answered, Core}
+use Rattle.protocol.specs.Words.{Manager, Shared, Owned, Writeback, NoWriteback, Flight, ManagerLine, Opening, Effect}
+use Rattle.protocol.proofs.{Refusals.Fit, Written.{Arrays, core-at, core-off, line-at, line-off, copy-at, copy-off}}
+use Rattle.protocol.proofs.Moves.{managerAfter, writebackAfter, copyAfter, answerAfter, AnswerStays, manager-after, writeback-after, copy-after}
+use Rattle.protocol.proofs.Moves.{answer-after, manager-other, writeback-other, answer-other, private-other}
+use Rattle.protocol.proofs.Order.Versions.{Spot, atManager, atWriteback, atCopy, atSlot, Mark, clean, mine, Content, nothing, snapshot, renewal, newest}
 
 -- ---- what is at each spot
 

@@ -5,13 +5,11 @@ use mathlib.Core.{Path.{_≡_, refl, sym, _∙_, ap}, Logic.{_⊎_, inl, inr, �
 use native.Mathlib.{Omega.arith, Decide.decLt}
 use lib.Dec.{ltb, eqb}
 use borrow.Author.Tests.{ltb-true, eqb-true, lt-ltb, le-ltb, eq-eqb}
-use Rattle.protocol.specs.{Pick.pick, Stamps.{Precedes, precedes}, Limits.openingFits, Refusals.openRefusal}
-use Rattle.protocol.specs.{Buffers.{Bytes, sharedLength, managerBytes}, About.{about, namedCore, namedLine}, Machine.{Machine, freshMachine}}
-use Rattle.protocol.specs.Step.{Op, Reply, refused, done, commit, step}
+use Rattle.protocol.specs.{Pick.pick, Stamps.{Precedes, precedes}, Limits.openingFits, Refusals.openRefusal, Buffers.{Bytes, sharedLength, managerBytes}}
+use Rattle.protocol.specs.{About.{about, namedCore, namedLine}, Machine.{Machine, freshMachine}, Step.{Op, Reply, refused, done, commit, step}}
 use Rattle.protocol.specs.Run.{Entry, Record, place, run, Commit, actCommit, commitOf, commits}
-use Rattle.protocol.specs.Order.{In, here, there, Before, Earlier, TsoKeeps, Loads, Stores, LastWrite, Obeys, OpenTheorem, OrderTheorem}
-use Rattle.protocol.specs.{Order.{SortTheorem, KeyTheorem}, declared.Opening.Opening}
-use Rattle.protocol.specs.declared.Act.{Act, the-variants.{Load, Store, Fence, Advance, Transfer}}
+use Rattle.protocol.specs.Order.{In, here, there, Before, Earlier, TsoKeeps, Loads, Stores, LastWrite, Obeys, OpenTheorem, OrderTheorem, SortTheorem}
+use Rattle.protocol.specs.{Order.KeyTheorem, Words.{Opening, Act, Transfer}, declared.Act.the-variants.{Load, Store, Fence, Advance}}
 use Rattle.protocol.proofs.{Tests.never, Bytes.{row-le, zeros, zeros-part}, Extents.inside, Refusals.opening-fit}
 use Rattle.protocol.proofs.{Written.{arrays-fresh, core-fresh, line-fresh, copy-fresh}, Reached.{onto, reached, from-onto, to-onto}}
 use Rattle.protocol.proofs.Order.Log.{All, none, more, all-map, all-at, in-nil, fresh, Lawful, start, log-obeys, step as log-step}

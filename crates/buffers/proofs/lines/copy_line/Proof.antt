@@ -33,10 +33,7 @@ copy-line-spec =
     Inv-loop
     μ-loop
     (λ c. (omega arith, (c .pre, search needs)))
-    (λ c. search needs)
-    (λ c. search needs)
-    (λ c. search needs)
-    (λ c. search needs)
+    (λ c. search needs) (λ c. search needs) (λ c. search needs) (λ c. search needs)
     loop-again
     (λ c. search needs)
     returns)

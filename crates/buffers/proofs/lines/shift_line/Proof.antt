@@ -23,18 +23,9 @@ pub shift-line-spec : {M : Type 1} → statement M
 shift-line-spec =
     tie.close
     (tie.spec
-    (λ c κs. search needs)
-    (λ c. search needs)
-    (λ c. search needs)
-    (λ c. search needs)
-    (λ c. search needs)
-    (λ c. search needs)
-    (λ c. search needs)
-    (λ c. search needs)
-    (λ c κs. search needs)
-    (λ c. search needs)
+    (λ c κs. search needs) (λ c. search needs) (λ c. search needs) (λ c. search needs) (λ c. search needs)
+    (λ c. search needs) (λ c. search needs) (λ c. search needs) (λ c κs. search needs) (λ c. search needs)
     (λ c. search needs)
     (λ c. simp length-append (omega (arith, held-length (c .before .before .before))))
-    (λ c κs. search needs)
-    (λ c. search needs)
+    (λ c κs. search needs) (λ c. search needs)
     (λ c. let k = c .before .before .before .before .before .before .before in let a = k .before .before .before .before .before .before .args in c .before .before .put-line .ensures ∙ ap (over (a .buf .now) (a .to)) (take-at _ _ (a .n - 0) (held-length k ∙ sym (sub-zero (a .n))) ∙ held k)))

@@ -20,9 +20,7 @@ pub fits-spec : {M : Type 1} → statement M
 fits-spec =
     tie.close
     (tie.spec
-    (λ c. search needs)
-    (λ c. search needs)
-    (λ c κs. search needs)
+    (λ c. search needs) (λ c. search needs) (λ c κs. search needs)
     (λ c. unfold openingFits in rw (was-false (c .before .within .ensures) (c .if1 .taken)))
     (λ c κs. search needs)
     returns-2

@@ -24,8 +24,7 @@ pub call-refusal-spec : {M : Type 1} → statement M
 call-refusal-spec =
     tie.close
     (tie.spec
-    (λ c κs. search needs)
-    (λ c κs. search needs)
+    (λ c κs. search needs) (λ c κs. search needs)
     (λ c. unfold callRefusal callRules first in rw (← c .before .before .about .ensures, ← c .before .no-core .ensures, c .if1 .taken))
     (λ c κs. search needs)
     returns-2

@@ -7,6 +7,5 @@ pub core-of-spec : {M : Type 1} → statement M
 core-of-spec =
     tie.close
     (tie.spec
-    (λ c κs. search needs)
-    (λ c κs. search needs)
+    (λ c κs. search needs) (λ c κs. search needs)
     (λ c. rw (← c .before .core-by .ensures) (c .found .ensures)))

@@ -7,14 +7,8 @@ pub line-by-spec : {M : Type 1} → statement M
 line-by-spec =
     tie.close
     (tie.spec
-    (λ c. search needs)
-    (λ c. search needs)
-    (λ c. search needs)
-    (λ c. search needs)
-    (λ c. search needs)
-    (λ c. search needs)
-    (λ c. search needs)
-    (λ c. search needs)
+    (λ c. search needs) (λ c. search needs) (λ c. search needs) (λ c. search needs) (λ c. search needs)
+    (λ c. search needs) (λ c. search needs) (λ c. search needs)
     (λ c. rw (c .before .before .before .enum-told .given .1, c .before .slot .given .1))
     (λ c. rw (c .before .before .before .enum-told .given .1, c .before .slot2 .given .1))
     (λ c. search needs))

@@ -7,6 +7,5 @@ pub named-line-spec : {M : Type 1} → statement M
 named-line-spec =
     tie.close
     (tie.spec
-    (λ c κs. search needs)
-    (λ c κs. search needs)
+    (λ c κs. search needs) (λ c κs. search needs)
     (λ c. rw (← c .before .named .ensures) (c .found .ensures)))

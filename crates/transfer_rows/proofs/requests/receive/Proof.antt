@@ -12,11 +12,7 @@ pub receive-spec : {M : Type 1} → statement M
 receive-spec =
     tie.close
     (tie.spec
-    (λ c. search needs)
-    (λ c κs. search needs)
-    (λ c. search needs)
-    (λ c κs. search needs)
-    (λ c. search needs)
+    (λ c. search needs) (λ c κs. search needs) (λ c. search needs) (λ c κs. search needs) (λ c. search needs)
     (λ c κs. search needs)
     (λ c k n o. unfold effectOf stateRefusal stateRules first in rw (c .refused .ensures, c .before .enum-told .given .1))
     (λ c k n o. unfold effectOf stateRefusal stateRules first in rw (c .refused2 .ensures, c .before .enum-told2 .given .1))

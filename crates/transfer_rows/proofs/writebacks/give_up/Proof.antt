@@ -8,11 +8,7 @@ pub give-up-spec : {M : Type 1} → statement M
 give-up-spec =
     tie.close
     (tie.spec
-    (λ c. search needs)
-    (λ c κs. search needs)
-    (λ c. search needs)
-    (λ c. search needs)
-    (λ c κs. search needs)
+    (λ c. search needs) (λ c κs. search needs) (λ c. search needs) (λ c. search needs) (λ c κs. search needs)
     (λ c n. unfold evictTable in rw (c .refused .ensures, c .before .enum-told .given .1))
     (λ c n. unfold evictTable in rw (c .enum-told2 .given .1))
     (λ c n. unfold evictTable in rw (c .before .before .copy .given .1, c .written-back .ensures)))
