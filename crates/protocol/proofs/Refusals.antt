@@ -19,15 +19,11 @@ pub not-true : (a : Bool) → fails a ≡ false → a ≡ true
 not-true true e = refl
 not-true false e = never e
 
--- a number that is not given, and what comes after it
-pub spared : (a : Bool) (n x : ℕ) → 0 < n → pick a n x ≡ 0 → (a ≡ false) × (x ≡ 0)
-spared true n x h e = absurd (omega arith)
-spared false n x h e = (refl, e)
-
 -- a rule that does not apply, and the rest of the list
 pub passed : (a : Bool) (n : ℕ) (rs : List Rule) → 0 < n → first ((a gives n) ∷ rs) ≡ 0 → (a ≡ false) × (first rs ≡ 0)
 unfolding first
-passed a n rs h e = spared a n (first rs) h e
+passed true n rs h e = absurd (omega arith)
+passed false n rs h e = (refl, e)
 
 -- the only rule left of a call, as a row decides it: its number with the pieces as they are, or the table's row
 pub ruled :

@@ -1,7 +1,7 @@
 -- One call made in place: whatever 1 to 6 say of it, the effect on the elements where the core and the line that it is about are found, written
 -- back, with its bytes moved, is `step`. The engine's call and the driver's loop both go by it.
 use Prim.Native.Nat.{ℕ, _+_, _≤_, _<_}
-use mathlib.Core.{Path.{_≡_, refl, sym, _∙_, ap₂}, Bool.{Bool, true, false}}
+use mathlib.Core.{Path.{_≡_, refl, sym, _∙_, ap₂}, Bool.{Bool, true, false}, Logic.by-cases}
 use lib.ListN.{length}
 use native.Mathlib.{Omega.arith, Decide.ℕ-discrete}
 use borrow.Author.Tests.{le-leb, lt-ltb, ne-eqb}
@@ -98,24 +98,19 @@ module _ (m : Machine) (call : Call) (given : Bytes) (n : ℕ) (e : n ≡ inputR
 
   -- the call is the effect written back
   pub is-step : step m call given ≡ accepted m call given c l made
-  is-step = go (ℕ-discrete n 0)
-    where
-      go : Dec (n ≡ 0) → step m call given ≡ accepted m call given c l made
-      go (yes z) = rw (accepted-effect z, core-is z, line-is z) (step-accepted m call given (sym e ∙ z))
-      go (no h) = rw (refused-effect h, row-refused m call given c l n) (step-refused m call given (λ z. h (e ∙ z)) ∙ rw e refl)
+  is-step =
+      by-cases (ℕ-discrete n 0) (λ z. rw (accepted-effect z, core-is z, line-is z) (step-accepted m call given (sym e ∙ z)))
+      (λ h. rw (refused-effect h, row-refused m call given c l n) (step-refused m call given (λ z. h (e ∙ z)) ∙ rw e refl))
 
   -- the buffers after the effect's move
   pub is-moved : (p' q' : Bytes) → Moves (made .moves) o c l given (m .private) (m .shared) p' q'
       → (p' ≡ movedPrivate (made .moves) o c l given (m .private) (m .shared)) × (q' ≡ movedShared (made .moves) o c l (m .private) (m .shared))
   unfolding movedPrivate movedShared
-  is-moved p' q' b = go (ℕ-discrete n 0)
-    where
-      go : Dec (n ≡ 0) → (p' ≡ movedPrivate (made .moves) o c l given (m .private) (m .shared)) × (q' ≡ movedShared (made .moves) o c l (m .private) (m .shared))
-      go (yes z) = let r = effect-moves m call given c l made (fit z) (there z) (sound z) in (rw r at (b .private), rw r at (b .shared))
-      go (no h) =
-          let y = refused-effect h in
-          let t = moveFits Still o (length (m .private)) (length (m .shared)) c l (length given) in
-          rw y (same-either t (rw y at (b .private)), same-either t (rw y at (b .shared)))
+  is-moved p' q' b =
+      by-cases (ℕ-discrete n 0) (λ z. let r = effect-moves m call given c l made (fit z) (there z) (sound z) in (rw r at (b .private), rw r at (b .shared)))
+      (λ h. let y = refused-effect h in
+      let t = moveFits Still o (length (m .private)) (length (m .shared)) c l (length given) in
+      rw y (same-either t (rw y at (b .private)), same-either t (rw y at (b .shared))))
 
   -- the bytes beside the answer, after the move
   module _ (start : ℕ) (a : start ≡ pick (isThere o c l) (copyStart o c l) 0) where
@@ -129,41 +124,27 @@ module _ (m : Machine) (call : Call) (given : Bytes) (n : ℕ) (e : n ≡ inputR
         (spanOf (made .answer) start (o .width) .count))
         ≡ step m call given .reply
     unfolding accepted meaning
-    is-reply = go (ℕ-discrete n 0)
-      where
-        go : Dec (n ≡ 0) →
-            meaning (made .answer)
-            (part (movedPrivate (made .moves) o c l given (m .private) (m .shared)) (spanOf (made .answer) start (o .width) .start)
-            (spanOf (made .answer) start (o .width) .count))
-            ≡ step m call given .reply
-        go (yes z) = rw (is-step, started z) (sound z .bytes)
-        go (no h) = rw (is-step, refused-effect h)
+    is-reply =
+        by-cases (ℕ-discrete n 0) (λ z. rw (is-step, started z) (sound z .bytes))
+        (λ h. rw (is-step, refused-effect h))
 
     -- they lie where the copy of the core and the line that the call is about does
     pub is-span : spanOf (made .answer) start (o .width) ≡ spanOf (made .answer) (copyStart o (coreOf call (m .state)) (lineOf call (m .state))) (o .width)
-    is-span = go (ℕ-discrete n 0)
-      where
-        go : Dec (n ≡ 0) → spanOf (made .answer) start (o .width) ≡ spanOf (made .answer) (copyStart o (coreOf call (m .state)) (lineOf call (m .state))) (o .width)
-        go (yes z) = rw (started z) (ap₂ (λ (x y : ℕ). spanOf (made .answer) (copyStart o x y) (o .width)) (core-is z) (line-is z))
-        go (no h) = rw (refused-effect h)
+    is-span =
+        by-cases (ℕ-discrete n 0) (λ z. rw (started z) (ap₂ (λ (x y : ℕ). spanOf (made .answer) (copyStart o x y) (o .width)) (core-is z) (line-is z)))
+        (λ h. rw (refused-effect h))
 
     -- they lie in the buffer
     pub is-inside : spanOf (made .answer) start (o .width) .start + spanOf (made .answer) start (o .width) .count ≤ length (m .private)
-    is-inside = go (ℕ-discrete n 0)
-      where
-        go : Dec (n ≡ 0) → spanOf (made .answer) start (o .width) .start + spanOf (made .answer) start (o .width) .count ≤ length (m .private)
-        go (yes z) = rw (started z) (span-inside (made .answer) _ _ _ (rw (fit z .nPrivate) (copy-ends (there z))))
-        go (no h) = rw (refused-effect h) (omega arith)
+    is-inside =
+        by-cases (ℕ-discrete n 0) (λ z. rw (started z) (span-inside (made .answer) _ _ _ (rw (fit z .nPrivate) (copy-ends (there z)))))
+        (λ h. rw (refused-effect h) (omega arith))
 
     -- before the move they are the copy's
     pub is-shown :
         meaning (made .answer) (part (m .private) (spanOf (made .answer) start (o .width) .start) (spanOf (made .answer) start (o .width) .count))
         ≡ meaning (made .answer) (copyBytes o (m .private) c l)
     unfolding meaning
-    is-shown = go (ℕ-discrete n 0)
-      where
-        go : Dec (n ≡ 0) →
-            meaning (made .answer) (part (m .private) (spanOf (made .answer) start (o .width) .start) (spanOf (made .answer) start (o .width) .count))
-            ≡ meaning (made .answer) (copyBytes o (m .private) c l)
-        go (yes z) = rw (started z) (span-bytes (made .answer) (m .private) (copyStart o c l) (o .width))
-        go (no h) = rw (refused-effect h)
+    is-shown =
+        by-cases (ℕ-discrete n 0) (λ z. rw (started z) (span-bytes (made .answer) (m .private) (copyStart o c l) (o .width)))
+        (λ h. rw (refused-effect h))
