@@ -31,7 +31,8 @@ pub data NextOf (journal : List ℕ) (at form : ℕ) : Next → Type 0 where
   -- 10 a last line without newline
   unended : length journal ≤ 65536 → at < length journal → Without 10 (drop at journal) → NextOf journal at form (Refused 10)
   -- a line with its newline: what the line is
-  aLine : {a : Line} (l : List ℕ) (next : ℕ) → length journal ≤ 65536 → LineAt journal at l next → LineOf (rowsOf form) l a → NextOf journal at form (inJournal a at next)
+  aLine : {a : Line} (l : List ℕ) (next : ℕ) → length journal ≤ 65536 → LineAt journal at l next → LineOf (rowsOf form) l a
+      → NextOf journal at form (inJournal a at next)
 
 -- whether reading goes on after an answer: after a line that was read
 abbrev pub goesOn : Next → Bool

@@ -25,5 +25,6 @@ pub data Playing (journal : Bytes) : List Bytes → Type 0 where
   over : {old new : Bytes} {r : Played} → Starts journal old new r → r .progress ≡ Finished → Playing journal (take (r .written) new ∷ [])
   begun :
       {old new : Bytes} {r : Played} {ts : List Bytes} → Starts journal old new r → r .progress ≡ More
-      → Plays-on journal (r .checkpoint) (replicate (privateLength (r .checkpoint .state .opening)) 0) (replicate (sharedLength (r .checkpoint .state .opening)) 0) ts
+      → Plays-on journal (r .checkpoint) (replicate (privateLength (r .checkpoint .state .opening)) 0)
+      (replicate (sharedLength (r .checkpoint .state .opening)) 0) ts
       → Playing journal (take (r .written) new ∷ ts)

@@ -1,9 +1,9 @@
+pub mod Words
 pub mod Pick
 pub mod Stamps
 pub mod Clock
 pub mod Limits
 pub mod Fresh
-pub mod Words
 pub mod Buffers
 pub mod About
 pub mod Machine
