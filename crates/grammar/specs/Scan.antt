@@ -2,7 +2,7 @@
 -- alone. Assumes nothing.
 use Prim.Native.Nat.{ℕ, zero, suc, _+_, _*_, _/_, _%_, _≤_, _<_}
 use mathlib.Core.{Path._≡_, Bool.cond, List.{List, [], _∷_}}
-use lib.{Dec.eqb, ListN.{length, drop, getD, set}}
+use lib.{Dec.eqb, ListN.{length, drop, getD, set, replicate}}
 use Rattle.spelling.specs.{Bytes.{upTo, Below}, Text.text, Decimal.{decimal, greatest, IsNumber}, Hex.IsData}
 use Rattle.grammar.specs.{Form.{Part, fixed, value, Value, number, pairs, Has}, Line.said}
 use Rattle.grammar.specs.{Table.{calls, Row, rowAt, table, numberCount, rowCount}, declared.{Line.{Line, the-variants.Refused}, Values.Values}}
@@ -58,14 +58,9 @@ pub data Scans (s : List ℕ) : List Part → ℕ → Values → Values → Type
   other : {p : List Part} {b at : ℕ} {v r : Values} → (at < length s → getD s at 0 ≡ b → ⊥) → r .fault ≡ 11 → Scans s (fixed b ∷ p) at v r
   aValue : {p : List Part} {q : Value} {at : ℕ} {v w r : Values} → ValueRead q v (valueAt s at) at w → Scans s p (at + length (valueAt s at)) w r → Scans s (value q ∷ p) at v r
 
--- no numbers yet
-abbrev pub zeros : ℕ → List ℕ
-zeros zero = []
-zeros (suc n) = 0 ∷ zeros n
-
 -- nothing read yet: the data, if there are none, are the empty part at the line's end
 abbrev pub nothingRead : List ℕ → Values
-nothingRead s = record { fault = 0; count = 0; number = zeros numberCount; start = length s }
+nothingRead s = record { fault = 0; count = 0; number = replicate numberCount 0; start = length s }
 
 -- ---- a form by its kind and its keys
 

@@ -12,7 +12,7 @@ last : tie.Need-returns-8
 unfolding Others
 last c =
     let n = c .before .before .before .before .args .key in
-    let e : keyText n ≡ lastKey = List·getD-eq-default keys lastKey {n = n} (past 0 n 7 (omega arith) (c .before .before .match .rest)) in
+    let e : keyText n ≡ lastKey = List·getD-eq-default keys lastKey {n = n} (past n 7 (c .before .before .match .rest)) in
     rw e (c .after8 .ensures)
 
 pub after-key-spec : {M : Type 1} → statement M
