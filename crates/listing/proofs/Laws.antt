@@ -5,8 +5,8 @@ use native.Mathlib.Omega.{arith}
 use lib.{ListN.{length, take, drop, length-append, length-drop, drop-of-length-le}, Seq.take-all}
 use borrow.Author.Tests.{le-leb}
 use Rattle.spelling.specs.{Over.{over, PutAt, PutBefore}, Decimal.decimal, Hex.hex, Text.text, declared.Put.{Put, the-variants.{End, Short}}}
-use Rattle.spelling.proofs.OverLaws.{over-from, over-length, over-append, before-place, before-laid, before-from, decimal-short, put-done, put-short}
-use Rattle.spelling.proofs.HexLaws.{hex-length}
+use Rattle.spelling.proofs.OverLaws.{over-from, over-length, over-append, before-place, before-laid, before-from, put-done, put-short}
+use Rattle.spelling.proofs.{DecimalLaws.decimal-short, HexLaws.hex-length}
 use Rattle.protocol.specs.{declared.Name.Name, Step.fence}
 use Rattle.listing.specs.{Record.{nameText, doneText, commitText}, Back.{Room, Field, Tail, three, access, doneEnd}}
 
