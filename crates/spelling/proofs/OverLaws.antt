@@ -3,7 +3,7 @@ use Prim.Native.Nat.{ℕ, zero, suc, _+_, _*_, _/_, _%_, _≤_, _<_, _-_}
 use mathlib.Core.{Path.{_≡_, refl, sym, _∙_, ap, ap₂, subst}, Bool.{Bool, true, false, cond, not}, List.{List, [], _∷_, _++_, append-assoc, append-nil}}
 use native.Mathlib.{Omega.arith, Nat.add-zero, Numerals.add-one}
 use lib.ListN.{length, getD, take, drop, set, length-append, length-take, length-drop, take-append-drop}
-use lib.Seq.{set-at, take-at, drop-at, take-suc, take-length, length-take-le, take-append-le, drop-append-le, drop-append-seam, paste, paste-suc}
+use lib.Seq.{set-split, take-at, drop-at, take-length, length-take-le, take-append-le, drop-append-le, drop-append-seam, paste, paste-suc}
 use lib.{Seq.drop-drop, Dec.leb}
 use Rattle.spelling.specs.{Over.{hasRoom, over, twentyBefore, PutAt, PutBefore}, Decimal.decimal}
 use Rattle.spelling.specs.{declared.Put.{Put, the-variants.{End, Short}}, Hex.{hex, digit, nibble}}
@@ -105,21 +105,19 @@ room-no size at n r e f = leb-false (at + n) size (sym e ∙ not-true r f)
 pub twenty-yes : (size end : ℕ) → 20 ≤ end → end ≤ size → twentyBefore size end ≡ true
 twenty-yes size end t w = rw (le-leb 20 end t, le-leb end size w)
 
-twenty-few : (size end : ℕ) → end < 20 → twentyBefore size end ≡ false
+pub twenty-few : (size end : ℕ) → end < 20 → twentyBefore size end ≡ false
 twenty-few size end h = rw (lt-leb 20 end h)
 
-twenty-past : (size end : ℕ) → size < end → twentyBefore size end ≡ false
+pub twenty-past : (size end : ℕ) → size < end → twentyBefore size end ≡ false
 twenty-past size end h = rw (lt-leb end size h) (go (leb 20 end))
   where
     go : (b : Bool) → cond b false false ≡ false
     go true = refl
     go false = refl
 
-pub before-few : (old : List ℕ) (end : ℕ) (t : List ℕ) → end < 20 → PutBefore old end t old end
-before-few old end t h = let e = twenty-few (length old) end h in record { answer = rw e; bytes = rw e }
-
-pub before-past : (old : List ℕ) (end : ℕ) (t : List ℕ) → length old < end → PutBefore old end t old end
-before-past old end t h = let e = twenty-past (length old) end h in record { answer = rw e; bytes = rw e }
+-- a number that was not put
+pub before-not : (old : List ℕ) (end : ℕ) (t : List ℕ) → twentyBefore (length old) end ≡ false → PutBefore old end t old end
+before-not old end t e = record { answer = rw e; bytes = rw e }
 
 -- ---- the digits of a number, from the last to the first
 
@@ -127,13 +125,9 @@ before-past old end t h = let e = twenty-past (length old) end h in record { ans
 pub over-before : (old : List ℕ) (at : ℕ) (t : List ℕ) (b : ℕ) → 0 < at → at + length t ≤ length old → set (over old at t) (at - 1) b ≡ over old (at - 1) (b ∷ t)
 over-before old at t b p h =
     let n : suc (at - 1) ≡ at = omega arith in
-    let i : at - 1 < length old = omega arith in
-    let rest : List ℕ = t ++ drop (at + length t) old in
-    let front : take at old ≡ take (at - 1) old ++ (getD old (at - 1) 0 ∷ []) = ap (λ (k : ℕ). take k old) (sym n) ∙ take-suc old (at - 1) 0 i in
     let m : at + length t ≡ at - 1 + length (b ∷ t) = omega arith in
-    ap (λ (l : List ℕ). set l (at - 1) b) (ap (λ (l : List ℕ). l ++ rest) front ∙ append-assoc (take (at - 1) old) (getD old (at - 1) 0 ∷ []) rest)
-    ∙ set-at (take (at - 1) old) (getD old (at - 1) 0) rest b (at - 1) (length-take-le (at - 1) old (omega arith))
-    ∙ ap (λ (k : ℕ). take (at - 1) old ++ (b ∷ (t ++ drop k old))) m
+    let i : at - 1 < length (over old at t) = rw (over-length old at t h) (omega arith) in
+    rw (set-split (over old at t) (at - 1) b i, part-before old at t h 0 (at - 1) (omega arith), n, over-from old at t h, m)
 
 -- the digits so far: they are there from k on, end before an offset, and come after the digits of m
 pub record Digits (old : List ℕ) (end n : ℕ) (l : List ℕ) (k m : ℕ) : Type 0 where
