@@ -1,5 +1,5 @@
 -- What is known of the rows of each form of journal: which part of the table they are, their shape, and what their lines say. A new form is a
--- line in `ranged`, `no-row`, `opening-at` and `call-rows`. Assumes nothing.
+-- line in `ranged`, `no-row`, `opening-at` and `rows-say`. Assumes nothing.
 use Prim.Native.Nat.{ℕ, zero, suc, _+_, _-_, _≤_, _<_}
 use mathlib.Core.{Path.{_≡_, refl, sym, _∙_, ap, subst}, Bool.{Bool, true, false}, List.List}
 use native.Mathlib.Omega.{arith}
@@ -69,30 +69,23 @@ abbrev pub SaysIn : ℕ → Says → Type 0
 SaysIn form (opens f o) = (form ≡ 0) × (f ≡ 0 → ⊥)
 SaysIn form (calls c) = form ≡ 0 → ⊥
 
-abbrev opening : Says → Bool
-opening (opens f o) = ltb 0 f
-opening (calls c) = false
+abbrev saysIn : ℕ → Says → Bool
+saysIn zero (opens f o) = ltb 0 f
+saysIn zero (calls c) = false
+saysIn (suc form) (opens f o) = false
+saysIn (suc form) (calls c) = true
 
-abbrev call : Says → Bool
-call (opens f o) = false
-call (calls c) = true
-
-opening-says : (w : Says) → opening w ≡ true → SaysIn 0 w
-opening-says (opens f o) e = (refl, λ z. omega (arith, z, ltb-true 0 f e))
-opening-says (calls c) e = never (sym e)
-
-call-says : (form : ℕ) (w : Says) → (form ≡ 0 → ⊥) → call w ≡ true → SaysIn form w
-call-says form (opens f o) n e = never (sym e)
-call-says form (calls c) n e = n
+says-in : (form : ℕ) (w : Says) → saysIn form w ≡ true → SaysIn form w
+says-in zero (opens f o) e = (refl, λ z. omega (arith, z, ltb-true 0 f e))
+says-in zero (calls c) e = never (sym e)
+says-in (suc form) (opens f o) e = never (sym e)
+says-in (suc form) (calls c) e = λ z. omega (arith, z)
 
 -- the test of each form's rows, whatever the numbers
-call-rows : (form : ℕ) (n : Numbered) → every (λ k r. call (r .says n)) 0 (rowsOf (suc form)) ≡ true
-call-rows zero n = refl
-call-rows (suc form) n = refl
-
-opening-rows : (n : Numbered) → every (λ k r. opening (r .says n)) 0 (rowsOf 0) ≡ true
-opening-rows n = refl
+rows-say : (form : ℕ) (n : Numbered) → every (λ k r. saysIn form (r .says n)) 0 (rowsOf form) ≡ true
+rows-say zero n = refl
+rows-say (suc zero) n = refl
+rows-say (suc (suc form)) n = refl
 
 pub row-says : (form k : ℕ) (n : Numbered) → k < length (rowsOf form) → SaysIn form (rowAt (rowsOf form) k .says n)
-row-says zero k n h = opening-says (rowAt (rowsOf 0) k .says n) (every-at (λ k r. opening (r .says n)) (rowsOf 0) 0 (opening-rows n) k h)
-row-says (suc form) k n h = call-says (suc form) (rowAt (rowsOf (suc form)) k .says n) (λ z. omega (arith, z)) (every-at (λ k r. call (r .says n)) (rowsOf (suc form)) 0 (call-rows form n) k h)
+row-says form k n h = says-in form _ (every-at (λ k r. saysIn form (r .says n)) (rowsOf form) 0 (rows-say form n) k h)

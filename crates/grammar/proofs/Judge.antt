@@ -70,9 +70,9 @@ module _ (form : ℕ) (s : List ℕ) (short : length s ≤ 200) where
 
     found-answer : Outcome s s (formOf (f .row)) (nothingRead s) (f .values) → (f .values .fault ≡ 11 → ⊥) → LineOf (rowsOf form) s (answerOf f (length s))
     found-answer (fails o n) x = absurd (x o)
-    found-answer (badNumber vs o h n) x = rw o (wrongNumber k vs short (matches h) (rw same-row n))
-    found-answer (badData vs o h n m) x = rw o (wrongData k vs short (matches h) (rw same-row n) (rw same-row m))
-    found-answer (fine ns bs o g t q e) x =
+    found-answer (badNumber vs o h n) x = rw o (wrongNumber k vs short (matches h) (rw same-row (λ e. omega (arith, n e))))
+    found-answer (badData vs z o h n m) x = rw o (wrongData k vs short (matches h) (rw same-row n) (rw same-row m))
+    found-answer (fine ns bs z o g t q e) x =
         let c : length ns ≤ numberCount = omega (arith, given-count (formOf (f .row)) ns bs g, entry-at (f .row) (omega (arith, ranged form .high)) .room) in
         let n : numbered (f .values .number) ≡ numbered ns = rw q (numbers-read numberCount ns c) in
         let st : f .values .start ≡ length s - length (hex bs) = omega (arith, e) in

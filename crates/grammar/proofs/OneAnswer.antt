@@ -1,16 +1,16 @@
 -- Each line has exactly one answer. Assumes nothing.
-use Prim.Native.Nat.{ℕ, zero, suc, _+_, _-_, _≤_, _<_}
+use Prim.Native.Nat.{ℕ, _+_, _-_, _≤_, _<_}
 use mathlib.Core.{Path.{_≡_, refl}, List.{List, [], _∷_}, Logic.{_⊎_, inl, inr, ⊎-elim}}
 use native.Mathlib.Omega.{arith}
 use lib.ListN.{length, getD}
-use Rattle.spelling.{proofs.{Lists.le-or-lt, Decide.{same-number, number-told, data-told}}}
+use Rattle.spelling.{proofs.{Lists.le-or-lt, Decide.{number-told, data-told}}}
 use Rattle.spelling.proofs.Split.{upTo-within}
 use Rattle.grammar.specs.{Form.{Part, fixed, value, Value, number, pairs}, Table.{rowsOf, rowCount, fromOf, toOf}}
 use Rattle.grammar.specs.{Line.{Matches, LineOf, tooLong}, Theorems.OneAnswerTheorem}
-use Rattle.grammar.specs.Scan.{valueAt, formOf, ValueRead, Scans, right, wrong, ended, longer, same, other, aValue, nothingRead, withNumber}
+use Rattle.grammar.specs.Scan.{valueAt, valueEnd, formOf, ValueRead, Scans, right, wrong, ended, longer, same, other, aValue, nothingRead, withNumber}
 use Rattle.grammar.specs.{Scan.{withoutNumber, withData, withoutData, FoundIn, nowhere}, declared.{Line.Line, Values.Values}}
 use Rattle.grammar.specs.declared.Found.{Found}
-use Rattle.grammar.proofs.{Rows.{letters, lineTag, same-tag, row-by-tag}, Judge.{answer-line, none-there, found-by}}
+use Rattle.grammar.proofs.{Walk.byte-told, Rows.{letters, lineTag, same-tag, row-by-tag}, Judge.{answer-line, none-there, found-by}}
 use Rattle.grammar.proofs.{Forms.{ranged, row-place, row-shape, in-table}, Unique.same-answer}
 
 -- ---- a line is read in some way by each form
@@ -26,12 +26,10 @@ reads-some : (s : List ℕ) (p : List Part) (at : ℕ) (v : Values) → at ≤ l
 unfolding noneRead
 reads-some s [] at v h = ⊎-elim (λ l. (v, ended {at = at} (omega arith))) (λ l. (noneRead, longer l refl)) (le-or-lt (length s) at)
 reads-some s (fixed b ∷ p) at v h =
-    ⊎-elim (λ l. (noneRead, other (λ (k : at < length s) (e : getD s at 0 ≡ b). omega arith) refl))
-    (λ l. ⊎-elim (λ e. let r = reads-some s p (at + 1) v (omega arith) in (r .0, same l e (r .1))) (λ n. (noneRead, other (λ k e. n e) refl)) (same-number (getD s at 0) b))
-    (le-or-lt (length s) at)
+    ⊎-elim (λ (l, e). let r = reads-some s p (at + 1) v (omega arith) in (r .0, same l e (r .1))) (λ n. (noneRead, other (λ l e. n (l, e)) refl)) (byte-told s at b)
 reads-some s (value q ∷ p) at v h =
     let w = value-read q v (valueAt s at) at in
-    let r = reads-some s p (at + length (valueAt s at)) (w .0) (upTo-within 32 s at h) in
+    let r = reads-some s p (valueEnd s at) (w .0) (upTo-within 32 s at h) in
     (r .0, aValue (w .1) (r .1))
 
 -- some row of a part of the table has the line, or none has it: only one may

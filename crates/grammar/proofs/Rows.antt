@@ -1,7 +1,7 @@
 -- Laws of the table of forms: each row has the shape that reading asks, and a tag of its own.
 -- One test, computed at each row. Assumes nothing.
 use Prim.Native.Nat.{ℕ, zero, suc, _+_, _-_, _≤_, _<_}
-use mathlib.Core.{Path.{_≡_, refl, sym, _∙_, ap, ap₂, subst}, Bool.{Bool, true, false, cond}, List.{List, [], _∷_}}
+use mathlib.Core.{Path.{_≡_, refl, sym, ap₂, subst}, Bool.{Bool, true, false, cond}, List.{List, [], _∷_}}
 use native.Mathlib.{Omega.arith, Nat.{le-of-suc-le-suc, not-suc-le-zero, suc-add, add-suc, add-zero, zero-add}}
 use lib.{Dec.{leb, eqb, lit<}, ListN.{length, getD}}
 use borrow.Author.Tests.{leb-true, eqb-true}

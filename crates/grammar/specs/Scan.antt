@@ -13,6 +13,10 @@ use Rattle.protocol.specs.declared.Call.{Call}
 abbrev pub valueAt : List ℕ → ℕ → List ℕ
 valueAt s at = upTo 32 (drop at s)
 
+-- the offset where it ends
+abbrev pub valueEnd : List ℕ → ℕ → ℕ
+valueEnd s at = at + length (valueAt s at)
+
 -- how many values a form has
 unfoldable pub valuesIn : List Part → ℕ
 valuesIn [] = 0
@@ -56,7 +60,7 @@ pub data Scans (s : List ℕ) : List Part → ℕ → Values → Values → Type
   longer : {at : ℕ} {v r : Values} → at < length s → r .fault ≡ 11 → Scans s [] at v r
   same : {p : List Part} {b at : ℕ} {v r : Values} → at < length s → getD s at 0 ≡ b → Scans s p (at + 1) v r → Scans s (fixed b ∷ p) at v r
   other : {p : List Part} {b at : ℕ} {v r : Values} → (at < length s → getD s at 0 ≡ b → ⊥) → r .fault ≡ 11 → Scans s (fixed b ∷ p) at v r
-  aValue : {p : List Part} {q : Value} {at : ℕ} {v w r : Values} → ValueRead q v (valueAt s at) at w → Scans s p (at + length (valueAt s at)) w r → Scans s (value q ∷ p) at v r
+  aValue : {p : List Part} {q : Value} {at : ℕ} {v w r : Values} → ValueRead q v (valueAt s at) at w → Scans s p (valueEnd s at) w r → Scans s (value q ∷ p) at v r
 
 -- nothing read yet: the data, if there are none, are the empty part at the line's end
 abbrev pub nothingRead : List ℕ → Values

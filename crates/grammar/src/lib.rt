@@ -32,18 +32,20 @@ pub enum Line {
     Refused(u32),
 }
 
-// How many of the rows are steps (the others are first lines), how many numbers a line has at most, and how many forms of journal there
-// are, where the first line is due counted as one (`stepCount`, `numberCount` and `formCount` of specs/Table.antt).
+// How many of the rows are steps, and how many there are with the first lines; how many numbers a line has at most; how many forms of
+// journal there are, where the first line is due counted as one (`stepCount`, `rowCount`, `numberCount`, `formCount` of specs/Table.antt).
 const STEPS: usize = 9;
+
+const ROWS: usize = STEPS + 1;
 
 const NUMBERS: usize = 4;
 
 const FORMS: u32 = 2;
 
 // The rows of each form of journal: from one up to another.
-const FROM: [u8; 2] = [9, 0];
+const FROM: [usize; 2] = [STEPS, 0];
 
-const TO: [u8; 2] = [10, 9];
+const TO: [usize; 2] = [ROWS, STEPS];
 
 // The row of each tag, as a letter from a on; ~, which is no row's, where there is none. The tag of a line or a form is 15 times its
 // seventh byte and its eighth, modulo 32: no two rows have the same.
@@ -215,14 +217,14 @@ fn from_row(form: u32) -> usize
     requires { ⌜ form < formCount ⌝ }
     ensures { λ r. ⌜ r ≡ fromOf form ⌝ }
 {
-    wide(FROM[form as usize])
+    FROM[form as usize]
 }
 
 fn to_row(form: u32) -> usize
     requires { ⌜ form < formCount ⌝ }
     ensures { λ r. ⌜ r ≡ toOf form ⌝ }
 {
-    wide(TO[form as usize])
+    TO[form as usize]
 }
 
 // The row whose form a line has, and what was read by it.

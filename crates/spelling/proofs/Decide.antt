@@ -14,10 +14,10 @@ Told P = P ⊎ (P → ⊥)
 pub same-number : (a b : ℕ) → Told (a ≡ b)
 same-number a b = by-test (eqb a b) (eqb-true a b) (eqb-false a b)
 
-at-most : (a b : ℕ) → Told (a ≤ b)
+pub at-most : (a b : ℕ) → Told (a ≤ b)
 at-most a b = by-test (leb a b) (leb-true a b) (λ e h. omega (arith, leb-false a b e))
 
-told-both : {P Q : Type 0} → Told P → Told Q → Told (P × Q)
+pub told-both : {P Q : Type 0} → Told P → Told Q → Told (P × Q)
 told-both (inl p) (inl q) = inl (p, q)
 told-both (inl p) (inr n) = inr (λ x. n (x .1))
 told-both (inr n) t = inr (λ x. n (x .0))

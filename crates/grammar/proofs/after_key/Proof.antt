@@ -1,6 +1,5 @@
 -- `grammar::after_key` meets its contract: in each arm, the key's own text. Assumes nothing.
 use mathlib.Core.Path.{_≡_}
-use native.Mathlib.Omega.{arith}
 use lib.ListN.{List·getD-eq-default}
 use Rattle.grammar.specs.Scan.{keys, lastKey, keyText}
 use Rattle.grammar.proofs.{Rows.{Others, past}, after_key.Statement.statement}

@@ -1,5 +1,5 @@
 -- `spelling::decode` meets its contract. The invariant: the buffer starts with the first bytes that the data stand for. Assumes nothing.
-use Prim.Native.Nat.{_≤_, _+_, _*_, _/_, _-_}
+use Prim.Native.Nat.{_≤_, _*_, _/_, _-_}
 use mathlib.Core.Path.{_≡_, refl, _∙_, subst}
 use native.Mathlib.Omega.{arith}
 use borrow.Author.{Needs.needs, Tests.{not-true, not-false}}
