@@ -9,8 +9,7 @@ use Rattle.spelling.proofs.Lists.{le-or-lt, all-append, all-at}
 
 -- n has at most k + 1 digits
 abbrev Below : ℕ → ℕ → Type 0
-Below zero n = n < 10
-Below (suc k) n = Below k (n / 10)
+Below k n = n < 10 ^ suc k
 
 -- the greatest number of 64 bits
 abbrev pub widest : ℕ
@@ -19,12 +18,8 @@ widest = 18446744073709551615
 tenth : (p n : ℕ) → n < p * 10 → n / 10 < p
 tenth p n h = omega arith
 
-below : (k n : ℕ) → n < 10 ^ suc k → Below k n
-below zero n h = h
-below (suc k) n h = below k (n / 10) (tenth (10 ^ suc k) n (rw (pow-suc 10 (suc k)) at h))
-
-below-19 : (n : ℕ) → n ≤ widest → Below 19 n
-below-19 n h = let s : n < 100000000000000000000 = omega arith in below 19 n s
+fewer : (k n : ℕ) → Below (suc k) n → Below k (n / 10)
+fewer k n h = tenth (10 ^ suc k) n (rw (pow-suc 10 (suc k)) at h)
 
 small : (k n : ℕ) → n < 10 → decimalUpTo k n ≡ (48 + n) ∷ []
 unfolding decimalUpTo
@@ -38,7 +33,7 @@ large k n h = rw (le-ltb n 10 h)
 room : (k n : ℕ) → Below k n → decimalUpTo (suc k) n ≡ decimalUpTo k n
 room zero n b = small 1 n b ∙ sym (small 0 n b)
 room (suc k) n b =
-    ⊎-elim (λ h. large (suc k) n h ∙ ap (λ (l : List ℕ). l ++ ((48 + n % 10) ∷ [])) (room k (n / 10) b) ∙ sym (large k n h))
+    ⊎-elim (λ h. large (suc k) n h ∙ ap (λ (l : List ℕ). l ++ ((48 + n % 10) ∷ [])) (room k (n / 10) (fewer k n b)) ∙ sym (large k n h))
     (λ h. small (suc (suc k)) n h ∙ sym (small (suc k) n h)) (le-or-lt 10 n)
 
 -- what holds of each digit, and of a number where it holds of the number without its last digit, holds of every number
@@ -46,11 +41,11 @@ module _ (P : ℕ → List ℕ → Type 0) (one : (d : ℕ) → d < 10 → P d (
   by-digits : (k n : ℕ) → Below k n → P n (decimalUpTo k n)
   by-digits zero n b = rw (small 0 n b) (one n b)
   by-digits (suc k) n b =
-      ⊎-elim (λ h. rw (large k n h) (more n (decimalUpTo k (n / 10)) h (by-digits k (n / 10) b))) (λ h. rw (small (suc k) n h) (one n h)) (le-or-lt 10 n)
+      ⊎-elim (λ h. rw (large k n h) (more n (decimalUpTo k (n / 10)) h (by-digits k (n / 10) (fewer k n b)))) (λ h. rw (small (suc k) n h) (one n h)) (le-or-lt 10 n)
 
   decimal-by : (n : ℕ) → n ≤ widest → P n (decimal n)
   unfolding decimal
-  decimal-by n h = by-digits 19 n (below-19 n h)
+  decimal-by n h = let s : n < 100000000000000000000 = omega arith in by-digits 19 n s
 
 -- one digit more
 pub decimal-more : (v d : ℕ) → 0 < v → d < 10 → v * 10 + d ≤ widest → decimal (v * 10 + d) ≡ decimal v ++ ((48 + d) ∷ [])
@@ -59,7 +54,7 @@ decimal-more v d hv hd h =
     let q : (v * 10 + d) / 10 ≡ v = omega arith in
     let m : (v * 10 + d) % 10 ≡ d = omega arith in
     let s : v < 10000000000000000000 = omega arith in
-    large 18 (v * 10 + d) (omega arith) ∙ rw (q, m, room 18 v (below 18 v s))
+    large 18 (v * 10 + d) (omega arith) ∙ rw (q, m, room 18 v s)
 
 pub decimal-step : (n : ℕ) → 10 ≤ n → n ≤ widest → decimal n ≡ decimal (n / 10) ++ ((48 + n % 10) ∷ [])
 decimal-step n h k =
