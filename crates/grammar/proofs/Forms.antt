@@ -1,14 +1,14 @@
 -- What is known of the rows of each form of journal: which part of the table they are, their shape, and what their lines say. A new form is a
--- line in `ranged`, `no-row`, `opening-at` and `call-rows`. Assumes nothing.
+-- line in `ranged`, `no-row`, `opening-at` and `rows-say`. Assumes nothing.
 use Prim.Native.Nat.{ℕ, zero, suc, _+_, _-_, _≤_, _<_}
-use mathlib.Core.{Path.{_≡_, refl, _∙_, ap, subst}, Bool.{Bool, true, false}, List.List}
+use mathlib.Core.{Path.{_≡_, refl, sym, _∙_, ap, subst}, Bool.{Bool, true, false}, List.List}
 use native.Mathlib.Omega.{arith}
 use lib.{Dec.{ltb, lit≤}, ListN.{length, take, drop}, Seq.{getD-take, getD-drop}}
 use borrow.Author.Tests.{ltb-true}
-use Rattle.protocol.specs.declared.Opening.{Opening as Sizes}
+use Rattle.protocol.{specs.declared.Opening.{Opening as Sizes}, proofs.Tests.never}
 use Rattle.grammar.specs.Table.{Numbered, Says, opens, calls, Row, rowsOf, noRow, rowAt, table, stepCount, openingCount, rowCount, formCount}
-use Rattle.grammar.specs.{Table.{fromOf, toOf}, Line.Matches}
-use Rattle.grammar.proofs.{Fit.Shaped, Rows.{entry-at, both, every, every-at}}
+use Rattle.grammar.specs.{Table.{fromOf, toOf}, Form.Has, Line.Matches, Scan.formOf}
+use Rattle.grammar.proofs.{Fit.Shaped, Rows.{entry-at, every, every-at}}
 
 -- ---- the rows of each form are one part of the table
 
@@ -23,10 +23,22 @@ ranged zero = record { order = lit≤ tt; high = lit≤ tt; count = refl; same =
 ranged (suc zero) = record { order = lit≤ tt; high = lit≤ tt; count = refl; same = refl }
 ranged (suc (suc form)) = record { order = lit≤ tt; high = lit≤ tt; count = refl; same = refl }
 
-pub row-in : (form k : ℕ) → k < length (rowsOf form) → rowAt (rowsOf form) k ≡ rowAt table (fromOf form + k)
-row-in form k h =
-    let r = ranged form in
-    ap (λ (l : List Row). rowAt l k) (r .same) ∙ getD-take (toOf form - fromOf form) (drop (fromOf form) table) k noRow (rw (← r .count) h) ∙ getD-drop (fromOf form) table k noRow
+-- the row at an index of a form's rows, as a row of the table
+module _ (form k : ℕ) (h : k < length (rowsOf form)) where
+  pub row-place : fromOf form + k < toOf form
+  row-place = let r = ranged form in omega (arith, r .count, r .order)
+
+  pub row-in : rowAt (rowsOf form) k ≡ rowAt table (fromOf form + k)
+  row-in =
+      let r = ranged form in
+      ap (λ (l : List Row). rowAt l k) (r .same) ∙ getD-take (toOf form - fromOf form) (drop (fromOf form) table) k noRow (omega arith) ∙ getD-drop (fromOf form) table k noRow
+
+  pub row-shape : Shaped (rowAt (rowsOf form) k .form)
+  row-shape = rw row-in (entry-at (fromOf form + k) (omega (arith, row-place, ranged form .high)) .shape)
+
+-- a line that has the form of one of them has it as a row of the table
+pub in-table : (form : ℕ) {s : List ℕ} {k : ℕ} {vs : List (List ℕ)} → Matches (rowsOf form) s k vs → Has s (formOf (fromOf form + k)) vs
+in-table form {s} {k} {vs} f = subst (λ (r : Row). Has s (r .form) vs) (row-in form k (f .listed)) (f .has)
 
 -- no form is known beyond the last
 pub no-row : (form : ℕ) (s : List ℕ) → formCount ≤ form → (k : ℕ) (vs : List (List ℕ)) → Matches (rowsOf form) s k vs → ⊥
@@ -50,42 +62,30 @@ opening-row row n a b =
     let e : stepCount + (row - stepCount) ≡ row = omega arith in
     subst (λ (m : ℕ). rowAt table m .says n ≡ opens (row - stepCount + 1) (sizesOf n)) e (opening-at (row - stepCount) n (omega arith))
 
--- ---- the shape of a row, and what it says
-
-pub row-shape : (form k : ℕ) → k < length (rowsOf form) → Shaped (rowAt (rowsOf form) k .form)
-row-shape form k h = let r = ranged form in rw (row-in form k h) (entry-at (fromOf form + k) (omega (arith, r .count, r .order, r .high)) .shape)
+-- ---- what a row says
 
 -- the first line opens an engine in a journal of a form that is not 0; every other line makes a call
 abbrev pub SaysIn : ℕ → Says → Type 0
 SaysIn form (opens f o) = (form ≡ 0) × (f ≡ 0 → ⊥)
 SaysIn form (calls c) = form ≡ 0 → ⊥
 
-abbrev opening : Says → Bool
-opening (opens f o) = ltb 0 f
-opening (calls c) = false
+abbrev saysIn : ℕ → Says → Bool
+saysIn zero (opens f o) = ltb 0 f
+saysIn zero (calls c) = false
+saysIn (suc form) (opens f o) = false
+saysIn (suc form) (calls c) = true
 
-abbrev call : Says → Bool
-call (opens f o) = false
-call (calls c) = true
-
-opening-says : (w : Says) → opening w ≡ true → SaysIn 0 w
-opening-says (opens f o) e = (refl, λ z. omega (arith, z, ltb-true 0 f e))
-opening-says (calls c) e = absurd (let z : _≡_ {A = ℕ} 0 1 = cc in omega arith)
-
-call-says : (form : ℕ) (w : Says) → (form ≡ 0 → ⊥) → call w ≡ true → SaysIn form w
-call-says form (opens f o) n e = absurd (let z : _≡_ {A = ℕ} 0 1 = cc in omega arith)
-call-says form (calls c) n e = n
+says-in : (form : ℕ) (w : Says) → saysIn form w ≡ true → SaysIn form w
+says-in zero (opens f o) e = (refl, λ z. omega (arith, z, ltb-true 0 f e))
+says-in zero (calls c) e = never (sym e)
+says-in (suc form) (opens f o) e = never (sym e)
+says-in (suc form) (calls c) e = λ z. omega (arith, z)
 
 -- the test of each form's rows, whatever the numbers
-call-rows : (form : ℕ) (n : Numbered) → every (λ k r. call (r .says n)) 0 (rowsOf (suc form)) ≡ true
-unfolding both
-call-rows zero n = refl
-call-rows (suc form) n = refl
-
-opening-rows : (n : Numbered) → every (λ k r. opening (r .says n)) 0 (rowsOf 0) ≡ true
-unfolding both
-opening-rows n = refl
+rows-say : (form : ℕ) (n : Numbered) → every (λ k r. saysIn form (r .says n)) 0 (rowsOf form) ≡ true
+rows-say zero n = refl
+rows-say (suc zero) n = refl
+rows-say (suc (suc form)) n = refl
 
 pub row-says : (form k : ℕ) (n : Numbered) → k < length (rowsOf form) → SaysIn form (rowAt (rowsOf form) k .says n)
-row-says zero k n h = opening-says (rowAt (rowsOf 0) k .says n) (every-at (λ k r. opening (r .says n)) (rowsOf 0) 0 (opening-rows n) k h)
-row-says (suc form) k n h = call-says (suc form) (rowAt (rowsOf (suc form)) k .says n) (λ z. omega (arith, z)) (every-at (λ k r. call (r .says n)) (rowsOf (suc form)) 0 (call-rows form n) k h)
+row-says form k n h = says-in form _ (every-at (λ k r. saysIn form (r .says n)) (rowsOf form) 0 (rows-say form n) k h)

@@ -1,14 +1,15 @@
 -- From the row that was found to the answer of the line. Assumes nothing.
 use Prim.Native.Nat.{ℕ, zero, suc, _+_, _≤_, _<_, _-_}
-use mathlib.Core.{Path.{_≡_, refl, sym, _∙_, ap, subst}, List.{List, [], _∷_, _++_}, Logic.{⊎-elim, inl, inr}}
+use mathlib.Core.{Path.{_≡_, refl, _∙_, ap, subst}, List.{List, [], _∷_, _++_}, Logic.{inl, inr}}
 use native.Mathlib.Omega.{arith}
-use lib.{ListN.{length, getD, drop, List·getD-append, List·getD-eq-default}, Seq.{sets, sets-eq, getD-append-add, getD-drop}}
-use Rattle.spelling.{specs.Hex.hex, proofs.{Lists.le-or-lt, Decide.{Told, same-number}}}
-use Rattle.grammar.specs.{Form.{Part, fixed, value, number, pairs, Has, Given}, Table.{Row, rowAt, table, rowCount, numberCount}}
+use lib.{ListN.{length, getD, drop, replicate, length-replicate}, Seq.{sets, sets-eq, getD-drop}}
+use Rattle.spelling.{specs.Hex.hex, proofs.Decide.{Told, same-number}}
+use Rattle.grammar.specs.{Form.{Part, fixed, value, number, pairs, Has, Given}, Table.{rowsOf, rowAt, table, rowCount, numberCount, fromOf, toOf}}
 use Rattle.grammar.specs.Line.{said, Matches, LineOf, noForm, wrongNumber, wrongData, spelt}
-use Rattle.grammar.specs.Scan.{zeros, RowAt, Scans, formOf, valuesIn, nothingRead, Fails, FoundIn, nowhere, here, answerOf, RowFound}
+use Rattle.grammar.specs.Scan.{RowAt, Scans, formOf, valuesIn, nothingRead, Fails, FoundIn, nowhere, here, answerOf, RowFound}
 use Rattle.grammar.specs.declared.Found.{Found}
 use Rattle.grammar.proofs.{Outcome.{Outcome, fails, badNumber, badData, fine, outcome-of, fails-of}, Rows.{lineTag, entry-at, same-tag}}
+use Rattle.grammar.proofs.Forms.{ranged, row-place, row-in, in-table}
 
 -- ---- the numbers that were read, as the row's numbers
 
@@ -21,25 +22,20 @@ given-count (value number ∷ p) [] bs g = absurd g
 given-count (value number ∷ p) (n ∷ ns) bs g = omega (arith, given-count p ns bs (g .1))
 given-count (value pairs ∷ p) ns bs g = rw (g .0) (omega arith)
 
+-- the numbers, with zeros past them, are the same numbers
+padded : (ns zs : List ℕ) → ((i : ℕ) → getD zs i 0 ≡ 0) → (i : ℕ) → getD (ns ++ zs) i 0 ≡ getD ns i 0
+padded [] zs h i = h i
+padded (n ∷ ns) zs h zero = refl
+padded (n ∷ ns) zs h (suc i) = padded ns zs h i
+
+-- no numbers yet
+abbrev zeros : ℕ → List ℕ
+zeros n = replicate n 0
+
 zero-at : (n i : ℕ) → getD (zeros n) i 0 ≡ 0
 zero-at zero i = refl
 zero-at (suc n) zero = refl
 zero-at (suc n) (suc i) = zero-at n i
-
-zeros-count : (n : ℕ) → length (zeros n) ≡ n
-zeros-count zero = refl
-zeros-count (suc n) = ap suc (zeros-count n)
-
--- the elements hold the numbers, and zeros past them
-padded : (m : ℕ) (ns : List ℕ) → length ns ≤ m → (i : ℕ) → getD (sets (zeros m) 0 ns) i 0 ≡ getD ns i 0
-padded m ns h i =
-    ap (λ (l : List ℕ). getD l i 0) (sets-eq ns (zeros m) 0 (omega (arith, zeros-count m)))
-    ∙ ⊎-elim
-    (λ a. let e : length ns + (i - length ns) ≡ i = omega arith in
-    ap (λ (k : ℕ). getD (ns ++ drop (0 + length ns) (zeros m)) k 0) (sym e) ∙ getD-append-add ns (drop (0 + length ns) (zeros m)) (i - length ns) 0 ∙ getD-drop (0 + length ns) (zeros m) (i - length ns) 0
-    ∙ zero-at m (0 + length ns + (i - length ns)) ∙ sym (List·getD-eq-default ns 0 {n = i} a))
-    (λ a. List·getD-append ns (drop (0 + length ns) (zeros m)) 0 i a)
-    (le-or-lt (length ns) i)
 
 abbrev numbered : List ℕ → ℕ → ℕ
 numbered ns = λ i. getD ns i 0
@@ -47,45 +43,54 @@ numbered ns = λ i. getD ns i 0
 numbers-same : (f g : ℕ → ℕ) → ((i : ℕ) → f i ≡ g i) → f ≡ g
 numbers-same f g h = λ j i. h i j
 
--- ---- the answer by a part of the table
+numbers-read : (m : ℕ) (ns : List ℕ) → length ns ≤ m → numbered (sets (zeros m) 0 ns) ≡ numbered ns
+numbers-read m ns h =
+    let zs = drop (0 + length ns) (zeros m) in
+    rw (sets-eq ns (zeros m) 0 (rw length-replicate (omega arith))) (numbers-same _ _ (padded ns zs (λ i. getD-drop (0 + length ns) (zeros m) i 0 ∙ zero-at m (0 + length ns + i))))
 
-module _ (rows : List Row) (from to : ℕ) (count : length rows ≡ to - from) (below : to ≤ rowCount) (same : (k : ℕ) → k < length rows → rowAt rows k ≡ rowAt table (from + k)) where
-  -- the row at an index of the table, as a row of this part
-  part-row : (row : ℕ) → from ≤ row → row < to → rowAt rows (row - from) ≡ rowAt table row
-  part-row row a b =
-      let n : from + (row - from) ≡ row = omega arith in
-      same (row - from) (omega arith) ∙ ap (rowAt table) n
+-- ---- the answer by the rows of a form of journal
 
-  part-fits : (s : List ℕ) (vs : List (List ℕ)) (row : ℕ) → from ≤ row → row < to → Has s (formOf row) vs → Matches rows s (row - from) vs
-  part-fits s vs row a b h = record { listed = omega arith; has = rw (part-row row a b) h }
+module _ (form : ℕ) (s : List ℕ) (short : length s ≤ 200) where
+  none-listed : ((k : ℕ) → fromOf form ≤ k → k < toOf form → Fails s (formOf k)) → (k : ℕ) (vs : List (List ℕ)) → Matches (rowsOf form) s k vs → ⊥
+  none-listed n k vs f = n (fromOf form + k) (omega arith) (row-place form k (f .listed)) vs (in-table form f)
 
-  no-fit : (s : List ℕ) → ((k : ℕ) → from ≤ k → k < to → Fails s (formOf k)) → (k : ℕ) (vs : List (List ℕ)) → Matches rows s k vs → ⊥
-  no-fit s n k vs f = n (from + k) (omega arith) (omega (arith, f .listed)) vs (subst (λ (r : Row). Has s (r .form) vs) (same k (f .listed)) (f .has))
+  -- the row at an index of the table, as a row of the form
+  module _ (f : Found) (a : fromOf form ≤ f .row) (b : f .row < toOf form) where
+    abbrev k : ℕ
+    k = f .row - fromOf form
 
-  found-answer : (s : List ℕ) (f : Found) → length s ≤ 200 → from ≤ f .row → f .row < to → Outcome s s (formOf (f .row)) (nothingRead s) (f .values) → (f .values .fault ≡ 11 → ⊥) → LineOf rows s (answerOf f (length s))
-  found-answer s f l a b (fails o n) x = absurd (x o)
-  found-answer s f l a b (badNumber vs o h k) x = rw o (wrongNumber (f .row - from) vs l (part-fits s vs (f .row) a b h) (rw (part-row (f .row) a b) k))
-  found-answer s f l a b (badData vs o h k m) x = rw o (wrongData (f .row - from) vs l (part-fits s vs (f .row) a b h) (rw (part-row (f .row) a b) k) (rw (part-row (f .row) a b) m))
-  found-answer s f l a b (fine ns bs o g k q e) x =
-      let r = entry-at (f .row) (omega arith) in
-      let c : length ns ≤ numberCount = omega (arith, given-count (formOf (f .row)) ns bs g, r .room) in
-      let n : numbered (f .values .number) ≡ numbered ns = numbers-same _ _ (λ i. rw q (padded numberCount ns c i)) in
-      let st : f .values .start ≡ length s - length (hex bs) = omega (arith, e) in
-      rw o
-      (spelt {a = said (rowAt table (f .row) .says (numbered (f .values .number))) (f .values .start) (length s)} l
-      (record {
-        k = f .row - from;
-        listed = omega arith;
-        numbers = ns;
-        bytes = bs;
-        given = rw (part-row (f .row) a b) g;
-        same = rw (part-row (f .row) a b) k;
-        answer = rw (part-row (f .row) a b, n, st);
-      }))
+    listed : k < length (rowsOf form)
+    listed = omega (arith, ranged form .count)
 
-  pub answer-line : (s : List ℕ) (f : Found) → length s ≤ 200 → FoundIn s from to f → LineOf rows s (answerOf f (length s))
-  answer-line s f l (nowhere e n) = rw e (noForm l (no-fit s n))
-  answer-line s f l (here a b d x) = found-answer s f l a b (outcome-of s (formOf (f .row)) (f .values) (entry-at (f .row) (omega arith) .shape) d) x
+    same-row : rowAt (rowsOf form) k ≡ rowAt table (f .row)
+    same-row = let n : fromOf form + k ≡ f .row = omega arith in row-in form k listed ∙ ap (rowAt table) n
+
+    matches : {vs : List (List ℕ)} → Has s (formOf (f .row)) vs → Matches (rowsOf form) s k vs
+    matches h = record { listed = listed; has = rw same-row h }
+
+    found-answer : Outcome s s (formOf (f .row)) (nothingRead s) (f .values) → (f .values .fault ≡ 11 → ⊥) → LineOf (rowsOf form) s (answerOf f (length s))
+    found-answer (fails o n) x = absurd (x o)
+    found-answer (badNumber vs o h n) x = rw o (wrongNumber k vs short (matches h) (rw same-row (λ e. omega (arith, n e))))
+    found-answer (badData vs z o h n m) x = rw o (wrongData k vs short (matches h) (rw same-row n) (rw same-row m))
+    found-answer (fine ns bs z o g t q e) x =
+        let c : length ns ≤ numberCount = omega (arith, given-count (formOf (f .row)) ns bs g, entry-at (f .row) (omega (arith, ranged form .high)) .room) in
+        let n : numbered (f .values .number) ≡ numbered ns = rw q (numbers-read numberCount ns c) in
+        let st : f .values .start ≡ length s - length (hex bs) = omega (arith, e) in
+        rw o
+        (spelt {a = said (rowAt table (f .row) .says (numbered (f .values .number))) (f .values .start) (length s)} short
+        (record {
+          k = k;
+          listed = listed;
+          numbers = ns;
+          bytes = bs;
+          given = rw same-row g;
+          same = rw same-row t;
+          answer = rw (same-row, n, st);
+        }))
+
+  pub answer-line : (f : Found) → FoundIn s (fromOf form) (toOf form) f → LineOf (rowsOf form) s (answerOf f (length s))
+  answer-line f (nowhere e n) = rw e (noForm short (none-listed n))
+  answer-line f (here a b d x) = found-answer f a b (outcome-of s (formOf (f .row)) (f .values) (entry-at (f .row) (omega (arith, ranged form .high)) .shape) d) x
 
 -- a row that was found is one of the table's
 pub row-found : (s : List ℕ) (from to : ℕ) (f : Found) → to ≤ rowCount → FoundIn s from to f → RowFound f

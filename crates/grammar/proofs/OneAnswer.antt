@@ -1,100 +1,72 @@
 -- Each line has exactly one answer. Assumes nothing.
-use Prim.Native.Nat.{ℕ, zero, suc, _+_, _-_, _≤_, _<_}
-use mathlib.Core.{Path.{_≡_, refl, subst}, List.{List, [], _∷_}, Logic.{_⊎_, inl, inr}}
+use Prim.Native.Nat.{ℕ, _+_, _-_, _≤_, _<_}
+use mathlib.Core.{Path.{_≡_, refl}, List.{List, [], _∷_}, Logic.{_⊎_, inl, inr, ⊎-elim}}
 use native.Mathlib.Omega.{arith}
 use lib.ListN.{length, getD}
-use Rattle.spelling.{specs.{Decimal.IsNumber, Hex.IsData, One.One}, proofs.{Lists.le-or-lt, Decide.{Told, same-number, number-told, data-told}}}
+use Rattle.spelling.{proofs.{Lists.le-or-lt, Decide.{number-told, data-told}}}
 use Rattle.spelling.proofs.Split.{upTo-within}
-use Rattle.grammar.specs.{Form.{Part, fixed, value, number, pairs, Has}, Table.{Row, rowAt, rowsOf, table, rowCount, fromOf, toOf}}
+use Rattle.grammar.specs.{Form.{Part, fixed, value, Value, number, pairs}, Table.{rowsOf, rowCount, fromOf, toOf}}
 use Rattle.grammar.specs.{Line.{Matches, LineOf, tooLong}, Theorems.OneAnswerTheorem}
-use Rattle.grammar.specs.Scan.{valueAt, formOf, Scans, right, wrong, ended, longer, same, other, aValue, nothingRead, withNumber}
-use Rattle.grammar.specs.{Scan.{withoutNumber, withData, withoutData, Fails, FoundIn, nowhere, here}, declared.{Line.Line, Values.Values}}
+use Rattle.grammar.specs.Scan.{valueAt, valueEnd, formOf, ValueRead, Scans, right, wrong, ended, longer, same, other, aValue, nothingRead, withNumber}
+use Rattle.grammar.specs.{Scan.{withoutNumber, withData, withoutData, FoundIn, nowhere}, declared.{Line.Line, Values.Values}}
 use Rattle.grammar.specs.declared.Found.{Found}
-use Rattle.grammar.proofs.{Fit.Shaped, Outcome.fails-of, Rows.{letters, lineTag, entry-at, row-told}, Judge.answer-line}
-use Rattle.grammar.proofs.{Forms.{ranged, row-in}, Unique.same-answer}
+use Rattle.grammar.proofs.{Walk.byte-told, Rows.{letters, lineTag, same-tag, row-by-tag}, Judge.{answer-line, none-there, found-by}}
+use Rattle.grammar.proofs.{Forms.{ranged, row-place, row-shape, in-table}, Unique.same-answer}
 
 -- ---- a line is read in some way by each form
 
 noneRead : Values
 noneRead = record { fault = 11; count = 0; number = []; start = 0 }
 
+value-read : (q : Value) (v : Values) (x : List ℕ) (at : ℕ) → (w : Values) × ValueRead q v x at w
+value-read number v x at = ⊎-elim (λ n. (withNumber v (n .0), right (n .0) (n .1) (n .2) refl)) (λ n. (withoutNumber v, wrong n refl)) (number-told x)
+value-read pairs v x at = ⊎-elim (λ d. (withData v at, right d refl)) (λ n. (withoutData v, wrong n refl)) (data-told x)
+
 reads-some : (s : List ℕ) (p : List Part) (at : ℕ) (v : Values) → at ≤ length s → (r : Values) × Scans s p at v r
 unfolding noneRead
-reads-some s [] at v h = go (le-or-lt (length s) at)
-  where
-    go : (length s ≤ at) ⊎ (at < length s) → (r : Values) × Scans s [] at v r
-    go (inl l) = (v, ended {at = at} (omega arith))
-    go (inr l) = (noneRead, longer l refl)
-reads-some s (fixed b ∷ p) at v h = go (le-or-lt (length s) at) (same-number (getD s at 0) b) (λ l. reads-some s p (at + 1) v (omega arith))
-  where
-    go : (length s ≤ at) ⊎ (at < length s) → Told (getD s at 0 ≡ b) → (at < length s → (r : Values) × Scans s p (at + 1) v r) → (r : Values) × Scans s (fixed b ∷ p) at v r
-    go (inl l) t d = (noneRead, other (λ (k : at < length s) (e : getD s at 0 ≡ b). omega arith) refl)
-    go (inr l) (inl e) d = (d l .0, same l e (d l .1))
-    go (inr l) (inr n) d = (noneRead, other (λ k e. n e) refl)
-reads-some s (value number ∷ p) at v h = go (number-told (valueAt s at)) (λ w. reads-some s p (at + length (valueAt s at)) w (upTo-within 32 s at h))
-  where
-    go : Told (IsNumber (valueAt s at)) → ((w : Values) → (r : Values) × Scans s p (at + length (valueAt s at)) w r) → (r : Values) × Scans s (value number ∷ p) at v r
-    go (inl n) d = (d (withNumber v (n .0)) .0, aValue {q = number} (right (n .0) (n .1) (n .2) refl) (d (withNumber v (n .0)) .1))
-    go (inr n) d = (d (withoutNumber v) .0, aValue {q = number} (wrong n refl) (d (withoutNumber v) .1))
-reads-some s (value pairs ∷ p) at v h = go (data-told (valueAt s at)) (λ w. reads-some s p (at + length (valueAt s at)) w (upTo-within 32 s at h))
-  where
-    go : Told (IsData (valueAt s at)) → ((w : Values) → (r : Values) × Scans s p (at + length (valueAt s at)) w r) → (r : Values) × Scans s (value pairs ∷ p) at v r
-    go (inl n) d = (d (withData v at) .0, aValue {q = pairs} (right n refl) (d (withData v at) .1))
-    go (inr n) d = (d (withoutData v) .0, aValue {q = pairs} (wrong n refl) (d (withoutData v) .1))
+reads-some s [] at v h = ⊎-elim (λ l. (v, ended {at = at} (omega arith))) (λ l. (noneRead, longer l refl)) (le-or-lt (length s) at)
+reads-some s (fixed b ∷ p) at v h =
+    ⊎-elim (λ (l, e). let r = reads-some s p (at + 1) v (omega arith) in (r .0, same l e (r .1))) (λ n. (noneRead, other (λ l e. n (l, e)) refl)) (byte-told s at b)
+reads-some s (value q ∷ p) at v h =
+    let w = value-read q v (valueAt s at) at in
+    let r = reads-some s p (valueEnd s at) (w .0) (upTo-within 32 s at h) in
+    (r .0, aValue (w .1) (r .1))
 
--- some row of a part of the table has the line, or none has it
-found-some : (s : List ℕ) (n from : ℕ) → from + n ≤ rowCount → (f : Found) × FoundIn s from (from + n) f
+-- some row of a part of the table has the line, or none has it: only one may
+found-some : (s : List ℕ) (from to : ℕ) → to ≤ rowCount → (f : Found) × FoundIn s from to f
 unfolding noneRead
-found-some s zero from h = (record { row = 0; values = noneRead }, nowhere refl (λ k a b. absurd (omega arith)))
-found-some s (suc n) from h = go (reads-some s (formOf from) 0 (nothingRead s) (omega arith)) (found-some s n (suc from) (omega arith))
+found-some s from to h = by (le-or-lt from row) (le-or-lt to row)
   where
-    past : (k : ℕ) → Fails s (formOf from) → ((j : ℕ) → suc from ≤ j → j < suc from + n → Fails s (formOf j)) → from ≤ k → k < from + suc n → (from ≡ k) ⊎ (suc from ≤ k) → Fails s (formOf k)
-    past k x g a b (inl e) = subst (λ (j : ℕ). Fails s (formOf j)) e x
-    past k x g a b (inr l) = g k l (omega arith)
+    row : ℕ
+    row = getD letters (lineTag s) 0 - 97
 
-    which : (k : ℕ) → from ≤ k → (from ≡ k) ⊎ (suc from ≤ k)
-    which k a = pick (le-or-lt k from)
-      where
-        pick : (k ≤ from) ⊎ (from < k) → (from ≡ k) ⊎ (suc from ≤ k)
-        pick (inl l) = inl (omega arith)
-        pick (inr l) = inr l
+    none : (from ≤ row → row < to → ⊥) → (f : Found) × FoundIn s from to f
+    none n = (record { row = to; values = noneRead }, nowhere refl (none-there s from to row h (row-by-tag (lineTag s)) n))
 
-    on : Fails s (formOf from) → (f : Found) → FoundIn s (suc from) (suc from + n) f → FoundIn s from (from + suc n) f
-    on x f (nowhere e g) = nowhere e (λ k a b. past k x g a b (which k a))
-    on x f (here a b d y) = here (omega arith) (omega arith) d y
-
-    by : (r : Values) → Scans s (formOf from) 0 (nothingRead s) r → Told (r .fault ≡ 11) → (f : Found) × FoundIn s (suc from) (suc from + n) f → (f : Found) × FoundIn s from (from + suc n) f
-    by r d (inl e) t = (t .0, on (fails-of s (formOf from) r (entry-at from (omega arith) .shape) d e) (t .0) (t .1))
-    by r d (inr y) t = (record { row = from; values = r }, here (omega arith) (omega arith) d y)
-
-    go : (r : Values) × Scans s (formOf from) 0 (nothingRead s) r → (f : Found) × FoundIn s (suc from) (suc from + n) f → (f : Found) × FoundIn s from (from + suc n) f
-    go (r, d) t = by r d (same-number (r .fault) 11) t
+    by : (from ≤ row) ⊎ (row < from) → (to ≤ row) ⊎ (row < to) → (f : Found) × FoundIn s from to f
+    by (inr a) t = none (λ x y. omega arith)
+    by (inl a) (inl b) = none (λ x y. omega arith)
+    by (inl a) (inr b) =
+        let r = reads-some s (formOf row) 0 (nothingRead s) (omega arith) in
+        (record { row = row; values = r .0 }, found-by s from to _ h (row-by-tag (lineTag s)) a b (r .1))
 
 -- ---- the theorem
 
-module _ (rows : List Row) (from n : ℕ) (count : length rows ≡ n) (below : from + n ≤ rowCount) (part : (k : ℕ) → k < length rows → rowAt rows k ≡ rowAt table (from + k)) where
-  shapes : (k : ℕ) → k < length rows → Shaped (rowAt rows k .form)
-  shapes k h = rw (part k h) (entry-at (from + k) (omega arith) .shape)
+some-answer : (form : ℕ) (s : List ℕ) → (a : Line) × LineOf (rowsOf form) s a
+some-answer form s =
+    ⊎-elim (λ l. let f = found-some s (fromOf form) (toOf form) (ranged form .high) in (_, answer-line form s l (f .0) (f .1))) (λ l. (_, tooLong (omega (arith, l)))) (le-or-lt (length s) 200)
 
-  told : (s : List ℕ) (k : ℕ) (vs : List (List ℕ)) → Matches rows s k vs → getD letters (lineTag s) 0 ≡ 97 + (from + k)
-  told s k vs f = row-told (from + k) s vs (omega (arith, f .listed)) (subst (λ (r : Row). Has s (r .form) vs) (part k (f .listed)) (f .has))
-
-  apart : (s : List ℕ) (j k : ℕ) (vs ws : List (List ℕ)) → Matches rows s j vs → Matches rows s k ws → j ≡ k
-  apart s j k vs ws f g = omega (arith, told s j vs f, told s k ws g)
-
-  short : (s : List ℕ) → length s ≤ 200 → (a : Line) × LineOf rows s a
-  short s l = let f = found-some s n from below in (_, answer-line rows from (from + n) (omega arith) below part s (f .0) l (f .1))
-
-  some-answer : (s : List ℕ) → (length s ≤ 200) ⊎ (200 < length s) → (a : Line) × LineOf rows s a
-  some-answer s (inl l) = short s l
-  some-answer s (inr l) = (_, tooLong (omega (arith, l)))
-
-  one : (s : List ℕ) → One (LineOf rows s)
-  one s =
-      let a = some-answer s (le-or-lt (length s) 200) in
-      record { answer = a .0; holds = a .1; only = λ b x. same-answer rows shapes apart s b (a .0) x (a .1) }
+-- the row of a line is the only one with the line's tag
+told : (form : ℕ) (s : List ℕ) (k : ℕ) (vs : List (List ℕ)) → Matches (rowsOf form) s k vs → fromOf form + k ≡ getD letters (lineTag s) 0 - 97
+told form s k vs f =
+    let h : fromOf form + k < rowCount = omega (arith, row-place form k (f .listed), ranged form .high) in
+    row-by-tag (lineTag s) (fromOf form + k) h (same-tag (fromOf form + k) s vs h (in-table form f) .1)
 
 pub one-answer-theorem : OneAnswerTheorem
 one-answer-theorem form s =
-    let r = ranged form in
-    one (rowsOf form) (fromOf form) (toOf form - fromOf form) (r .count) (omega (arith, r .order, r .high)) (row-in form) s
+    let a = some-answer form s in
+    record {
+      answer = a .0;
+      holds = a .1;
+      only = λ b x. same-answer (rowsOf form) (row-shape form) (λ s j k vs ws f g. omega (arith, told form s j vs f, told form s k ws g)) s b (a .0) x (a .1);
+    }

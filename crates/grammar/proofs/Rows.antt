@@ -1,12 +1,13 @@
 -- Laws of the table of forms: each row has the shape that reading asks, and a tag of its own.
 -- One test, computed at each row. Assumes nothing.
-use Prim.Native.Nat.{ℕ, zero, suc, _+_, _≤_, _<_}
-use mathlib.Core.{Path.{_≡_, refl, sym, _∙_, ap, ap₂, subst}, Bool.{Bool, true, false, cond}, List.{List, [], _∷_}}
+use Prim.Native.Nat.{ℕ, zero, suc, _+_, _-_, _≤_, _<_}
+use mathlib.Core.{Path.{_≡_, refl, sym, ap₂, subst}, Bool.{Bool, true, false, cond}, List.{List, [], _∷_}}
 use native.Mathlib.{Omega.arith, Nat.{le-of-suc-le-suc, not-suc-le-zero, suc-add, add-suc, add-zero, zero-add}}
-use lib.{Dec.{leb, eqb}, ListN.{length, getD}}
+use lib.{Dec.{leb, eqb, lit<}, ListN.{length, getD}}
 use borrow.Author.Tests.{leb-true, eqb-true}
+use Rattle.protocol.{specs.Pick.both, proofs.Tests.{never, both-true}}
 use Rattle.grammar.specs.{Form.{Part, fixed, value, number, pairs, Has}, Table.{Row, rowAt, table, rowCount, numberCount}}
-use Rattle.grammar.specs.Scan.{formOf, byteOf, tagOf, rowTag, valuesIn}
+use Rattle.grammar.specs.Scan.{formOf, byteOf, tagOf, rowTag, valuesIn, RowAt}
 use Rattle.grammar.proofs.Fit.{Edged, Shaped, byte-only}
 
 -- ---- the code's table of tags, as the rows of the definitions make it
@@ -31,20 +32,6 @@ letter-high tag (suc n) (suc k) h = letter-high (suc tag) n k (le-of-suc-le-suc 
 
 -- ---- tests on a form
 
-unfoldable pub both : Bool → Bool → Bool
-both true b = b
-both false b = false
-
-both-left : (a b : Bool) → both a b ≡ true → a ≡ true
-unfolding both
-both-left true b e = refl
-both-left false b e = e
-
-both-right : (a b : Bool) → both a b ≡ true → b ≡ true
-unfolding both
-both-right true b e = e
-both-right false b e = absurd (let z : _≡_ {A = ℕ} 0 1 = cc in omega arith)
-
 -- the first n parts are fixed text
 abbrev pub fixedUpTo : ℕ → List Part → Bool
 fixedUpTo zero p = true
@@ -67,30 +54,25 @@ shaped (value pairs ∷ (x ∷ p)) = false
 edged-is : (p : List Part) → edged p ≡ true → Edged p
 edged-is [] e = tt
 edged-is (fixed b ∷ p) e = eqb-true b 32 e
-edged-is (value q ∷ p) e = let z : _≡_ {A = ℕ} 0 1 = cc in omega arith
+edged-is (value q ∷ p) e = never (sym e)
 
 shaped-is : (p : List Part) → shaped p ≡ true → Shaped p
 unfolding shaped
 shaped-is [] e = tt
 shaped-is (fixed b ∷ p) e = shaped-is p e
-shaped-is (value number ∷ p) e = (edged-is p (both-left (edged p) (shaped p) e), shaped-is p (both-right (edged p) (shaped p) e))
+shaped-is (value number ∷ p) e = let t = both-true (edged p) (shaped p) e in (edged-is p (t .0), shaped-is p (t .1))
 shaped-is (value pairs ∷ []) e = refl
-shaped-is (value pairs ∷ (x ∷ p)) e = absurd (let z : _≡_ {A = ℕ} 0 1 = cc in omega arith)
-
-pub fixed-fewer : (n : ℕ) (p : List Part) → fixedUpTo (suc n) p ≡ true → fixedUpTo n p ≡ true
-fixed-fewer zero p e = refl
-fixed-fewer (suc n) [] e = e
-fixed-fewer (suc n) (fixed b ∷ p) e = fixed-fewer n p e
-fixed-fewer (suc n) (value q ∷ p) e = e
+shaped-is (value pairs ∷ (x ∷ p)) e = never (sym e)
 
 -- a line that has a form has its fixed text
-pub byte-at : (i : ℕ) (s : List ℕ) (p : List Part) (vs : List (List ℕ)) → fixedUpTo (suc i) p ≡ true → Has s p vs → (i < length s) × (getD s i 0 ≡ byteOf (getD p i (fixed 0)))
-byte-at i s [] vs e h = absurd (let z : _≡_ {A = ℕ} 0 1 = cc in omega arith)
-byte-at i s (value q ∷ p) vs e h = absurd (let z : _≡_ {A = ℕ} 0 1 = cc in omega arith)
-byte-at zero s (fixed b ∷ p) vs e h = let d = byte-only s b p vs h in rw (d .1) (omega arith, refl)
-byte-at (suc i) s (fixed b ∷ p) vs e h =
+byte-at : (n i : ℕ) (s : List ℕ) (p : List Part) (vs : List (List ℕ)) → i < n → fixedUpTo n p ≡ true → Has s p vs → (i < length s) × (getD s i 0 ≡ byteOf (getD p i (fixed 0)))
+byte-at zero i s p vs l e h = absurd (not-suc-le-zero l)
+byte-at (suc n) i s [] vs l e h = never (sym e)
+byte-at (suc n) i s (value q ∷ p) vs l e h = never (sym e)
+byte-at (suc n) zero s (fixed b ∷ p) vs l e h = let d = byte-only s b p vs h in rw (d .1) (omega arith, refl)
+byte-at (suc n) (suc i) s (fixed b ∷ p) vs l e h =
     let d = byte-only s b p vs h in
-    let r = byte-at i (d .0) p vs e (d .2) in
+    let r = byte-at n i (d .0) p vs (le-of-suc-le-suc l) e (d .2) in
     rw (d .1) (omega (arith, r .0), r .1)
 
 -- ---- the test of a row, and what it shows
@@ -108,15 +90,11 @@ pub record Entry (k : ℕ) (r : Row) : Type 0 where
 
 entry : (k : ℕ) (r : Row) → fits k r ≡ true → Entry k r
 unfolding fits
-entry k r t0 =
-    let t1 = both-right _ _ t0 in
-    let t2 = both-right _ _ t1 in
-    record {
-      room = leb-true _ _ (both-left _ _ t0);
-      head = both-left _ _ t1;
-      shape = shaped-is (r .form) (both-left _ _ t2);
-      found = eqb-true _ _ (both-right _ _ t2);
-    }
+entry k r t =
+    let a = both-true _ _ t in
+    let b = both-true _ _ (a .1) in
+    let c = both-true _ _ (b .1) in
+    record { room = leb-true _ _ (a .0); head = b .0; shape = shaped-is (r .form) (c .0); found = eqb-true _ _ (c .1) }
 
 -- the test f passes at each row and its index, counted from i
 abbrev pub every : (ℕ → Row → Bool) → ℕ → List Row → Bool
@@ -125,15 +103,15 @@ every f i (r ∷ rs) = both (f i r) (every f (suc i) rs)
 
 pub every-at : (f : ℕ → Row → Bool) (rows : List Row) (i : ℕ) → every f i rows ≡ true → (k : ℕ) → k < length rows → f (k + i) (rowAt rows k) ≡ true
 every-at f [] i a k h = absurd (not-suc-le-zero h)
-every-at f (r ∷ rows) i a zero h = rw (zero-add i) (both-left _ _ a)
-every-at f (r ∷ rows) i a (suc k) h = rw (suc-add k i, ← add-suc k i) (every-at f rows (suc i) (both-right _ _ a) k (le-of-suc-le-suc h))
+every-at f (r ∷ rows) i a zero h = rw (zero-add i) (both-true (f i r) _ a .0)
+every-at f (r ∷ rows) i a (suc k) h = rw (suc-add k i, ← add-suc k i) (every-at f rows (suc i) (both-true (f i r) _ a .1) k (le-of-suc-le-suc h))
 
 -- the table has as many rows as the code says, and each passes
 counted : length table ≡ rowCount
 counted = refl
 
 tested : every fits 0 table ≡ true
-unfolding fits valuesIn both shaped
+unfolding fits valuesIn shaped
 tested = refl
 
 pub entry-at : (k : ℕ) → k < rowCount → Entry k (rowAt table k)
@@ -148,23 +126,23 @@ lineTag s = tagOf (getD s 6 0) (getD s 7 0)
 pub same-tag : (k : ℕ) (s : List ℕ) (vs : List (List ℕ)) → k < rowCount → Has s (formOf k) vs → (7 < length s) × (rowTag (rowAt table k) ≡ lineTag s)
 same-tag k s vs h f =
     let e = entry-at k h .head in
-    let a = byte-at 6 s (formOf k) vs (fixed-fewer 7 (formOf k) e) f in
-    let b = byte-at 7 s (formOf k) vs e f in
+    let a = byte-at 8 6 s (formOf k) vs (lit< tt) e f in
+    let b = byte-at 8 7 s (formOf k) vs (lit< tt) e f in
     (b .0, sym (ap₂ tagOf (a .1) (b .1)))
 
--- TWO ROWS NEVER HAVE THE SAME LINE: the row is told by the tag
-pub row-told : (k : ℕ) (s : List ℕ) (vs : List (List ℕ)) → k < rowCount → Has s (formOf k) vs → getD letters (lineTag s) 0 ≡ 97 + k
-row-told k s vs h f = ap (λ (m : ℕ). getD letters m 0) (sym (same-tag k s vs h f .1)) ∙ entry-at k h .found
+-- TWO ROWS NEVER HAVE THE SAME LINE: the only row with a tag is the one whose letter the code's table has there
+pub row-by-tag : (tag : ℕ) → RowAt tag (getD letters tag 0 - 97)
+row-by-tag tag k h e = omega (arith, rw e at (entry-at k h .found))
 
 -- ---- a match on a number
 
--- a number that is none of k in a row, from a on
-unfoldable pub Others : ℕ → ℕ → ℕ → Type 0
-Others a n zero = Unit
-Others a n (suc k) = Others a n k × (n ≡ a + k → ⊥)
+-- a number that is none of the first k
+unfoldable pub Others : ℕ → ℕ → Type 0
+Others n zero = Unit
+Others n (suc k) = Others n k × (n ≡ k → ⊥)
 
 -- it is past them
-pub past : (a n k : ℕ) → a ≤ n → Others a n k → a + k ≤ n
+pub past : (n k : ℕ) → Others n k → k ≤ n
 unfolding Others
-past a n zero h o = omega arith
-past a n (suc k) h o = let p = past a n k h (o .0) in let x = o .1 in omega arith
+past n zero o = omega arith
+past n (suc k) o = let p = past n k (o .0) in let x = o .1 in omega arith

@@ -6,7 +6,7 @@ use lib.ListN.{length, getD}
 use Rattle.spelling.specs.{Bytes.{All, Byte, upTo}, Decimal.{decimal, greatest}, Hex.{hex, HexDigit}}
 use Rattle.spelling.proofs.{DecimalLaws.{Digit, decimal-digits, decimal-injective}, HexLaws.{hex-digits, hex-injective}}
 use Rattle.grammar.specs.Form.{Part, fixed, value, Value, number, pairs, Each, NoBlank, Has, RightNumber, RightData, Given, spellings, spell}
-use Rattle.grammar.specs.{Table.{Row, rowAt}, Line.{said, Matches, LineOf, tooLong, noForm, wrongNumber, wrongData, spelt}}
+use Rattle.grammar.specs.{Table.{Row, rowAt}, Line.{said, Matches, NumbersRight, DataRight, LineOf, tooLong, noForm, wrongNumber, wrongData, spelt}}
 use Rattle.grammar.specs.declared.Line.{Line, the-variants.Refused}
 use Rattle.grammar.proofs.Fit.{Shaped, edge-after, shaped-after, byte-only, value-only}
 
@@ -80,8 +80,8 @@ spellings-injective (value pairs ∷ p) ns ms bs cs h g k e =
 module _ (rows : List Row) (shapes : (k : ℕ) → k < length rows → Shaped (rowAt rows k .form)) (apart : (s : List ℕ) (j k : ℕ) (vs ws : List (List ℕ)) → Matches rows s j vs → Matches rows s k ws → j ≡ k) where
   -- what the answer b makes of a line with the form of row k and the values vs
   data Judged (s : List ℕ) (k : ℕ) (vs : List (List ℕ)) (b : Line) : Type 0 where
-    number-wrong : b ≡ Refused 12 → (Each RightNumber (rowAt rows k .form) vs → ⊥) → Judged s k vs b
-    data-wrong : b ≡ Refused 13 → Each RightNumber (rowAt rows k .form) vs → (Each RightData (rowAt rows k .form) vs → ⊥) → Judged s k vs b
+    number-wrong : b ≡ Refused 12 → (NumbersRight rows k vs → ⊥) → Judged s k vs b
+    data-wrong : b ≡ Refused 13 → NumbersRight rows k vs → (DataRight rows k vs → ⊥) → Judged s k vs b
     right : (ns bs : List ℕ) → Given (rowAt rows k .form) ns bs → vs ≡ spellings (rowAt rows k .form) ns bs → b ≡ said (rowAt rows k .says (λ i. getD ns i 0)) (length s - length (hex bs)) (length s) → Judged s k vs b
 
   -- an answer, seen by whether a row has the line

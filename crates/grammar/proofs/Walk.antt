@@ -1,10 +1,10 @@
 -- A line read against a form, a text and a value at a time: what holds before each key, and that each key keeps it. Assumes nothing.
 use Prim.Native.Nat.{ℕ, zero, suc, _+_, _/_, _%_, _≤_, _<_, _-_, suc-le-suc}
-use mathlib.Core.{Path.{_≡_, refl, subst}, List.{List, [], _∷_}, Logic.{_⊎_, inl, inr}}
+use mathlib.Core.{Path.{_≡_, refl, subst}, List.{List, [], _∷_}, Logic.⊎-elim}
 use native.Mathlib.{Omega.arith, Nat.{add-zero, le-of-suc-le-suc}}
 use lib.ListN.{length, getD, take, drop}
-use Rattle.spelling.{specs.Bytes.Below, proofs.{Lists.le-or-lt, Decide.{Told, same-number}, Split.{upTo-within, upTo-part}}}
-use Rattle.grammar.specs.{Form.{Part, fixed, value, Value, number, pairs}, Table.numberCount}
+use Rattle.spelling.{specs.Bytes.Below, proofs.{Decide.{Told, at-most, told-both, same-number}, Split.{upTo-within, upTo-part}}}
+use Rattle.grammar.specs.{Form.{Part, value, Value, number, pairs}, Table.numberCount}
 use Rattle.grammar.specs.Scan.{valueAt, texted, keyText, keyValue, fieldParts, TextAt, After, there, elsewhere, Filled, ValueRead, Scans}
 use Rattle.grammar.specs.{Scan.{right, wrong, ended, longer, same, other, aValue, nothingRead}, declared.Values.Values}
 
@@ -25,6 +25,10 @@ module _ (s : List ℕ) (b : ℕ) (t : List ℕ) (at : ℕ) where
       go zero m = rw (add-zero at) e
       go (suc k) m = let x : at + 1 + k ≡ at + suc k = omega arith in subst (λ (n : ℕ). getD s n 0 ≡ getD t k 0) x (h .1 k (le-of-suc-le-suc m))
 
+-- whether a byte is in the line at an offset
+pub byte-told : (s : List ℕ) (at b : ℕ) → Told ((at < length s) × (getD s at 0 ≡ b))
+byte-told s at b = told-both (at-most (suc at) (length s)) (same-number (getD s at 0) b)
+
 -- a text that is there, and what is read after it
 pub text-read : (s t : List ℕ) (p : List Part) (at : ℕ) (v r : Values) → TextAt s at t → Scans s p (at + length t) v r → Scans s (texted t p) at v r
 text-read s [] p at v r h d = subst (λ (m : ℕ). Scans s p m v r) (add-zero at) d
@@ -36,12 +40,7 @@ text-read s (b ∷ t) p at v r h d =
 pub text-missing : (s t : List ℕ) (p : List Part) (at : ℕ) (v r : Values) → at ≤ length s → (TextAt s at t → ⊥) → r .fault ≡ 11 → Scans s (texted t p) at v r
 text-missing s [] p at v r h n f = absurd (n (omega arith, λ k l. absurd (omega arith)))
 text-missing s (b ∷ t) p at v r h n f =
-    go (le-or-lt (length s) at) (same-number (getD s at 0) b) (λ l e. text-missing s t p (at + 1) v r (omega arith) (λ x. n (whole-text s b t at l e x)) f)
-  where
-    go : (length s ≤ at) ⊎ (at < length s) → Told (getD s at 0 ≡ b) → (at < length s → getD s at 0 ≡ b → Scans s (texted t p) (at + 1) v r) → Scans s (fixed b ∷ texted t p) at v r
-    go (inl l) x d = other (λ (k : at < length s) (e : getD s at 0 ≡ b). omega arith) f
-    go (inr l) (inl e) d = same l e (d l e)
-    go (inr l) (inr x) d = other (λ k e. x e) f
+    ⊎-elim (λ (l, e). same l e (text-missing s t p (at + 1) v r (omega arith) (λ x. n (whole-text s b t at l e x)) f)) (λ x. other (λ l e. x (l, e)) f) (byte-told s at b)
 
 -- a kind, and the keys after it
 pub kind-read : (s t : List ℕ) (p : List Part) (head : ℕ) (r : Values) → 0 < length t → After s 0 t head → Filled s head p r → Scans s (texted t p) 0 (nothingRead s) r

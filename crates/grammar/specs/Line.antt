@@ -16,6 +16,13 @@ pub record Matches (rows : List Row) (s : List ℕ) (k : ℕ) (vs : List (List �
   pub listed : k < length rows
   pub has : Has s (rowAt rows k .form) vs
 
+-- the values vs of a line of the row at k are right: where an N is, and where an H is
+abbrev pub NumbersRight : List Row → ℕ → List (List ℕ) → Type 0
+NumbersRight rows k vs = Each RightNumber (rowAt rows k .form) vs
+
+abbrev pub DataRight : List Row → ℕ → List (List ℕ) → Type 0
+DataRight rows k vs = Each RightData (rowAt rows k .form) vs
+
 -- the line s spells what a row says of these numbers and bytes; data are at the line's end
 pub record Spelt (rows : List Row) (s : List ℕ) (a : Line) : Type 0 where
   pub k : ℕ
@@ -33,9 +40,9 @@ pub data LineOf (rows : List Row) (s : List ℕ) : Line → Type 0 where
   -- 11 not a form of the grammar
   noForm : length s ≤ 200 → ((k : ℕ) (vs : List (List ℕ)) → Matches rows s k vs → ⊥) → LineOf rows s (Refused 11)
   -- 12 a form, with a value that is no number where an N is
-  wrongNumber : (k : ℕ) (vs : List (List ℕ)) → length s ≤ 200 → Matches rows s k vs → (Each RightNumber (rowAt rows k .form) vs → ⊥) → LineOf rows s (Refused 12)
+  wrongNumber : (k : ℕ) (vs : List (List ℕ)) → length s ≤ 200 → Matches rows s k vs → (NumbersRight rows k vs → ⊥) → LineOf rows s (Refused 12)
   -- 13 a form whose numbers are right, with a value that is no data where an H is
-  wrongData : (k : ℕ) (vs : List (List ℕ)) → length s ≤ 200 → Matches rows s k vs → Each RightNumber (rowAt rows k .form) vs → (Each RightData (rowAt rows k .form) vs → ⊥) → LineOf rows s (Refused 13)
+  wrongData : (k : ℕ) (vs : List (List ℕ)) → length s ≤ 200 → Matches rows s k vs → NumbersRight rows k vs → (DataRight rows k vs → ⊥) → LineOf rows s (Refused 13)
   -- no refusal: the line spells the answer
   spelt : {a : Line} → length s ≤ 200 → Spelt rows s a → LineOf rows s a
 

@@ -2,7 +2,7 @@
 -- alone. Assumes nothing.
 use Prim.Native.Nat.{ℕ, zero, suc, _+_, _*_, _/_, _%_, _≤_, _<_}
 use mathlib.Core.{Path._≡_, Bool.cond, List.{List, [], _∷_}}
-use lib.{Dec.eqb, ListN.{length, drop, getD, set}}
+use lib.{Dec.eqb, ListN.{length, drop, getD, set, replicate}}
 use Rattle.spelling.specs.{Bytes.{upTo, Below}, Text.text, Decimal.{decimal, greatest, IsNumber}, Hex.IsData}
 use Rattle.grammar.specs.{Form.{Part, fixed, value, Value, number, pairs, Has}, Line.said}
 use Rattle.grammar.specs.{Table.{calls, Row, rowAt, table, numberCount, rowCount}, declared.{Line.{Line, the-variants.Refused}, Values.Values}}
@@ -12,6 +12,10 @@ use Rattle.protocol.specs.declared.Call.{Call}
 -- the value that starts at an offset of a line: up to the next blank or the end
 abbrev pub valueAt : List ℕ → ℕ → List ℕ
 valueAt s at = upTo 32 (drop at s)
+
+-- the offset where it ends
+abbrev pub valueEnd : List ℕ → ℕ → ℕ
+valueEnd s at = at + length (valueAt s at)
 
 -- how many values a form has
 unfoldable pub valuesIn : List Part → ℕ
@@ -56,16 +60,11 @@ pub data Scans (s : List ℕ) : List Part → ℕ → Values → Values → Type
   longer : {at : ℕ} {v r : Values} → at < length s → r .fault ≡ 11 → Scans s [] at v r
   same : {p : List Part} {b at : ℕ} {v r : Values} → at < length s → getD s at 0 ≡ b → Scans s p (at + 1) v r → Scans s (fixed b ∷ p) at v r
   other : {p : List Part} {b at : ℕ} {v r : Values} → (at < length s → getD s at 0 ≡ b → ⊥) → r .fault ≡ 11 → Scans s (fixed b ∷ p) at v r
-  aValue : {p : List Part} {q : Value} {at : ℕ} {v w r : Values} → ValueRead q v (valueAt s at) at w → Scans s p (at + length (valueAt s at)) w r → Scans s (value q ∷ p) at v r
-
--- no numbers yet
-abbrev pub zeros : ℕ → List ℕ
-zeros zero = []
-zeros (suc n) = 0 ∷ zeros n
+  aValue : {p : List Part} {q : Value} {at : ℕ} {v w r : Values} → ValueRead q v (valueAt s at) at w → Scans s p (valueEnd s at) w r → Scans s (value q ∷ p) at v r
 
 -- nothing read yet: the data, if there are none, are the empty part at the line's end
 abbrev pub nothingRead : List ℕ → Values
-nothingRead s = record { fault = 0; count = 0; number = zeros numberCount; start = length s }
+nothingRead s = record { fault = 0; count = 0; number = replicate numberCount 0; start = length s }
 
 -- ---- a form by its kind and its keys
 

@@ -83,7 +83,7 @@ formCount = 2
 
 -- the rows of a form of journal are those from one up to another
 abbrev pub fromOf : ℕ → ℕ
-fromOf form = getD (9 ∷ 0 ∷ []) form 0
+fromOf form = getD (stepCount ∷ 0 ∷ []) form 0
 
 abbrev pub toOf : ℕ → ℕ
-toOf form = getD (10 ∷ 9 ∷ []) form 0
+toOf form = getD (rowCount ∷ stepCount ∷ []) form 0

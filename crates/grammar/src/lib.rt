@@ -6,10 +6,10 @@
 // one part of the table, from one row up to another. Texts are named where they are compared, and not in a table of texts, since a
 // constant array is made anew at each use.
 ghost use mathlib.Core.{Path._≡_, Bool.cond};
-ghost use Prim.Native.Nat.{_≤_, _<_};
-ghost use lib.{Dec.eqb, ListN.length};
+ghost use Prim.Native.Nat.{_≤_, _<_, _-_};
+ghost use lib.{Dec.eqb, ListN.{length, take, drop}};
 ghost use Rattle.grammar.specs.Scan.{tagOf, RowAt, formOf, keyText, fieldParts, After, Filled, Scans, nothingRead, FoundIn, answerOf};
-ghost use Rattle.grammar.specs.{Scan.{RowFound, Called}, Table.{rowsOf, numberCount, stepCount, rowCount, formCount, fromOf, toOf}};
+ghost use Rattle.grammar.specs.{Scan.{RowFound, Called, keyValue, ValueRead}, Table.{rowsOf, numberCount, stepCount, rowCount, formCount, fromOf, toOf}};
 ghost use Rattle.grammar.specs.Line.{LineOf, numberOf};
 use protocol::Call;
 use protocol::Opening;
@@ -32,18 +32,20 @@ pub enum Line {
     Refused(u32),
 }
 
-// How many of the rows are steps (the others are first lines), how many numbers a line has at most, and how many forms of journal there
-// are, where the first line is due counted as one (`stepCount`, `numberCount` and `formCount` of specs/Table.antt).
+// How many of the rows are steps, and how many there are with the first lines; how many numbers a line has at most; how many forms of
+// journal there are, where the first line is due counted as one (`stepCount`, `rowCount`, `numberCount`, `formCount` of specs/Table.antt).
 const STEPS: usize = 9;
+
+const ROWS: usize = STEPS + 1;
 
 const NUMBERS: usize = 4;
 
 const FORMS: u32 = 2;
 
 // The rows of each form of journal: from one up to another.
-const FROM: [u8; 2] = [9, 0];
+const FROM: [usize; 2] = [STEPS, 0];
 
-const TO: [u8; 2] = [10, 9];
+const TO: [usize; 2] = [ROWS, STEPS];
 
 // The row of each tag, as a letter from a on; ~, which is no row's, where there is none. The tag of a line or a form is 15 times its
 // seventh byte and its eighth, modulo 32: no two rows have the same.
@@ -114,6 +116,34 @@ fn wrong_data(fault: u32) -> u32
     if fault == 0 { 13 } else { fault }
 }
 
+// The values with one more: the part of the line from `start` to `end`, which is the value of a key.
+fn with_value(v: Values, line: &[u8], key: u32, start: usize, end: usize) -> Values
+    requires { ⌜ (start ≤ end) × (end ≤ length (now line)) × (v .count < numberCount) ⌝ }
+    ensures { λ r. ⌜ ValueRead (keyValue key) v (take (end - start) (drop start (now (line .entry)))) start r ⌝ }
+{
+    let mut next = v;
+    if key == 3 {
+        if spelling::is_data(&line[start..end]) {
+            next.start = start;
+            return next;
+        }
+        next.fault = wrong_data(v.fault);
+        return next;
+    }
+    match spelling::read_number(&line[start..end]) {
+        Number::Value(n) => {
+            let count = v.count;
+            next.number[count] = n;
+            next.count = count + 1;
+            next
+        }
+        Number::Wrong => {
+            next.fault = 12;
+            next
+        }
+    }
+}
+
 // The line read from `head` on, where its kind ends (0: it is of another kind), against `fields` keys, each with its value. The keys'
 // numbers are the digits of `keys` to base 16, the last one first.
 fn fill(line: &[u8], head: usize, fields: usize, keys: u32) -> Values
@@ -123,10 +153,12 @@ fn fill(line: &[u8], head: usize, fields: usize, keys: u32) -> Values
     if head == 0 {
         return no_form();
     }
-    let mut fault: u32 = 0;
-    let mut count: usize = 0;
-    let mut number = [0u32; NUMBERS];
-    let mut start = line.len();
+    let mut values = Values {
+        fault: 0,
+        count: 0,
+        number: [0u32; NUMBERS],
+        start: line.len(),
+    };
     let mut at = head;
     let mut left = fields;
     let mut rest = keys;
@@ -137,37 +169,14 @@ fn fill(line: &[u8], head: usize, fields: usize, keys: u32) -> Values
             return no_form();
         }
         at = spelling::run_end(line, a, b' ');
+        values = with_value(values, line, key, a, at);
         left -= 1;
         rest = rest / 16;
-        if key == 3 {
-            if spelling::is_data(&line[a..at]) {
-                start = a;
-                continue;
-            }
-            fault = wrong_data(fault);
-            continue;
-        }
-        match spelling::read_number(&line[a..at]) {
-            Number::Value(n) => {
-                number[count] = n;
-                count += 1;
-                continue;
-            }
-            Number::Wrong => {
-                fault = 12;
-                continue;
-            }
-        }
     }
     if at < line.len() {
         return no_form();
     }
-    Values {
-        fault,
-        count,
-        number,
-        start,
-    }
+    values
 }
 
 // The line read against the form of a row: its kind, how many values it has, and the numbers of their keys.
@@ -208,14 +217,14 @@ fn from_row(form: u32) -> usize
     requires { ⌜ form < formCount ⌝ }
     ensures { λ r. ⌜ r ≡ fromOf form ⌝ }
 {
-    wide(FROM[form as usize])
+    FROM[form as usize]
 }
 
 fn to_row(form: u32) -> usize
     requires { ⌜ form < formCount ⌝ }
     ensures { λ r. ⌜ r ≡ toOf form ⌝ }
 {
-    wide(TO[form as usize])
+    TO[form as usize]
 }
 
 // The row whose form a line has, and what was read by it.

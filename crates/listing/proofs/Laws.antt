@@ -5,8 +5,8 @@ use native.Mathlib.Omega.{arith}
 use lib.{ListN.{length, take, drop, length-append, length-drop, drop-of-length-le}, Seq.take-all}
 use borrow.Author.Tests.{le-leb}
 use Rattle.spelling.specs.{Over.{over, PutAt, PutBefore}, Decimal.decimal, Hex.hex, Text.text, declared.Put.{Put, the-variants.{End, Short}}}
-use Rattle.spelling.proofs.OverLaws.{over-from, over-length, over-append, before-place, before-laid, before-from, decimal-short, put-done, put-short}
-use Rattle.spelling.proofs.HexLaws.{hex-length}
+use Rattle.spelling.proofs.OverLaws.{over-from, over-length, over-append, before-place, before-laid, before-from, put-done, put-short}
+use Rattle.spelling.proofs.{DecimalLaws.decimal-short, HexLaws.hex-length}
 use Rattle.protocol.specs.{declared.Name.Name, Step.fence}
 use Rattle.listing.specs.{Record.{nameText, doneText, commitText}, Back.{Room, Field, Tail, three, access, doneEnd}}
 
@@ -105,10 +105,7 @@ four a b c d e f g h t x y = simp append-assoc
 -- the place, and the end that names what was done
 pub done-line :
     (d : Name) {old : List ℕ} {end n : ℕ} {new : List ℕ} {r : ℕ} → drop end old ≡ doneEnd d → Field old end (text "n=") n new r → take (128 - r) (drop r new) ≡ doneText n d
-done-line d {n = n} e f = first f e ∙ regroup (text "n=") (decimal n) (text " done=") (nameText d) (text "\n")
-  where
-    regroup : (a b c d e : List ℕ) → a ++ (b ++ (c ++ d ++ e)) ≡ a ++ b ++ c ++ d ++ e
-    regroup a b c d e = simp append-assoc
+done-line d e f = first f e ∙ simp append-assoc
 
 -- a load's or a store's record, from the text of its kind
 pub access-text :

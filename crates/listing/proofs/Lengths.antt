@@ -6,7 +6,7 @@ use lib.ListN.{length, length-append}
 use Rattle.protocol.specs.declared.{Place.Place, Name.{Name, the-variants.{Open, Ask, Recall, Share, Renew, Own, Drop, Evict, Advance, Yield, Take}}}
 use Rattle.protocol.specs.declared.{Counts.Counts, Answer.{Answer, the-variants.{Refused, Done, Commit}}, Kind.the-variants.{Load, Store, Fence}}
 use Rattle.protocol.specs.Step.{meaning}
-use Rattle.spelling.proofs.{OverLaws.decimal-short, HexLaws.hex-length}
+use Rattle.spelling.proofs.{DecimalLaws.decimal-short, HexLaws.hex-length}
 use Rattle.listing.specs.{Record.{nameText, recordText, endText}, Back.doneEnd}
 
 name-length : (d : Name) → length (nameText d) ≤ 7

@@ -9,8 +9,7 @@ use Rattle.spelling.proofs.Lists.{le-or-lt, all-append, all-at}
 
 -- n has at most k + 1 digits
 abbrev Below : ℕ → ℕ → Type 0
-Below zero n = n < 10
-Below (suc k) n = Below k (n / 10)
+Below k n = n < 10 ^ suc k
 
 -- the greatest number of 64 bits
 abbrev pub widest : ℕ
@@ -19,12 +18,8 @@ widest = 18446744073709551615
 tenth : (p n : ℕ) → n < p * 10 → n / 10 < p
 tenth p n h = omega arith
 
-below : (k n : ℕ) → n < 10 ^ suc k → Below k n
-below zero n h = h
-below (suc k) n h = below k (n / 10) (tenth (10 ^ suc k) n (rw (pow-suc 10 (suc k)) at h))
-
-below-19 : (n : ℕ) → n ≤ widest → Below 19 n
-below-19 n h = let s : n < 100000000000000000000 = omega arith in below 19 n s
+fewer : (k n : ℕ) → Below (suc k) n → Below k (n / 10)
+fewer k n h = tenth (10 ^ suc k) n (rw (pow-suc 10 (suc k)) at h)
 
 small : (k n : ℕ) → n < 10 → decimalUpTo k n ≡ (48 + n) ∷ []
 unfolding decimalUpTo
@@ -38,8 +33,19 @@ large k n h = rw (le-ltb n 10 h)
 room : (k n : ℕ) → Below k n → decimalUpTo (suc k) n ≡ decimalUpTo k n
 room zero n b = small 1 n b ∙ sym (small 0 n b)
 room (suc k) n b =
-    ⊎-elim (λ h. large (suc k) n h ∙ ap (λ (l : List ℕ). l ++ ((48 + n % 10) ∷ [])) (room k (n / 10) b) ∙ sym (large k n h))
+    ⊎-elim (λ h. large (suc k) n h ∙ ap (λ (l : List ℕ). l ++ ((48 + n % 10) ∷ [])) (room k (n / 10) (fewer k n b)) ∙ sym (large k n h))
     (λ h. small (suc (suc k)) n h ∙ sym (small (suc k) n h)) (le-or-lt 10 n)
+
+-- what holds of each digit, and of a number where it holds of the number without its last digit, holds of every number
+module _ (P : ℕ → List ℕ → Type 0) (one : (d : ℕ) → d < 10 → P d ((48 + d) ∷ [])) (more : (n : ℕ) (l : List ℕ) → 10 ≤ n → P (n / 10) l → P n (l ++ ((48 + n % 10) ∷ []))) where
+  by-digits : (k n : ℕ) → Below k n → P n (decimalUpTo k n)
+  by-digits zero n b = rw (small 0 n b) (one n b)
+  by-digits (suc k) n b =
+      ⊎-elim (λ h. rw (large k n h) (more n (decimalUpTo k (n / 10)) h (by-digits k (n / 10) (fewer k n b)))) (λ h. rw (small (suc k) n h) (one n h)) (le-or-lt 10 n)
+
+  decimal-by : (n : ℕ) → n ≤ widest → P n (decimal n)
+  unfolding decimal
+  decimal-by n h = let s : n < 100000000000000000000 = omega arith in by-digits 19 n s
 
 -- one digit more
 pub decimal-more : (v d : ℕ) → 0 < v → d < 10 → v * 10 + d ≤ widest → decimal (v * 10 + d) ≡ decimal v ++ ((48 + d) ∷ [])
@@ -48,7 +54,12 @@ decimal-more v d hv hd h =
     let q : (v * 10 + d) / 10 ≡ v = omega arith in
     let m : (v * 10 + d) % 10 ≡ d = omega arith in
     let s : v < 10000000000000000000 = omega arith in
-    large 18 (v * 10 + d) (omega arith) ∙ rw (q, m, room 18 v (below 18 v s))
+    large 18 (v * 10 + d) (omega arith) ∙ rw (q, m, room 18 v s)
+
+pub decimal-step : (n : ℕ) → 10 ≤ n → n ≤ widest → decimal n ≡ decimal (n / 10) ++ ((48 + n % 10) ∷ [])
+decimal-step n h k =
+    let e : n / 10 * 10 + n % 10 ≡ n = omega arith in
+    ap decimal (sym e) ∙ decimal-more (n / 10) (n % 10) (omega arith) (omega arith) (omega arith)
 
 pub decimal-digit : (d : ℕ) → d < 10 → decimal d ≡ (48 + d) ∷ []
 unfolding decimal
@@ -69,16 +80,10 @@ unfolding value
 value-grows a [] = omega arith
 value-grows a (b ∷ q) = le-trans (omega arith) (value-grows (a * 10 + (b - 48)) q)
 
-value-up-to : (k n : ℕ) → Below k n → value 0 (decimalUpTo k n) ≡ n
-unfolding value
-value-up-to zero n b = rw (small 0 n b) (omega arith)
-value-up-to (suc k) n b =
-    ⊎-elim (λ h. rw (large k n h, value-append 0 (decimalUpTo k (n / 10)) ((48 + n % 10) ∷ []), value-up-to k (n / 10) b) (omega arith))
-    (λ h. rw (small (suc k) n h) (omega arith)) (le-or-lt 10 n)
-
 pub value-decimal : (n : ℕ) → n ≤ greatest → value 0 (decimal n) ≡ n
-unfolding decimal
-value-decimal n h = value-up-to 19 n (below-19 n (omega arith))
+unfolding value
+value-decimal n h =
+    decimal-by (λ n l. value 0 l ≡ n) (λ d h. omega arith) (λ n l h e. rw (value-append 0 l ((48 + n % 10) ∷ []), e) (omega arith)) n (omega arith)
 
 -- two numbers are not spelt alike
 pub decimal-injective : (m n : ℕ) → m ≤ greatest → n ≤ greatest → decimal m ≡ decimal n → m ≡ n
@@ -87,35 +92,28 @@ decimal-injective m n hm hn e = sym (value-decimal m hm) ∙ ap (value 0) e ∙ 
 abbrev pub Digit : ℕ → Type 0
 Digit b = (48 ≤ b) × (b ≤ 57)
 
-digits-up-to : (k n : ℕ) → Below k n → All Digit (decimalUpTo k n)
-digits-up-to zero n b = rw (small 0 n b) ((omega arith, omega arith), tt)
-digits-up-to (suc k) n b =
-    ⊎-elim (λ h. rw (large k n h) (all-append Digit (decimalUpTo k (n / 10)) ((48 + n % 10) ∷ []) (digits-up-to k (n / 10) b) ((omega arith, omega arith), tt)))
-    (λ h. rw (small (suc k) n h) ((omega arith, omega arith), tt)) (le-or-lt 10 n)
-
 pub decimal-digits : (n : ℕ) → n ≤ greatest → All Digit (decimal n)
-unfolding decimal
-decimal-digits n h = digits-up-to 19 n (below-19 n (omega arith))
+decimal-digits n h =
+    decimal-by (λ n l. All Digit l) (λ d h. ((omega arith, omega arith), tt)) (λ n l h a. all-append Digit l _ a ((omega arith, omega arith), tt)) n (omega arith)
 
-pub nonempty-up-to : (k n : ℕ) → Below k n → 0 < length (decimalUpTo k n)
-nonempty-up-to zero n b = rw (small 0 n b) (omega arith)
-nonempty-up-to (suc k) n b =
-    ⊎-elim (λ h. rw (large k n h, length-append) (omega arith)) (λ h. rw (small (suc k) n h) (omega arith)) (le-or-lt 10 n)
+-- there is a first digit, and it is 0 only in the spelling of 0
+decimal-first : (n : ℕ) → n ≤ widest → (0 < length (decimal n)) × (getD (decimal n) 0 0 ≡ 48 → n ≡ 0)
+decimal-first =
+    decimal-by (λ n l. (0 < length l) × (getD l 0 0 ≡ 48 → n ≡ 0)) (λ d h. (omega arith, λ e. omega arith))
+    (λ n l h a. (simp length-append (omega arith), λ e. let z : n / 10 ≡ 0 = a .1 (sym (List·getD-append l _ 0 0 (a .0)) ∙ e) in omega arith))
 
 pub decimal-nonempty : (n : ℕ) → n ≤ widest → 0 < length (decimal n)
-unfolding decimal
-decimal-nonempty n h = nonempty-up-to 19 n (below-19 n h)
+decimal-nonempty n h = decimal-first n h .0
 
-lead-up-to : (k n : ℕ) → Below k n → getD (decimalUpTo k n) 0 0 ≡ 48 → n ≡ 0
-lead-up-to zero n b e = omega (arith, rw (small 0 n b) at e)
-lead-up-to (suc k) n b e =
-    ⊎-elim (λ h. let z : n / 10 ≡ 0 = lead-up-to k (n / 10) b (sym (List·getD-append (decimalUpTo k (n / 10)) ((48 + n % 10) ∷ []) 0 0 (nonempty-up-to k (n / 10) b)) ∙ (rw (large k n h) at e)) in omega arith)
-    (λ h. omega (arith, rw (small (suc k) n h) at e)) (le-or-lt 10 n)
+short-up-to : (k n : ℕ) → length (decimalUpTo k n) ≤ k + 1
+short-up-to zero n = unfold decimalUpTo in omega arith
+short-up-to (suc k) n =
+    ⊎-elim (λ h. rw (large k n h, length-append) (omega (arith, short-up-to k (n / 10)))) (λ h. rw (small (suc k) n h) (omega arith)) (le-or-lt 10 n)
 
--- a spelling that begins with the digit 0 is that of 0
-pub decimal-lead : (n : ℕ) → n ≤ greatest → getD (decimal n) 0 0 ≡ 48 → n ≡ 0
+-- a number has at most twenty digits
+pub decimal-short : (n : ℕ) → length (decimal n) ≤ 20
 unfolding decimal
-decimal-lead n h e = lead-up-to 19 n (below-19 n (omega arith)) e
+decimal-short n = short-up-to 19 n
 
 -- what keeps a list from being a number's spelling
 pub not-empty : (s : List ℕ) (n : ℕ) → n ≤ greatest → s ≡ decimal n → length s ≡ 0 → ⊥
@@ -126,7 +124,7 @@ not-digit s i n h e hi = rw e (all-at Digit (decimal n) (decimal-digits n h) i (
 
 pub not-lead : (s : List ℕ) (i n : ℕ) → n ≤ greatest → s ≡ decimal n → 1 ≤ i → i < length s → take i s ≡ decimal 0 → ⊥
 not-lead s i n h e h1 hi t =
-    let z : n ≡ 0 = decimal-lead n h (ap (λ (l : List ℕ). getD l 0 0) (sym e) ∙ sym (getD-take i s 0 0 h1) ∙ ap (λ (l : List ℕ). getD l 0 0) (t ∙ decimal-digit 0 (lit< tt))) in
+    let z : n ≡ 0 = decimal-first n (omega arith) .1 (ap (λ (l : List ℕ). getD l 0 0) (sym e) ∙ sym (getD-take i s 0 0 h1) ∙ ap (λ (l : List ℕ). getD l 0 0) (t ∙ decimal-digit 0 (lit< tt))) in
     omega (arith, ap length (e ∙ ap decimal z ∙ decimal-digit 0 (lit< tt)))
 
 pub not-over : (s : List ℕ) (i v n : ℕ) → n ≤ greatest → s ≡ decimal n → i < length s → v ≤ greatest → take i s ≡ decimal v → v * 10 + (getD s i 0 - 48) ≤ n

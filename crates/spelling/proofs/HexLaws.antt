@@ -1,15 +1,11 @@
 -- Laws of the hex spelling. Assumes nothing.
-use Prim.Native.Nat.{ℕ, _+_, _*_, _/_, _%_, _<_, _-_}
-use mathlib.Core.{Path.{_≡_, refl, sym, _∙_, ap}, Bool.cond, List.{List, [], _∷_}, Logic.{_⊎_, inl, inr, ⊎-elim}}
+use Prim.Native.Nat.{ℕ, zero, suc, _+_, _*_, _/_, _%_, _<_, _-_}
+use mathlib.Core.{Path.{_≡_, refl, sym, _∙_, ap}, List.{List, [], _∷_}, Logic.{_⊎_, inl, inr, ⊎-elim}}
 use native.Mathlib.Omega.{arith}
-use lib.{ListN.{length, getD}, Dec.ltb}
+use lib.ListN.{length, getD}
 use borrow.Author.Tests.{lt-ltb, le-ltb}
-use Rattle.spelling.specs.{Bytes.{All, Byte}, Hex.{digit, hex, Spells, HexDigit}}
+use Rattle.spelling.specs.{Bytes.{All, Byte}, Hex.{digit, nibble, hex, Spells, IsData, HexDigit}}
 use Rattle.spelling.proofs.Lists.{le-or-lt, all-at}
-
--- the number that a digit stands for
-abbrev pub nibble : ℕ → ℕ
-nibble b = cond (ltb b 58) (b - 48) (b - 87)
 
 nibble-below : (b : ℕ) → HexDigit b → nibble b < 16
 nibble-below b (inl h) = rw (lt-ltb b 58 (omega arith)) (omega arith)
@@ -46,6 +42,30 @@ spelt v a e h =
     let u = unhex-spells v a e in
     record { some = omega (arith, u .2); bytes = u .0; same = u .1 }
 
+-- the two digits after a pair
+pair-on : (x y : ℕ) (l : List ℕ) (i : ℕ) → (getD (x ∷ (y ∷ l)) (2 * suc i) 0 ≡ getD l (2 * i) 0) × (getD (x ∷ (y ∷ l)) (2 * suc i + 1) 0 ≡ getD l (2 * i + 1) 0)
+pair-on x y l i =
+    let m : 2 * suc i ≡ suc (suc (2 * i)) = omega arith in
+    let n : 2 * suc i + 1 ≡ suc (suc (2 * i + 1)) = omega arith in
+    (ap (λ (k : ℕ). getD (x ∷ (y ∷ l)) k 0) m, ap (λ (k : ℕ). getD (x ∷ (y ∷ l)) k 0) n)
+
+-- the byte of a pair of digits, and the digits of a byte
+pub unhex-at : (v : List ℕ) (i : ℕ) → 2 * i + 1 < length v → getD (unhex v) i 0 ≡ nibble (getD v (2 * i) 0) * 16 + nibble (getD v (2 * i + 1) 0)
+unfolding unhex
+unhex-at [] i h = absurd (omega arith)
+unhex-at (x ∷ []) i h = absurd (omega arith)
+unhex-at (x ∷ (y ∷ r)) zero h = refl
+unhex-at (x ∷ (y ∷ r)) (suc i) h = let p = pair-on x y r i in rw (p .0, p .1) (unhex-at r i (omega arith))
+
+pub hex-at : (bs : List ℕ) (i : ℕ) → i < length bs → (getD (hex bs) (2 * i) 0 ≡ digit (getD bs i 0 / 16)) × (getD (hex bs) (2 * i + 1) 0 ≡ digit (getD bs i 0 % 16))
+unfolding hex
+hex-at [] i h = absurd (omega arith)
+hex-at (b ∷ bs) zero h = (refl, refl)
+hex-at (b ∷ bs) (suc i) h =
+    let p = pair-on (digit (b / 16)) (digit (b % 16)) (hex bs) i in
+    let r = hex-at bs i (omega arith) in
+    (p .0 ∙ r .0, p .1 ∙ r .1)
+
 pub hex-digits : (bs : List ℕ) → All Byte bs → All HexDigit (hex bs)
 unfolding hex
 hex-digits [] a = tt
@@ -73,6 +93,10 @@ unhex-hex [] a = refl
 unhex-hex (b ∷ bs) a =
     let e : b / 16 * 16 + b % 16 ≡ b = omega arith in
     rw (nibble-digit (b / 16) (omega arith), nibble-digit (b % 16) (omega arith), e, unhex-hex bs (a .1))
+
+-- data are spelt by the bytes that they stand for
+pub data-spelt : (v : List ℕ) → IsData v → Spells v (unhex v)
+data-spelt v (bs, s) = let e : unhex v ≡ bs = ap unhex (s .same) ∙ unhex-hex bs (s .bytes) in rw e s
 
 -- two lists of bytes are not spelt alike
 pub hex-injective : (bs cs : List ℕ) → All Byte bs → All Byte cs → hex bs ≡ hex cs → bs ≡ cs

@@ -5,5 +5,4 @@ pub mod HexLaws
 pub mod Decide
 pub mod Split
 pub mod OverLaws
-pub mod DecodeLaws
 pub mod Theorems

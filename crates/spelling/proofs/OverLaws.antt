@@ -1,14 +1,14 @@
 -- Laws of bytes laid over a part of a buffer. Assumes nothing.
-use Prim.Native.Nat.{ℕ, zero, suc, _+_, _*_, _/_, _%_, _≤_, _<_, _-_}
-use mathlib.Core.{Path.{_≡_, refl, sym, _∙_, ap, ap₂}, Bool.{Bool, true, false, cond, not}, List.{List, [], _∷_, _++_, append-assoc, append-nil}}
+use Prim.Native.Nat.{ℕ, suc, _+_, _*_, _/_, _%_, _≤_, _<_, _-_}
+use mathlib.Core.{Path.{_≡_, refl, sym, _∙_, ap, ap₂, subst}, Bool.{Bool, true, false, cond, not}, List.{List, [], _∷_, _++_, append-assoc, append-nil}}
 use native.Mathlib.{Omega.arith, Nat.add-zero, Numerals.add-one}
 use lib.ListN.{length, getD, take, drop, set, length-append, length-take, length-drop, take-append-drop}
-use lib.Seq.{drop-cons, set-at, take-at, drop-at, take-suc, length-take-le, take-append-le, drop-append-le, take-append-seam, drop-append-add}
-use lib.{Seq.drop-drop, Dec.{ltb, leb}}
-use Rattle.spelling.specs.{Over.{hasRoom, over, twentyBefore, PutAt, PutBefore}, Decimal.{decimal, decimalUpTo}}
-use Rattle.spelling.specs.{declared.Put.{Put, the-variants.{End, Short}}, Hex.{hex, digit}}
+use lib.Seq.{set-split, take-at, drop-at, take-length, length-take-le, take-append-le, drop-append-le, drop-append-seam, paste, paste-suc}
+use lib.{Seq.drop-drop, Dec.leb}
+use Rattle.spelling.specs.{Over.{hasRoom, over, twentyBefore, PutAt, PutBefore}, Decimal.decimal}
+use Rattle.spelling.specs.{declared.Put.{Put, the-variants.{End, Short}}, Hex.{hex, digit, nibble}}
 use borrow.Author.Tests.{le-leb, lt-leb, leb-true, leb-false, not-true, not-false}
-use Rattle.spelling.proofs.{DecimalLaws.{widest, decimal-more, decimal-digit, decimal-nonempty}, HexLaws.hex-length}
+use Rattle.spelling.proofs.{DecimalLaws.{widest, decimal-step, decimal-digit, decimal-nonempty, decimal-short}, HexLaws.{unhex, unhex-at, hex-at, hex-length}}
 
 pub over-none : (old : List ℕ) (at : ℕ) → old ≡ over old at []
 over-none old at = sym (take-append-drop at old) ∙ ap (λ (k : ℕ). take at old ++ drop k old) (sym (add-zero at))
@@ -38,84 +38,53 @@ module _ (old : List ℕ) (at : ℕ) (t : List ℕ) (h : at + length t ≤ lengt
           let q : n ≤ length (drop b (take at old)) = simp length-drop (omega (arith, size)) in
           rw (drop-append-le b (take at old) l (omega (arith, size)), take-append-le n (drop b (take at old)) l q)
 
+  -- what is there up to its end, and after it
+  pub over-until : take (at + length t) (over old at t) ≡ take at old ++ t
+  over-until =
+      rw (← append-assoc (take at old) t (drop (at + length t) old)) (take-at (take at old ++ t) _ (at + length t) (simp (length-append, length-take) (omega arith)))
+
+  pub over-past : (d : ℕ) → drop (at + length t + d) (over old at t) ≡ drop (at + length t + d) old
+  over-past d =
+      sym (drop-drop d (at + length t) (over old at t)) ∙ ap (drop d) (sym (drop-drop (length t) at (over old at t)) ∙ ap (drop (length t)) over-from ∙ drop-append-seam t _)
+      ∙ drop-drop d (at + length t) old
+
   -- a part that starts after it
   pub part-after : (b n : ℕ) → at + length t ≤ b → take n (drop b (over old at t)) ≡ take n (drop b old)
   part-after b n k =
-      let d : ℕ = b - (at + length t) in
-      let e : b ≡ at + (length t + d) = omega arith in
-      let f : at + length t + d ≡ b = omega arith in
-      ap (λ (i : ℕ). take n (drop i (over old at t))) e
-      ∙ ap (take n) (sym (drop-drop (length t + d) at (over old at t)) ∙ ap (drop (length t + d)) over-from ∙ drop-append-add t _ d ∙ drop-drop d (at + length t) old)
-      ∙ ap (λ (i : ℕ). take n (drop i old)) f
+      let e : b ≡ at + length t + (b - (at + length t)) = omega arith in
+      ap (take n) (ap (λ (i : ℕ). drop i (over old at t)) e ∙ over-past (b - (at + length t)) ∙ ap (λ (i : ℕ). drop i old) (sym e))
 
--- one byte more
-pub over-more : (old : List ℕ) (at : ℕ) (t : List ℕ) (b : ℕ) → at + length t < length old → set (over old at t) (at + length t) b ≡ over old at (t ++ (b ∷ []))
-over-more old at t b h =
-    let n : length (take at old ++ t) ≡ at + length t = simp (length-append, length-take) (omega arith) in
-    let m : suc (at + length t) ≡ at + length (t ++ (b ∷ [])) = simp length-append (omega arith) in
-    ap (λ (l : List ℕ). set l (at + length t) b)
-    (ap (λ (l : List ℕ). take at old ++ (t ++ l)) (drop-cons old (at + length t) 0 h) ∙ sym (append-assoc (take at old) t (getD old (at + length t) 0 ∷ drop (suc (at + length t)) old)))
-    ∙ set-at (take at old ++ t) (getD old (at + length t) 0) (drop (suc (at + length t)) old) b (at + length t) n
-    ∙ append-assoc (take at old) t (b ∷ drop (suc (at + length t)) old)
-    ∙ ap (λ (l : List ℕ). take at old ++ l) (sym (append-assoc t (b ∷ []) (drop (suc (at + length t)) old)))
-    ∙ ap (λ (k : ℕ). take at old ++ ((t ++ (b ∷ [])) ++ drop k old)) m
+-- ---- a text that is copied byte by byte
 
-pub text-more : (old : List ℕ) (at : ℕ) (t : List ℕ) (i : ℕ) (new : List ℕ) → at + length t ≤ length old → i < length t → new ≡ over old at (take i t) → set new (at + i) (getD t i 0) ≡ over old at (take (i + 1) t)
-text-more old at t i new r h e =
-    let n : length (take i t) ≡ i = length-take-le i t (omega arith) in
-    ap₂ (λ (l : List ℕ) (k : ℕ). set l (at + k) (getD t i 0)) e (sym n) ∙ over-more old at (take i t) (getD t i 0) (omega arith) ∙ ap (over old at) (sym (take-suc t i 0 h) ∙ ap (λ (k : ℕ). take k t) (sym (add-one i)))
+-- the whole of it
+pub pasted : (old : List ℕ) (at : ℕ) (t : List ℕ) (n : ℕ) → n ≡ length t → paste old at t n ≡ over old at t
+pasted old at t n e = rw (e, take-length, append-assoc)
 
-hex-append : (p q : List ℕ) → hex (p ++ q) ≡ hex p ++ hex q
-unfolding hex
-hex-append [] q = refl
-hex-append (b ∷ p) q = ap (λ (l : List ℕ). digit (b / 16) ∷ (digit (b % 16) ∷ l)) (hex-append p q)
+-- the two digits of one byte more
+pub hex-more : (old : List ℕ) (at : ℕ) (bs : List ℕ) (i : ℕ) → at + length (hex bs) ≤ length old → i < length bs
+    → set (set (paste old at (hex bs) (2 * i)) (at + 2 * i) (digit (getD bs i 0 / 16))) (at + 2 * i + 1) (digit (getD bs i 0 % 16)) ≡ paste old at (hex bs) (2 * (i + 1))
+hex-more old at bs i r h =
+    let d = hex-at bs i h in
+    let n = hex-length bs in
+    let e : at + 2 * i + 1 ≡ at + (2 * i + 1) = omega arith in
+    let m : 2 * (i + 1) ≡ suc (2 * i + 1) = omega arith in
+    rw (← d .0, ← d .1, e, m, paste-suc old at (hex bs) (2 * i) 0 (omega arith) (omega arith), ← add-one (2 * i)) (paste-suc old at (hex bs) (2 * i + 1) 0 (omega arith) (omega arith))
 
-pub hex-more : (old : List ℕ) (at : ℕ) (bs : List ℕ) (i : ℕ) (new : List ℕ) → at + length (hex bs) ≤ length old → i < length bs → new ≡ over old at (hex (take i bs))
-    → set (set new (at + 2 * i) (digit (getD bs i 0 / 16))) (at + 2 * i + 1) (digit (getD bs i 0 % 16)) ≡ over old at (hex (take (i + 1) bs))
-unfolding hex
-hex-more old at bs i new r h e =
-    let n : length (hex (take i bs)) ≡ 2 * i = hex-length (take i bs) ∙ ap (λ (k : ℕ). 2 * k) (length-take-le i bs (omega arith)) in
-    let full : length (hex bs) ≡ 2 * length bs = hex-length bs in
-    let x : ℕ = digit (getD bs i 0 / 16) in
-    let y : ℕ = digit (getD bs i 0 % 16) in
-    let m : length (hex (take i bs) ++ (x ∷ [])) ≡ 2 * i + 1 = simp length-append (omega arith) in
-    let one : set new (at + 2 * i) x ≡ over old at (hex (take i bs) ++ (x ∷ [])) =
-    ap₂ (λ (l : List ℕ) (k : ℕ). set l (at + k) x) e (sym n) ∙ over-more old at (hex (take i bs)) x (omega arith) in
-    let q : at + 2 * i + 1 ≡ at + length (hex (take i bs) ++ (x ∷ [])) = omega arith in
-    ap₂ (λ (l : List ℕ) (k : ℕ). set l k y) one q ∙ over-more old at (hex (take i bs) ++ (x ∷ [])) y (omega arith)
-    ∙ ap (over old at) (append-assoc (hex (take i bs)) (x ∷ []) (y ∷ []) ∙ sym (hex-append (take i bs) (getD bs i 0 ∷ [])) ∙ ap hex (sym (take-suc bs i 0 h) ∙ ap (λ (k : ℕ). take k bs) (sym (add-one i))))
-
-pub decimal-step : (n : ℕ) → 10 ≤ n → n ≤ widest → decimal n ≡ decimal (n / 10) ++ ((48 + n % 10) ∷ [])
-decimal-step n h k =
-    let e : n / 10 * 10 + n % 10 ≡ n = omega arith in
-    ap decimal (sym e) ∙ decimal-more (n / 10) (n % 10) (omega arith) (omega arith) (omega arith)
+-- the byte of two digits more
+pub data-more : (s old : List ℕ) (i : ℕ) → i < length old → i < length (unhex s) → 2 * i + 1 < length s
+    → set (paste old 0 (unhex s) i) i (nibble (getD s (2 * i) 0) * 16 + nibble (getD s (2 * i + 1) 0)) ≡ paste old 0 (unhex s) (i + 1)
+data-more s old i h k l =
+    let z : 0 + i ≡ i = omega arith in
+    rw (← unhex-at s i l, add-one) (subst (λ (j : ℕ). set (paste old 0 (unhex s) i) j (getD (unhex s) i 0) ≡ paste old 0 (unhex s) (suc i)) z (paste-suc old 0 (unhex s) i 0 (omega arith) k))
 
 -- one text after another
 pub over-append : (old : List ℕ) (at : ℕ) (t u : List ℕ) → at + length (t ++ u) ≤ length old → over (over old at t) (at + length t) u ≡ over old at (t ++ u)
 over-append old at t u h =
-    let room : at + (length t + length u) ≤ length old = rw (← length-append t u) h in
-    let n : length (take at old ++ t) ≡ at + length t = simp (length-append, length-take) (omega arith) in
-    let e : over old at t ≡ (take at old ++ t) ++ drop (at + length t) old = sym (append-assoc (take at old) t (drop (at + length t) old)) in
-    let front : take (at + length t) (over old at t) ≡ take at old ++ t = ap₂ (λ (k : ℕ) (l : List ℕ). take k l) (sym n) e ∙ take-append-seam (take at old ++ t) (drop (at + length t) old) in
-    let m : at + length t + length u ≡ at + length (t ++ u) = simp length-append (omega arith) in
-    let back : drop (at + length t + length u) (over old at t) ≡ drop (at + length (t ++ u)) old =
-    ap₂ (λ (k : ℕ) (l : List ℕ). drop (k + length u) l) (sym n) e ∙ drop-append-add (take at old ++ t) (drop (at + length t) old) (length u) ∙ drop-drop (length u) (at + length t) old
-    ∙ ap (λ (k : ℕ). drop k old) m in
-    ap₂ (λ (x y : List ℕ). x ++ (u ++ y)) front back ∙ append-assoc (take at old) t (u ++ drop (at + length (t ++ u)) old) ∙ ap (λ (l : List ℕ). take at old ++ l) (sym (append-assoc t u (drop (at + length (t ++ u)) old)))
-
-short-up-to : (k n : ℕ) → length (decimalUpTo k n) ≤ k + 1
-unfolding decimalUpTo
-short-up-to zero n = omega arith
-short-up-to (suc k) n = go (ltb n 10) (short-up-to k (n / 10))
-  where
-    go : (b : Bool) → length (decimalUpTo k (n / 10)) ≤ k + 1 → length (cond b ((48 + n) ∷ []) (decimalUpTo k (n / 10) ++ ((48 + n % 10) ∷ []))) ≤ suc k + 1
-    go true h = omega arith
-    go false h = simp length-append (omega arith)
-
--- a number has at most twenty digits
-pub decimal-short : (n : ℕ) → length (decimal n) ≤ 20
-unfolding decimal
-decimal-short n = short-up-to 19 n
+    let n : length (t ++ u) ≡ length t + length u = length-append t u in
+    let m : at + length (t ++ u) ≡ at + length t + length u = omega arith in
+    let front : take (at + length t) (over old at t) ≡ take at old ++ t = over-until old at t (omega arith) in
+    let back : drop (at + length t + length u) (over old at t) ≡ drop (at + length t + length u) old = over-past old at t (omega arith) (length u) in
+    rw (front, back, m) (simp append-assoc)
 
 -- ---- the answers of putting a text
 
@@ -136,21 +105,19 @@ room-no size at n r e f = leb-false (at + n) size (sym e ∙ not-true r f)
 pub twenty-yes : (size end : ℕ) → 20 ≤ end → end ≤ size → twentyBefore size end ≡ true
 twenty-yes size end t w = rw (le-leb 20 end t, le-leb end size w)
 
-twenty-few : (size end : ℕ) → end < 20 → twentyBefore size end ≡ false
+pub twenty-few : (size end : ℕ) → end < 20 → twentyBefore size end ≡ false
 twenty-few size end h = rw (lt-leb 20 end h)
 
-twenty-past : (size end : ℕ) → size < end → twentyBefore size end ≡ false
+pub twenty-past : (size end : ℕ) → size < end → twentyBefore size end ≡ false
 twenty-past size end h = rw (lt-leb end size h) (go (leb 20 end))
   where
     go : (b : Bool) → cond b false false ≡ false
     go true = refl
     go false = refl
 
-pub before-few : (old : List ℕ) (end : ℕ) (t : List ℕ) → end < 20 → PutBefore old end t old end
-before-few old end t h = let e = twenty-few (length old) end h in record { answer = rw e; bytes = rw e }
-
-pub before-past : (old : List ℕ) (end : ℕ) (t : List ℕ) → length old < end → PutBefore old end t old end
-before-past old end t h = let e = twenty-past (length old) end h in record { answer = rw e; bytes = rw e }
+-- a number that was not put
+pub before-not : (old : List ℕ) (end : ℕ) (t : List ℕ) → twentyBefore (length old) end ≡ false → PutBefore old end t old end
+before-not old end t e = record { answer = rw e; bytes = rw e }
 
 -- ---- the digits of a number, from the last to the first
 
@@ -158,13 +125,9 @@ before-past old end t h = let e = twenty-past (length old) end h in record { ans
 pub over-before : (old : List ℕ) (at : ℕ) (t : List ℕ) (b : ℕ) → 0 < at → at + length t ≤ length old → set (over old at t) (at - 1) b ≡ over old (at - 1) (b ∷ t)
 over-before old at t b p h =
     let n : suc (at - 1) ≡ at = omega arith in
-    let i : at - 1 < length old = omega arith in
-    let rest : List ℕ = t ++ drop (at + length t) old in
-    let front : take at old ≡ take (at - 1) old ++ (getD old (at - 1) 0 ∷ []) = ap (λ (k : ℕ). take k old) (sym n) ∙ take-suc old (at - 1) 0 i in
     let m : at + length t ≡ at - 1 + length (b ∷ t) = omega arith in
-    ap (λ (l : List ℕ). set l (at - 1) b) (ap (λ (l : List ℕ). l ++ rest) front ∙ append-assoc (take (at - 1) old) (getD old (at - 1) 0 ∷ []) rest)
-    ∙ set-at (take (at - 1) old) (getD old (at - 1) 0) rest b (at - 1) (length-take-le (at - 1) old (omega arith))
-    ∙ ap (λ (k : ℕ). take (at - 1) old ++ (b ∷ (t ++ drop k old))) m
+    let i : at - 1 < length (over old at t) = rw (over-length old at t h) (omega arith) in
+    rw (set-split (over old at t) (at - 1) b i, part-before old at t h 0 (at - 1) (omega arith), n, over-from old at t h, m)
 
 -- the digits so far: they are there from k on, end before an offset, and come after the digits of m
 pub record Digits (old : List ℕ) (end n : ℕ) (l : List ℕ) (k m : ℕ) : Type 0 where

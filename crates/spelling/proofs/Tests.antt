@@ -3,29 +3,21 @@ use Prim.Native.Nat.{ℕ, _+_, _≤_}
 use mathlib.Core.{Path.{_≡_, refl}, Bool.{Bool, true, false, not, _&&_, _||_}, Logic.{_⊎_, inl, inr, ⊎-elim}}
 use native.Mathlib.Omega.{arith}
 use lib.Dec.{leb, eqb}
-use borrow.Author.{Tests.{leb-true, leb-false, eqb-true, eqb-false}, Count.below-more}
+use borrow.Author.{Tests.{leb-true, leb-false, eqb-true, eqb-false, not-true, not-false}, Count.below-more}
 use Rattle.spelling.specs.Bytes.{Test, Below}
 
+test-by : {A : Type 0} (t : Bool) → (t ≡ true → A) → (t ≡ false → A → ⊥) → Test A t
+test-by true f g = f refl
+test-by false f g = g refl
+
 test-at-most : (a b : ℕ) → Test (a ≤ b) (leb a b)
-test-at-most a b = go (leb a b) refl
-  where
-    go : (t : Bool) → leb a b ≡ t → Test (a ≤ b) t
-    go true e = leb-true a b e
-    go false e = let n = leb-false a b e in λ h. omega arith
+test-at-most a b = test-by (leb a b) (leb-true a b) (λ e h. omega (arith, leb-false a b e))
 
 pub test-same : (a b : ℕ) → Test (a ≡ b) (eqb a b)
-test-same a b = go (eqb a b) refl
-  where
-    go : (t : Bool) → eqb a b ≡ t → Test (a ≡ b) t
-    go true e = eqb-true a b e
-    go false e = eqb-false a b e
+test-same a b = test-by (eqb a b) (eqb-true a b) (eqb-false a b)
 
 pub test-other : (a b : ℕ) → Test (a ≡ b → ⊥) (not (eqb a b))
-test-other a b = go (eqb a b) (test-same a b)
-  where
-    go : (t : Bool) → Test (a ≡ b) t → Test (a ≡ b → ⊥) (not t)
-    go true e = λ n. n e
-    go false n = n
+test-other a b = test-by (not (eqb a b)) (λ e. eqb-false a b (not-true (eqb a b) e)) (λ e n. n (eqb-true a b (not-false (eqb a b) e)))
 
 test-both : (A B : Type 0) (t u : Bool) → Test A t → Test B u → Test (A × B) (t && u)
 test-both A B true true a b = (a, b)

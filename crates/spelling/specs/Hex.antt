@@ -1,5 +1,5 @@
 -- H of 01: bytes as lower-case hex pairs. Assumes nothing.
-use Prim.Native.Nat.{ℕ, _+_, _/_, _%_, _≤_, _<_}
+use Prim.Native.Nat.{ℕ, _+_, _/_, _%_, _≤_, _<_, _-_}
 use mathlib.Core.{Path._≡_, Bool.{Bool, cond}, List.{List, [], _∷_}, Logic._⊎_}
 use lib.{Dec.ltb, ListN.length}
 use Rattle.spelling.specs.Bytes.{All, Byte, Test}
@@ -7,6 +7,10 @@ use Rattle.spelling.specs.Bytes.{All, Byte, Test}
 -- the digit of a number below 16: 0 to 9, a to f
 abbrev pub digit : ℕ → ℕ
 digit d = cond (ltb d 10) (48 + d) (87 + d)
+
+-- the number that a hex digit stands for
+abbrev pub nibble : ℕ → ℕ
+nibble b = cond (ltb b 58) (b - 48) (b - 87)
 
 -- two digits a byte, the upper half first
 unfoldable pub hex : List ℕ → List ℕ

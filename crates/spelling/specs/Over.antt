@@ -2,7 +2,7 @@
 use Prim.Native.Nat.{ℕ, _+_, _-_, _≤_, _<_}
 use mathlib.Core.{Path._≡_, Bool.{Bool, false, cond}, List.{List, _++_}}
 use lib.{Dec.leb, ListN.{length, take, drop}}
-use Rattle.spelling.specs.{Hex.{digit, Spells, IsData}, declared.Put.{Put, the-variants.{End, Short}}}
+use Rattle.spelling.specs.{Hex.{Spells, IsData}, declared.Put.{Put, the-variants.{End, Short}}}
 use Rattle.spelling.specs.declared.Decoded.{Decoded, the-variants.{Bytes, Wrong, NoRoom}}
 
 -- whether n bytes fit at an offset of a buffer of this size
@@ -34,8 +34,3 @@ pub data DecodedOf (s old new : List ℕ) : Decoded → Type 0 where
   decoded : (bs : List ℕ) → Spells s bs → length bs ≤ length old → new ≡ over old 0 bs → DecodedOf s old new (Bytes (length bs))
   noRoom : (bs : List ℕ) → Spells s bs → length old < length bs → new ≡ old → DecodedOf s old new NoRoom
   noData : (IsData s → ⊥) → new ≡ old → DecodedOf s old new Wrong
-
--- r is the number that the hex digit b stands for
-pub record IsNibble (b r : ℕ) : Type 0 where
-  pub stands : digit r ≡ b
-  pub small : r < 16

@@ -5,8 +5,8 @@
 ghost use mathlib.Core.Path.{_≡_};
 ghost use Prim.Native.Nat.{_+_, _≤_, _<_};
 ghost use lib.ListN.{length, getD, drop};
-ghost use Rattle.spelling.specs.{Bytes.{upTo, Test, Below}, Decimal.{decimal, NumberOf}, Hex.{digit, hex, DataTest, HexDigit, HexTest}};
-ghost use Rattle.spelling.specs.Over.{hasRoom, PutAt, PutBefore, DecodedOf, IsNibble};
+ghost use Rattle.spelling.specs.{Bytes.{upTo, Test, Below}, Decimal.{decimal, NumberOf}, Hex.{digit, nibble, hex, DataTest, HexDigit, HexTest}};
+ghost use Rattle.spelling.specs.Over.{hasRoom, PutAt, PutBefore, DecodedOf};
 
 // Whether none of the eight bytes from `at` on is `stop`. Every byte is looked at, so that they can be compared at once.
 fn is_clear(s: &[u8], at: usize, stop: u8) -> bool
@@ -227,7 +227,7 @@ pub enum Decoded {
 // The number that a hex digit stands for.
 fn nibble(b: u8) -> u8
     requires { ⌜ HexDigit b ⌝ }
-    ensures { λ r. ⌜ IsNibble b r ⌝ }
+    ensures { λ r. ⌜ (r ≡ nibble b) × (r < 16) ⌝ }
 {
     if b < 58 { b - b'0' } else { b - 87 }
 }
@@ -243,13 +243,11 @@ pub fn decode(out: &mut [u8], s: &[u8]) -> Decoded
         return Decoded::NoRoom;
     }
     let mut i: usize = 0;
-    let mut p: usize = 0;
-    while p < s.len() {
-        let high = nibble(s[p]);
-        let low = nibble(s[p + 1]);
+    while i < s.len() / 2 {
+        let high = nibble(s[2 * i]);
+        let low = nibble(s[2 * i + 1]);
         out[i] = high * 16 + low;
         i += 1;
-        p += 2;
     }
     Decoded::Bytes(i)
 }

@@ -1,6 +1,6 @@
 -- `grammar::call_of` meets its contract: in each arm, what the row says of its numbers. Assumes nothing.
 use mathlib.Core.Path.{_≡_}
-use native.Mathlib.{Nat.{le-antisymm, le-of-suc-le-suc}, Omega.arith}
+use native.Mathlib.Nat.{le-antisymm, le-of-suc-le-suc}
 use Rattle.grammar.proofs.{Rows.{Others, past}, call_of.Statement.statement}
 use borrow.Author.Needs.{needs}
 use Rattle.grammar.proofs.call_of.Tie as tie
@@ -10,7 +10,7 @@ last : tie.Need-returns-9
 unfolding Others
 last c =
     let a = c .before .before .before in
-    let e : a .args .row ≡ 8 = le-antisymm (le-of-suc-le-suc (a .pre)) (past 0 (a .args .row) 8 (omega arith) (c .match .rest)) in
+    let e : a .args .row ≡ 8 = le-antisymm (le-of-suc-le-suc (a .pre)) (past (a .args .row) 8 (c .match .rest)) in
     rw (e, c .before .before .index .ensures)
 
 pub call-of-spec : {M : Type 1} → statement M

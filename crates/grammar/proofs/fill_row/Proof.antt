@@ -12,7 +12,7 @@ last : tie.Need-returns-10
 unfolding Others fieldParts
 last c =
     let a = c .before .before .before .before .before in
-    let e : a .args .row ≡ 9 = le-antisymm (le-of-suc-le-suc (a .pre)) (past 0 (a .args .row) 9 (omega arith) (c .before .before .before .match .rest)) in
+    let e : a .args .row ≡ 9 = le-antisymm (le-of-suc-le-suc (a .pre)) (past (a .args .row) 9 (c .before .before .before .match .rest)) in
     rw e (kind-read _ _ _ _ _ (lit≤ tt) (c .before .after10 .ensures) (c .fill10 .ensures))
 
 pub fill-row-spec : {M : Type 1} → statement M

@@ -2,8 +2,8 @@
 use Prim.Native.Nat.{ℕ}
 use mathlib.Core.Path.{subst₂}
 use native.Mathlib.Omega.{arith}
-use Rattle.grammar.specs.{Line.{tooLong, noForm}, Table.{rowsOf, fromOf, toOf}, Scan.FoundIn}
-use Rattle.grammar.proofs.{Judge.{answer-line, row-found}, Forms.{ranged, row-in, no-row}, read_line.Statement.statement}
+use Rattle.grammar.specs.{Line.{tooLong, noForm}, Scan.FoundIn}
+use Rattle.grammar.proofs.{Judge.{answer-line, row-found}, Forms.{ranged, no-row}, read_line.Statement.statement}
 use borrow.Author.Needs.{needs}
 use Rattle.grammar.proofs.read_line.Tie as tie
 
@@ -20,9 +20,8 @@ is-placed c κs =
 answered : tie.Need-returns-3
 answered c =
     let a = c .before .before .before .before .before .before .before .args in
-    let r = ranged (a .form) in
     rw (c .answer .ensures)
-    (answer-line (rowsOf (a .form)) (fromOf (a .form)) (toOf (a .form)) (r .count) (r .high) (row-in (a .form)) (a .line .now) _ (omega arith)
+    (answer-line (a .form) (a .line .now) (omega arith) _
     (subst₂ (λ (m n : ℕ). FoundIn (a .line .now) m n (c .before .find .result)) (c .before .before .before .from-row .ensures) (c .before .before .to-row .ensures) (c .before .find .ensures)))
 
 pub read-line-spec : {M : Type 1} → statement M

@@ -1,16 +1,12 @@
 -- `grammar::row_at` meets its contract: each row has a tag of its own. Assumes nothing.
-use mathlib.Core.Path.{sym, _∙_, ap}
-use Prim.Native.Nat.{ℕ, _+_, _*_, _%_}
+use Prim.Native.Nat.{_+_, _*_, _%_}
 use native.Mathlib.Omega.{arith}
-use lib.ListN.{getD}
-use Rattle.grammar.proofs.{Rows.{letters, letter-high, entry-at}, row_at.Statement.statement}
+use Rattle.grammar.proofs.{Rows.{letter-high, row-by-tag}, row_at.Statement.statement}
 use borrow.Author.Needs.{needs}
 use Rattle.grammar.proofs.row_at.Tie as tie
 
 returns : tie.Need-returns
-returns c k h e =
-    let f = ap (λ (m : ℕ). getD letters m 0) (sym e) ∙ entry-at k h .found in
-    rw (c .wide3 .ensures, c .before .before .wide .ensures, c .before .wide2 .ensures) (omega (arith, f))
+returns c = rw (c .wide3 .ensures, c .before .before .wide .ensures, c .before .wide2 .ensures) (row-by-tag _)
 
 pub row-at-spec : {M : Type 1} → statement M
 row-at-spec =

@@ -1,8 +1,8 @@
 -- `spelling::put_number_before` meets its contract. The loop's invariant: the digits so far are before the offset, and come after those of `m`.
 -- Assumes nothing.
 use native.Mathlib.Omega.{arith}
-use lib.ListN.{length-set}
-use Rattle.spelling.proofs.OverLaws.{Digits, before-few, before-past, digits-start, digits-room, digits-next, digits-last}
+use lib.ListN.{length, length-set}
+use Rattle.spelling.proofs.OverLaws.{Digits, before-not, twenty-few, twenty-past, digits-start, digits-room, digits-next, digits-last}
 use Rattle.spelling.proofs.put_number_before.Statement.{statement}
 use Rattle.spelling.proofs.put_number_before.Tie as tie
 
@@ -18,8 +18,8 @@ put-number-before-spec =
     (tie.spec
     Inv-loop
     μ-loop
-    (λ c. let a = c .before .args in before-few (a .out .now) (a .end) _ (omega arith))
-    (λ c. let a = c .before .before .args in before-past (a .out .now) (a .end) _ (omega arith))
+    (λ c. let a = c .before .args in before-not (a .out .now) (a .end) _ (twenty-few (length (a .out .now)) (a .end) (omega arith)))
+    (λ c. let a = c .before .before .args in before-not (a .out .now) (a .end) _ (twenty-past (length (a .out .now)) (a .end) (omega arith)))
     (λ c. let a = c .before .before .args in digits-start (a .out .now) (a .end) (a .n) (omega arith) (omega arith) (omega arith))
     (λ c. let r = digits-room _ _ _ _ _ _ (c .before .loop .inv) in omega arith)
     (λ c. omega arith) (λ c. omega arith)

@@ -9,7 +9,7 @@ use Rattle.refusals.proofs.input.owners_fit.Statement.{statement}
 use Rattle.refusals.proofs.input.owners_fit.Tie as tie
 
 abbrev Inv-loop : tie.InvT-loop
-Inv-loop opening line lines i₀ i = (i ≤ lines) × Scanned (λ (l : ManagerLine). ownerFits (opening .cores) (l .manager)) line lines i
+Inv-loop opening line lines i₀ i = (i ≤ lines) × (lines ≤ length line) × Scanned (λ (l : ManagerLine). ownerFits (opening .cores) (l .manager)) line lines i
 
 abbrev μ-loop : tie.MeasureT-loop
 μ-loop opening line lines i₀ i = lines - i
@@ -17,24 +17,19 @@ abbrev μ-loop : tie.MeasureT-loop
 returns : tie.Need-returns Inv-loop μ-loop
 unfolding ownersFit
 returns c =
-    let l = c .before .before .before .before in
-    let xs = l .before .args .t2 in
-    let k : l .before .args .opening .lines ≤ length xs = omega arith in
-    scan-fails _ xs _ freshLine k (l .loop .i) (c .before .before .before .loop-test .taken) (l .loop .inv .1) _ (c .before .owner-fits .ensures) (c .if1 .taken)
+    let l = c .before .before .before .before .loop in
+    scan-fails _ _ _ freshLine (l .inv .1) (l .i) (c .before .before .before .loop-test .taken) (l .inv .2) _ (c .before .owner-fits .ensures) (c .if1 .taken)
 
 loop-again : tie.Need-loop-again Inv-loop μ-loop
 loop-again c =
-    let l = c .before .before .before .before in
-    let xs = l .before .args .t2 in
-    let k : l .before .args .opening .lines ≤ length xs = omega arith in
-    (search needs, scan-on _ xs _ freshLine k (l .loop .i) (c .before .before .before .loop-test .taken) (l .loop .inv .1) _ (c .before .owner-fits .ensures) (c .if1 .left))
+    let l = c .before .before .before .before .loop in
+    (search needs, l .inv .1, scan-on _ _ _ freshLine (l .inv .1) (l .i) (c .before .before .before .loop-test .taken) (l .inv .2) _ (c .before .owner-fits .ensures) (c .if1 .left))
 
 returns-2 : tie.Need-returns-2 Inv-loop μ-loop
 unfolding ownersFit
 returns-2 c =
-    let xs = c .before .before .args .t2 in
-    let k : c .before .before .args .opening .lines ≤ length xs = omega arith in
-    scan-ends _ xs _ freshLine k (c .before .loop .i) (c .loop-test .left) (c .before .loop .inv .1)
+    let l = c .before .loop in
+    scan-ends _ _ _ freshLine (l .inv .1) (l .i) (c .loop-test .left) (l .inv .2)
 
 pub owners-fit-spec : {M : Type 1} → statement M
 owners-fit-spec =

@@ -9,7 +9,7 @@ use Rattle.refusals.proofs.input.slots_fit.Statement.{statement}
 use Rattle.refusals.proofs.input.slots_fit.Tie as tie
 
 abbrev Inv-loop : tie.InvT-loop
-Inv-loop opening core cores i₀ i = (i ≤ cores) × Scanned (λ (k : Core). slotFits (opening .lines) (k .slot)) core cores i
+Inv-loop opening core cores i₀ i = (i ≤ cores) × (cores ≤ length core) × Scanned (λ (k : Core). slotFits (opening .lines) (k .slot)) core cores i
 
 abbrev μ-loop : tie.MeasureT-loop
 μ-loop opening core cores i₀ i = cores - i
@@ -17,24 +17,19 @@ abbrev μ-loop : tie.MeasureT-loop
 returns : tie.Need-returns Inv-loop μ-loop
 unfolding slotsFit
 returns c =
-    let l = c .before .before .before .before in
-    let xs = l .before .args .t2 in
-    let k : l .before .args .opening .cores ≤ length xs = omega arith in
-    scan-fails _ xs _ freshCore k (l .loop .i) (c .before .before .before .loop-test .taken) (l .loop .inv .1) _ (c .before .slot-fits .ensures) (c .if1 .taken)
+    let l = c .before .before .before .before .loop in
+    scan-fails _ _ _ freshCore (l .inv .1) (l .i) (c .before .before .before .loop-test .taken) (l .inv .2) _ (c .before .slot-fits .ensures) (c .if1 .taken)
 
 loop-again : tie.Need-loop-again Inv-loop μ-loop
 loop-again c =
-    let l = c .before .before .before .before in
-    let xs = l .before .args .t2 in
-    let k : l .before .args .opening .cores ≤ length xs = omega arith in
-    (search needs, scan-on _ xs _ freshCore k (l .loop .i) (c .before .before .before .loop-test .taken) (l .loop .inv .1) _ (c .before .slot-fits .ensures) (c .if1 .left))
+    let l = c .before .before .before .before .loop in
+    (search needs, l .inv .1, scan-on _ _ _ freshCore (l .inv .1) (l .i) (c .before .before .before .loop-test .taken) (l .inv .2) _ (c .before .slot-fits .ensures) (c .if1 .left))
 
 returns-2 : tie.Need-returns-2 Inv-loop μ-loop
 unfolding slotsFit
 returns-2 c =
-    let xs = c .before .before .args .t2 in
-    let k : c .before .before .args .opening .cores ≤ length xs = omega arith in
-    scan-ends _ xs _ freshCore k (c .before .loop .i) (c .loop-test .left) (c .before .loop .inv .1)
+    let l = c .before .loop in
+    scan-ends _ _ _ freshCore (l .inv .1) (l .i) (c .loop-test .left) (l .inv .2)
 
 pub slots-fit-spec : {M : Type 1} → statement M
 slots-fit-spec =
