@@ -10,7 +10,7 @@ use Rattle.listing.specs.Record.{recordText}
 use Rattle.driver.specs.{Listing.{NotOpened, outside, notOpened}, Pieces.{Puts, refusedBy, openedBy}}
 use Rattle.driver.specs.{Play.{Begins, opens, fails, noRoom, noRoomToEnd, Starts}, declared.Checkpoint.Checkpoint}
 use Rattle.driver.specs.declared.{Progress.{Progress, the-variants.More}, Played.Played}
-use Rattle.driver.proofs.Putting.{put-written, put-short}
+use Rattle.driver.proofs.Putting.{put-written, put-short, fills-none, fills-more}
 
 -- what the test of the limits says of 7
 open-fits : (o : Sizes) → openingFits o ≡ true → openRefusal o ≡ 0
@@ -29,12 +29,10 @@ outside-limits {j} {o = o} x e =
 -- no engine is opened
 module _ {j old new : Bytes} {n : ℕ} {r : Played} (x : NotOpened j n) (u : Puts (notOpened n) refusedBy old new r) where
   away : (p : Put) → PutAt old 0 (notOpened n) new p → r ≡ refusedBy p → Starts j old new r
-  away (End e) w f =
-      let v = put-written w refl in
-      rw f (record { size = v .size; within = omega (arith, v .room, v .end, v .size); beyond = v .beyond; begins = fails x refl (v .before) })
+  away (End e) w f = let v = put-written w refl in rw f (record { fills = fills-more (fills-none old) v; begins = fails x refl (v .before) })
   away Short w f =
       let h = put-short w refl in
-      rw (f, h .1) (record { size = refl; within = omega arith; beyond = refl; begins = noRoomToEnd x refl refl (omega (arith, h .0)) })
+      rw (f, h .1) (record { fills = fills-none old; begins = noRoomToEnd x refl refl (omega (arith, h .0)) })
 
   pub starts-refused : Starts j old new r
   starts-refused = away (u .put) (u .text) (u .played)
@@ -47,10 +45,10 @@ module _ {j old new : Bytes} {form next : ℕ} {o : Sizes} {r : Played} (x : Nex
   begun : (p : Put) → PutAt old 0 (recordText (place 0) (openReply o)) new p → r ≡ openedBy next form o p → Starts j old new r
   begun (End e) w g =
       let v = put-written w refl in
-      rw g (record { size = v .size; within = omega (arith, v .room, v .end, v .size); beyond = v .beyond; begins = opens x (open-fits o f) refl (v .before) })
+      rw g (record { fills = fills-more (fills-none old) v; begins = opens x (open-fits o f) refl (v .before) })
   begun Short w g =
       let h = put-short w refl in
-      rw (g, h .1) (record { size = refl; within = omega arith; beyond = refl; begins = noRoom x (open-fits o f) refl refl (omega (arith, h .0)) })
+      rw (g, h .1) (record { fills = fills-none old; begins = noRoom x (open-fits o f) refl refl (omega (arith, h .0)) })
 
   pub starts-open : Starts j old new r
   starts-open = begun (u .put) (rw reply (u .text)) (u .played)

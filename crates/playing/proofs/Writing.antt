@@ -1,15 +1,10 @@
 -- A text at the start of an output, and all bytes past it as they were: the text tells how much was written, and the output.
-use Prim.Native.Nat.{ℕ, _+_, _-_, _≤_}
+use Prim.Native.Nat.{ℕ, _+_, _-_}
 use mathlib.Core.{Path.{_≡_, sym, _∙_, ap, ap₂}, List._++_}
 use native.Mathlib.Omega.{arith}
 use lib.{ListN.{length, take, drop, take-append-drop}, Seq.length-take-le}
 use Rattle.protocol.specs.Buffers.{Bytes}
-
--- n bytes were written to the output `old`, from its start
-pub record Fills (old new : Bytes) (n : ℕ) : Type 0 where
-  pub size : length new ≡ length old
-  pub within : n ≤ length new
-  pub beyond : drop n new ≡ drop n old
+use Rattle.driver.specs.Play.{Fills}
 
 module _ {old a b : Bytes} {n m : ℕ} (x : Fills old a n) (y : Fills old b m) where
   -- the texts and what is left beside them are as long as the output

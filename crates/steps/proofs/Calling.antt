@@ -5,7 +5,7 @@ use native.Mathlib.Omega.{arith}
 use lib.ListN.{length, take, replicate}
 use Rattle.protocol.{specs.Buffers.{Bytes, privateLength, sharedLength}, proofs.Tests.never}
 use Rattle.driver.specs.{Play.{resumable, Plays, Starts}, declared.Checkpoint.Checkpoint}
-use Rattle.driver.{specs.declared.{Progress.{Progress, the-variants.{Finished, More}}, Played.Played}, proofs.Loop.resumes}
+use Rattle.driver.{specs.declared.{Progress.{Progress, the-variants.{Finished, More}}, Played.Played}, proofs.Resuming.resumes}
 use Rattle.playing.specs.{Calls.{Plays-on, last, next, Playing, over, begun}, Theorems.{Begun, listed, running, Onward, ends, further}}
 use Rattle.playing.proofs.{Whole.whole-theorem, Progressing.{start-advances-theorem, play-advances-theorem}}
 use Rattle.steps.specs.Listed.{goesOn, Ended, ended, stopped, Listed, whole, part}
@@ -43,7 +43,7 @@ module _ {j : Bytes} {from : Checkpoint} {p₀ q₀ : Bytes} {there : Checkpoint
   pub call-more : goesOn (r .progress) ≡ true → Called j from p₀ q₀ (r .checkpoint) p' q' new
   call-more e =
       let o = on-more on e in
-      record { resumable = o .2; room = omega (arith, x .size, c .room); onward = λ ts y. c .onward _ (next x (o .0) y) }
+      record { resumable = o .2; room = omega (arith, x .fills .size, c .room); onward = λ ts y. c .onward _ (next x (o .0) y) }
 
 -- ---- the first call
 
@@ -69,7 +69,7 @@ module _ {j old new : Bytes} {r : Played} (x : Starts j old new r) where
 
   module _ (h : 246 ≤ length new) where
     begins : Begun j (r .checkpoint) (r .progress)
-    begins = start-advances-theorem j old new r x (omega (arith, h, x .size))
+    begins = start-advances-theorem j old new r x (omega (arith, h, x .fills .size))
 
     -- the listing is out whole, or `play` goes on from the checkpoint
     pub list-over : goesOn (r .progress) ≡ false → Listed j true

@@ -1,6 +1,5 @@
 -- The first call lists the journal, or the calls of `play` do on buffers of zeros: the sizes that were opened lie inside the limits, so the parts
 -- lie in the arrays.
-use Prim.Native.Nat.{_≤_}
 use mathlib.Core.{Path._≡_, Bool.true}
 use native.Mathlib.Omega.{arith}
 use lib.ListN.{length}

@@ -1,6 +1,6 @@
 -- Each call that goes on gets further on in the journal; the last one is finished.
 use Prim.Native.Nat.{_-_}
-use mathlib.Core.{Path.{_≡_, refl, sym, _∙_}, Bool.{true, false}}
+use mathlib.Core.Path.{_≡_, refl, _∙_}
 use native.Mathlib.Omega.{arith}
 use lib.ListN.{length}
 use borrow.Author.Needs.{needs}
@@ -58,7 +58,7 @@ play-on-spec =
     (tie.spec
     Inv-loop μ-loop (λ c. let a = c .before .before .before .before in (refl, refl, refl, called-start (a .pre .0) (a .pre .1)))
     (λ c κs. search needs) (λ c. search needs) (λ c. search needs)
-    (λ c. at-play (c .before .before) .play .ensures .within) (λ c κs. search needs)
+    (λ c. at-play (c .before .before) .play .ensures .fills .within) (λ c κs. search needs)
     (λ c. search needs) (λ c. search needs) (λ c. search needs)
     (λ c. stopped) (λ c κs. search needs)
     (λ c. search needs) (λ c. search needs) (λ c. search needs)
