@@ -1,9 +1,10 @@
 -- The first line: an engine is opened and its line written, or the whole listing is written, or there is no room.
 use Prim.Native.Nat.{ℕ}
-use mathlib.Core.{Path.{_≡_, refl, subst}, Bool.{Bool, true, false}}
+use mathlib.Core.{Path.{_≡_, refl, subst}, Bool.{true, false}}
 use native.Mathlib.Omega.{arith}
 use Rattle.protocol.specs.{Pick.first, Limits.openingFits, Buffers.Bytes, Refusals.openRefusal, Step.{done, openReply}, Run.place}
 use Rattle.protocol.specs.declared.{Opening.Opening as Sizes, Name.the-variants.Open}
+use Rattle.protocol.proofs.Refusals.{opening-fit}
 use Rattle.spelling.specs.{Over.PutAt, declared.Put.{Put, the-variants.{End, Short}}}
 use Rattle.journal.specs.{Journal.NextOf, declared.Next.the-variants.Opening}
 use Rattle.listing.specs.Record.{recordText}
@@ -56,11 +57,7 @@ module _ {j old new : Bytes} {form next : ℕ} {o : Sizes} {r : Played} (x : Nex
 -- ---- what a caller of `start` knows
 
 begun-fits : {j : Bytes} {there : Checkpoint} {text : Bytes} {room : ℕ} {g : Progress} → Begins j there text room g → g ≡ More → openingFits (there .state .opening) ≡ true
-begun-fits (opens {o = o} x h t u) e = rw t (go (openingFits o) refl)
-  where
-    go : (b : Bool) → openingFits o ≡ b → openingFits o ≡ true
-    go true f = f
-    go false f = absurd (omega (arith, open-outside o f, h))
+begun-fits (opens {o = o} x h t u) e = rw t (opening-fit o h)
 begun-fits (fails n t u) e = absurd (let z : _≡_ {A = ℕ} 0 1 = cc in omega arith)
 begun-fits (noRoom x h t u r) e = absurd (let z : _≡_ {A = ℕ} 0 1 = cc in omega arith)
 begun-fits (noRoomToEnd n t u r) e = absurd (let z : _≡_ {A = ℕ} 0 1 = cc in omega arith)

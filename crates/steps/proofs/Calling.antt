@@ -1,9 +1,9 @@
 -- From one call of the driver to the next, each with room.
-use Prim.Native.Nat.{ℕ, zero, suc, _-_, _≤_, _<_}
-use mathlib.Core.{Path.{_≡_, refl, sym, ap}, Bool.{Bool, true, false}, List.{List, _∷_}}
+use Prim.Native.Nat.{ℕ, _-_, _≤_, _<_}
+use mathlib.Core.{Path.{_≡_, refl, sym}, Bool.{Bool, true, false}, List.List}
 use native.Mathlib.Omega.{arith}
 use lib.ListN.{length, take, replicate}
-use Rattle.protocol.{specs.Buffers.{Bytes, privateLength, sharedLength}, proofs.Tests.never}
+use Rattle.protocol.{specs.Buffers.{Bytes, privateLength, sharedLength}, proofs.{Tests.never, Bytes.zeros-part}}
 use Rattle.driver.specs.{Play.{resumable, Plays, Starts}, declared.Checkpoint.Checkpoint}
 use Rattle.driver.{specs.declared.{Progress.{Progress, the-variants.{Finished, More}}, Played.Played}, proofs.Resuming.resumes}
 use Rattle.playing.specs.{Calls.{Plays-on, last, next, Playing, over, begun}, Theorems.{Begun, listed, running, Onward, ends, further}}
@@ -79,10 +79,5 @@ module _ {j old new : Bytes} {r : Played} (x : Starts j old new r) where
     list-more e = begun-more begins e
 
 -- the first of many zeros
-zeros : (n m : ℕ) → n ≤ m → take {A = ℕ} n (replicate m 0) ≡ replicate n 0
-zeros zero m h = refl
-zeros (suc n) zero h = absurd (omega arith)
-zeros (suc n) (suc m) h = ap (λ (l : Bytes). 0 ∷ l) (zeros n m (omega arith))
-
 pub part-zeros : (n m : ℕ) → n ≤ m → take {A = ℕ} (n - 0) (replicate m 0) ≡ replicate n 0
-part-zeros n m h = let k : n - 0 ≡ n = omega arith in rw k (zeros n m h)
+part-zeros n m h = let k : n - 0 ≡ n = omega arith in rw k (zeros-part m 0 n (omega arith))
