@@ -1,24 +1,24 @@
 -- What is written in one piece has at most 246 bytes. So with an output of that length each call of `start` and of `play` writes something, and
 -- the calls come to the listing's last line.
 use Prim.Native.Nat.{ℕ, _+_, _≤_, _<_}
-use mathlib.Core.{Path.{_≡_, refl, ap}, Bool.{Bool, true, false}, List.{List, [], _∷_}}
+use mathlib.Core.{Path.{_≡_, refl, sym, _∙_, ap}, Bool.{Bool, true, false}, List.{List, [], _∷_}}
 use native.Mathlib.Omega.{arith}
-use lib.{Dec.eqb, ListN.{length, drop, length-append, length-take}, Seq.length-take-le}
+use lib.{Dec.eqb, ListN.{length, drop, length-append, length-take}}
 use borrow.Author.Tests.{eqb-true, le-leb}
 use Rattle.protocol.specs.{Pick.pick, Buffers.{Bytes, copyStart, copyBytes}, About.about, Machine.{Machine, machine}}
 use Rattle.protocol.specs.{Refusals.{openRefusal, wrongCount, refusal}, Run.{Entry, place, run}}
 use Rattle.protocol.specs.Step.{refused, done as reply, meaning, actBytes, commitBytes, openReply, accepted, step}
 use Rattle.protocol.specs.{Counts.{counts, sum}, declared.{Place.Place, Counts.Counts, Opening.Opening as Sizes, Call.Call}}
 use Rattle.protocol.specs.declared.{Act.{Act, the-variants.{Load, Store, Fence, Advance, Transfer}}, Answer.the-variants.Done}
-use Rattle.protocol.{specs.declared.{Name.the-variants.Open, Effect.Effect}, proofs.Extents.inside}
+use Rattle.protocol.{specs.declared.{Name.the-variants.Open, Effect.Effect}, proofs.{Tests.never, Extents.inside}}
 use Rattle.protocol.proofs.Refusals.{machine-fit, named, store-width, not-refused}
 use Rattle.journal.proofs.Lines.{line-read, line-inside}
 use Rattle.listing.{specs.Record.recordText, proofs.Lengths.{record-length, end-length}}
 use Rattle.driver.specs.Listing.{Ending, ended, stopped, lines, lastLines, notOpened}
-use Rattle.driver.specs.Play.{resumable, Piece, aStep, theEnd, Tells, finished, more, unfit, Plays, firstCheckpoint, Begins}
-use Rattle.driver.specs.{Play.{opens, fails, noRoom, noRoomToEnd, Starts}, declared.Checkpoint.Checkpoint}
-use Rattle.driver.specs.declared.{Progress.{Progress, the-variants.{More, Short}}, Played.Played}
+use Rattle.driver.specs.Play.{resumable, Piece, aStep, theEnd, Tells, finished, more, unfit, firstCheckpoint, Begins, opens, fails, noRoom, noRoomToEnd}
+use Rattle.driver.specs.declared.{Checkpoint.Checkpoint, Progress.Progress}
 use Rattle.driver.proofs.{Reading.known, Resuming.{resumes-again, steps-long, leads-on}, Putting.refused-length}
+use Rattle.playing.proofs.Writing.{text-and-room}
 use Rattle.playing.specs.Theorems.{pieceBytes, Begun, listed, running, Onward, ends, further, StartAdvancesTheorem, PlayAdvancesTheorem}
 
 -- ---- how long a piece is
@@ -62,29 +62,6 @@ piece-length : {j : Bytes} {s : Checkpoint} {p q t : Bytes} → Piece j s p q t 
 piece-length {s = s} {p} {q} (aStep {call = call} {bs = bs} x d) = step-length (place (s .counts .steps + 1)) (machine (s .state) p q) call bs
 piece-length {s = s} (theEnd {e = e} x) = last-length (s .counts) e
 
--- ---- play
-
-told-room :
-    {j : Bytes} {from : Checkpoint} {p q : Bytes} {there : Checkpoint} {p' q' text : Bytes} {room : ℕ} {g : Progress} → Tells j from p q there p' q' text room g
-    → g ≡ More → room < pieceBytes
-told-room (finished s l r t) e = absurd (let z : _≡_ {A = ℕ} 0 1 = cc in omega arith)
-told-room (more s l t x h) e = omega (arith, piece-length x)
-told-room (unfit s a b d t) e = absurd (let z : _≡_ {A = ℕ} 0 1 = cc in omega arith)
-
--- A CALL OF `play` THAT GOES ON leaves fewer than 246 bytes of the output unwritten
-play-fills :
-    {j : Bytes} {from : Checkpoint} {p q old p' q' new : Bytes} {r : Played} → Plays j from p q old p' q' new r → r .progress ≡ More
-    → length new < r .written + pieceBytes
-play-fills x e = let h = told-room (x .tells) e in omega (arith, x .fills .within)
-
--- so to an output of 246 bytes or more it wrote something
-play-writes :
-    {j : Bytes} {from : Checkpoint} {p q old p' q' new : Bytes} {r : Played} → Plays j from p q old p' q' new r → r .progress ≡ More
-    → pieceBytes ≤ length new → 0 < r .written
-play-writes x e h = let f = play-fills x e in omega arith
-
--- ---- start
-
 -- the line of an opening, and the listing of a journal that opens no engine
 opening-length : (o : Sizes) → length (recordText (place 0) (openReply o)) ≤ pieceBytes
 unfolding meaning
@@ -97,20 +74,6 @@ opening-length o = go (eqb (openRefusal o) 0)
 unopened-length : (n : ℕ) → length (notOpened n) ≤ pieceBytes
 unopened-length n = simp length-append (omega (arith, refused-length (place 0) n, end-length (counts 0 0 1)))
 
-begun-room :
-    {j : Bytes} {there : Checkpoint} {text : Bytes} {room : ℕ} {g : Progress} → Begins j there text room g → g ≡ Short
-    → (room < pieceBytes) × (text ≡ [])
-begun-room (opens x h t u) e = absurd (let z : _≡_ {A = ℕ} 0 1 = cc in omega arith)
-begun-room (fails n t u) e = absurd (let z : _≡_ {A = ℕ} 0 1 = cc in omega arith)
-begun-room (noRoom {o = o} x h t u r) e = (omega (arith, opening-length o), u)
-begun-room (noRoomToEnd {n = n} x t u r) e = (omega (arith, unopened-length n), u)
-
--- A CALL OF `start` with an output of 246 bytes or more is never short of room
-start-writes : {j old new : Bytes} {r : Played} → Starts j old new r → pieceBytes ≤ length new → r .progress ≡ Short → ⊥
-start-writes {new = new} {r = r} x h e =
-    let b = begun-room (x .begins) e in
-    omega (arith, b .0, ap length (b .1), length-take-le (r .written) new (x .fills .within))
-
 -- ---- the run gets to its end
 
 -- where a line is written, a step was made
@@ -119,27 +82,28 @@ unfolding run lines
 lines-some [] n m h = absurd (omega arith)
 lines-some (g ∷ gs) n m h = omega arith
 
+-- where the output has room for a piece, a call of `play` that goes on wrote the line of a step
 told-onward :
     {j : Bytes} {from : Checkpoint} {p q : Bytes} {there : Checkpoint} {p' q' text : Bytes} {room : ℕ} {g : Progress} → Tells j from p q there p' q' text room g
-    → resumable (length j) from ≡ true → (g ≡ More → 0 < length text) → Onward j from there g
+    → resumable (length j) from ≡ true → pieceBytes ≤ length text + room → Onward j from there g
 told-onward (finished s l r t) e h = ends
 told-onward {from = from} {p} {q} (more {gs = gs} s l t x r) e h =
-    let n = lines-some gs (from .counts .steps + 1) (machine (from .state) p q) (rw t at (h refl)) in
+    let n = lines-some gs (from .counts .steps + 1) (machine (from .state) p q) (omega (arith, ap length t, piece-length x)) in
     further (omega (arith, steps-long (l .steps))) (resumes-again _ _ (leads-on s l))
-told-onward (unfit s a b d t) e h = absurd (let z : _≡_ {A = ℕ} 0 1 = cc in omega arith)
+told-onward (unfit s a b d t) e h = never (sym e ∙ s)
 
-pub play-advances-theorem : PlayAdvancesTheorem
-play-advances-theorem j from p q old p' q' new r x s h =
-    told-onward (x .tells) s (λ e. omega (arith, length-take-le (r .written) new (x .fills .within), play-writes x e (omega (arith, x .fills .size))))
-
+-- and `start` is never short of room
 told-begun :
-    {j : Bytes} {there : Checkpoint} {text : Bytes} {room : ℕ} {g : Progress} → Begins j there text room g → (g ≡ Short → ⊥) → Begun j there g
+    {j : Bytes} {there : Checkpoint} {text : Bytes} {room : ℕ} {g : Progress} → Begins j there text room g → pieceBytes ≤ length text + room → Begun j there g
 told-begun {j} (opens {form = f} {o = o} {next = n} x h t u) k =
     let i = line-inside (line-read x refl .1) in
     running (rw t (resumes-again (length j) (firstCheckpoint n f o) (record { named = known x .1; inside = i .1; few = rw (le-leb 0 n (omega arith)) })))
 told-begun (fails n t u) k = listed
-told-begun (noRoom x h t u r) k = absurd (k refl)
-told-begun (noRoomToEnd x t u r) k = absurd (k refl)
+told-begun (noRoom {o = o} x h t u r) k = absurd (omega (arith, opening-length o, ap length u))
+told-begun (noRoomToEnd {n = n} x t u r) k = absurd (omega (arith, unopened-length n, ap length u))
+
+pub play-advances-theorem : PlayAdvancesTheorem
+play-advances-theorem j from p q old p' q' new r x s h = told-onward (x .tells) s (omega (arith, text-and-room (x .fills)))
 
 pub start-advances-theorem : StartAdvancesTheorem
-start-advances-theorem j old new r x h = told-begun (x .begins) (start-writes x (omega (arith, x .fills .size)))
+start-advances-theorem j old new r x h = told-begun (x .begins) (omega (arith, text-and-room (x .fills)))
