@@ -1,5 +1,5 @@
 -- The counts of a run: the counts of its records one after the other, and how great they can be.
-use Prim.Native.Nat.{ℕ, _+_, _≤_}
+use Prim.Native.Nat.{ℕ, suc, _+_, _≤_}
 use mathlib.Core.{Path.{_≡_, refl, sym, _∙_, ap}, Bool.true, List.{List, [], _∷_, _++_}}
 use native.Mathlib.{Nat.{add-assoc, add-zero, zero-add}, Omega.arith}
 use lib.{Dec.leb, ListN.length}
@@ -70,3 +70,10 @@ pub few-one : (call : Call) (x : Reply) → few (countsOf call x) 1 ≡ true
 few-one call (refused n) = refl
 few-one call (done d) = refl
 few-one call (commit c t o) = refl
+
+-- no count is above the number of records
+pub few-total : (rs : List Record) → few (total rs) (length rs) ≡ true
+unfolding total
+few-total [] = refl
+few-total (r ∷ rs) =
+    few-sum (countsOf (r .given .call) (r .reply)) (total rs) 1 (length rs) (suc (length rs)) (few-one (r .given .call) (r .reply)) (few-total rs) (omega arith)

@@ -2,6 +2,7 @@
 pub mod Reading
 pub mod Counting
 pub mod Running
+pub mod Resuming
 pub mod Putting
 pub mod Stepping
 pub mod Loop

@@ -1,89 +1,53 @@
 -- The driver's loop: what holds at its head, that a step keeps it, and what it gives where the loop is left.
 use Prim.Native.Nat.{ℕ, _+_, _-_, _≤_}
-use mathlib.Core.{Path.{_≡_, refl, sym, _∙_, ap}, Bool.{Bool, true, false}, List.{List, [], _∷_, _++_}}
+use mathlib.Core.{Path.{_≡_, refl, sym, _∙_, ap}, Bool.true, List.{List, [], _∷_, _++_}}
 use native.Mathlib.Omega.{arith}
-use lib.{Dec.{eqb, leb}, ListN.{length, take, drop}, Seq.{length-take-le, drop-drop}}
-use borrow.Author.Tests.{leb-true, eqb-false}
-use Rattle.protocol.specs.{Pick.fails, Limits.{mostCores, mostLines}, Buffers.Bytes, About.{about, namedLine}, Refusals.machineRefusal}
+use lib.{ListN.{length, take}, Seq.length-take-le}
+use Rattle.protocol.specs.{Limits.{mostCores, mostLines}, Buffers.Bytes, About.{about, namedLine}, Refusals.machineRefusal}
 use Rattle.protocol.specs.Machine.{Machine, machine, coreAt, lineAt, piecesAt, theCore, theLine, written, applied}
 use Rattle.protocol.specs.{Step.{Reply, meaning, actBytes, Outcome, accepted, step}, Run.{Entry, place, run}, Counts.{countsOf, sum}}
 use Rattle.protocol.specs.declared.{Opening.Opening as Sizes, State.State, Call.Call, About.About, Counts.Counts, Effect.Effect}
-use Rattle.protocol.proofs.{Tests.both-true, Keep.still}
+use Rattle.protocol.proofs.Keep.{still}
 use Rattle.spelling.specs.{Over.PutAt, declared.Put.{Put, the-variants.{End as PutEnd, Short as NoRoom}}}
 use Rattle.refusals.specs.Input.{inputRefusal}
 use Rattle.buffers.specs.Moves.{Moves}
 use Rattle.listing.specs.Record.{recordText}
 use Rattle.tables.{specs.Found.{Found, effectWith}, proofs.Making.{Finds, made, is-step, is-moved, is-inside}}
 use Rattle.driver.specs.Listing.{Ending, EndsAt, lines, lastLines}
-use Rattle.driver.specs.Play.{runFrom, few, resumable, Leads, Piece, aStep, theEnd, finished, more, Plays}
+use Rattle.driver.specs.Play.{runFrom, few, resumable, Leads, Piece, aStep, theEnd, Fills, finished, more, Plays}
 use Rattle.driver.specs.Pieces.{endingOf, IsByte, StepDue, DueAt, aStep as isStep, theEnd as isEnd, beside, BesideInside, answerLine, checkpointAt}
 use Rattle.driver.specs.{Pieces.playedBy, declared.{Checkpoint.Checkpoint, Played.Played, Last.Last}}
 use Rattle.driver.specs.declared.Due.{Due, the-variants.{Step, Last as AtLast}}
-use Rattle.driver.proofs.{Counting.{one-step, same-counts, few-one, few-later, few-sum}, Stepping.replied}
-use Rattle.driver.proofs.{Running.{given, leads-none, leads-more, lines-more}, Putting.{Written, put-written, put-short}}
+use Rattle.driver.proofs.{Counting.{one-step, same-counts, few-later}, Stepping.replied}
+use Rattle.driver.proofs.{Running.{given, leads-none, leads-more, lines-more}, Resuming.{Resumes, leads-on}}
+use Rattle.driver.proofs.Putting.{Written, put-written, put-short, fills-none, fills-more}
 
 -- at the loop's head: the steps gs were made from one checkpoint to the other, and their lines are written
 pub record Reached (j : Bytes) (from : Checkpoint) (p₀ q₀ old : Bytes) (o : Sizes) (base : ℕ) (p q out : Bytes) (there : Checkpoint) (used : ℕ) : Type 0 where
   pub start : resumable (length j) from ≡ true
-  pub named : there .form ≡ 0 → ⊥
-  pub inside : there .at ≤ length j
-  pub few : few (there .counts) (there .at) ≡ true
   pub opening : there .state .opening ≡ o
   pub based : base ≡ machineRefusal (machine (there .state) p q)
   pub gs : List Entry
   pub leads : Leads j from p₀ q₀ gs there p q
   pub text : take used out ≡ lines (runFrom from p₀ q₀ gs .records)
-  pub size : length out ≡ length old
-  pub within : used ≤ length out
-  pub beyond : drop used out ≡ drop used old
+  pub fills : Fills old out used
 
 -- ---- the loop begins
-
--- what a checkpoint of a journal of n bytes says
-pub record Resumes (n : ℕ) (s : Checkpoint) : Type 0 where
-  pub named : s .form ≡ 0 → ⊥
-  pub inside : s .at ≤ n
-  pub few : few (s .counts) (s .at) ≡ true
-
-unnamed : (b : Bool) → fails b ≡ true → b ≡ false
-unnamed true e = sym e
-unnamed false e = refl
-
-pub resumes : (n : ℕ) (s : Checkpoint) → resumable n s ≡ true → Resumes n s
-resumes n s e =
-    let a = both-true (fails (eqb (s .form) 0)) _ e in
-    let b = both-true (leb (s .at) n) _ (a .1) in
-    record { named = eqb-false _ 0 (unnamed _ (a .0)); inside = leb-true _ _ (b .0); few = b .1 }
 
 pub reached-start :
     (j : Bytes) (s : Checkpoint) (p q old : Bytes) (base : ℕ) → resumable (length j) s ≡ true → base ≡ machineRefusal (machine (s .state) p q)
     → Reached j s p q old (s .state .opening) base p q old s 0
 unfolding run lines
 reached-start j s p q old base e b =
-    let r = resumes (length j) s e in
-    record {
-      start = e;
-      named = r .named;
-      inside = r .inside;
-      few = r .few;
-      opening = refl;
-      based = b;
-      gs = [];
-      leads = leads-none j s p q;
-      text = refl;
-      size = refl;
-      within = omega arith;
-      beyond = refl;
-    }
-
--- the output past a text that was put
-past : (old out : Bytes) (used e n : ℕ) → drop used out ≡ drop used old → e ≡ used + n → drop e out ≡ drop e old
-past old out used e n h x = rw x (sym (drop-drop n used out) ∙ ap (drop n) h ∙ drop-drop n used old)
+    record { start = e; opening = refl; based = b; gs = []; leads = leads-none j s p q; text = refl; fills = fills-none old }
 
 module _ {j : Bytes} {from : Checkpoint} {p₀ q₀ old : Bytes} {o : Sizes} {base : ℕ} {p q out : Bytes} {there : Checkpoint} {used : ℕ} (g : Reached j from p₀ q₀ old o base p q out there used) where
-  -- the counts leave room for more
+  -- the run is at a checkpoint of the journal, and the counts leave room for more
+  pub at-checkpoint : Resumes (length j) there
+  at-checkpoint = leads-on (g .start) (g .leads)
+
   pub room-for : (n : ℕ) → length j ≤ n → few (there .counts) n ≡ true
-  room-for n h = few-later (there .counts) (there .at) n (g .few) (omega (arith, g .inside))
+  room-for n h = let r = at-checkpoint in few-later (there .counts) (there .at) n (r .few) (omega (arith, r .inside))
 
   -- ---- the loop is left
 
@@ -93,9 +57,8 @@ module _ {j : Bytes} {from : Checkpoint} {p₀ q₀ old : Bytes} {o : Sizes} {ba
       → Plays j from p₀ q₀ old p q out' r
   no-room t out' put r x w z e =
       let h = put-short w z in
-      let i = g .within in
-      rw (e, h .1)
-      (record { size = g .size; within = g .within; beyond = g .beyond; tells = more (g .start) (g .leads) (g .text) x (omega (arith, h .0)) })
+      let i = g .fills .within in
+      rw (e, h .1) (record { fills = g .fills; tells = more (g .start) (g .leads) (g .text) x (omega (arith, h .0)) })
 
   -- the last lines are put, or there is no room for them
   pub finish :
@@ -105,9 +68,7 @@ module _ {j : Bytes} {from : Checkpoint} {p₀ q₀ old : Bytes} {o : Sizes} {ba
       let v = put-written w refl in
       rw f
       (record {
-        size = v .size ∙ g .size;
-        within = omega (arith, v .room, v .end, v .size);
-        beyond = v .beyond ∙ past old out used k _ (g .beyond) (v .end);
+        fills = fills-more (g .fills) v;
         tells = finished (g .start) (g .leads) x (v .before ∙ ap (λ (l : Bytes). l ++ lastLines (there .counts) e) (g .text));
       })
   finish e out' NoRoom r x w f = no-room _ out' NoRoom r (theEnd x) w refl f
@@ -135,17 +96,12 @@ module _ {j : Bytes} {from : Checkpoint} {p₀ q₀ old : Bytes} {o : Sizes} {ba
     stepped s' p' q' out' e k em eo ek v =
         record {
           start = g .start;
-          named = g .named;
-          inside = x .inside;
-          few = rw ek (few-sum (there .counts) (countsOf call reply) (there .at) 1 next (g .few) (few-one call reply) (omega (arith, x .forward)));
           opening = eo;
           based = rw em (g .based ∙ still m call bs);
           gs = g .gs ++ (given call bs ∷ []);
           leads = leads-more (g .leads) call bs (checkpointAt next (there .form) k s') p' q' (x .line) (x .bytes .spelt) refl em ek;
           text = v .before ∙ rw (g .text) (sym (lines-more (g .leads) call bs));
-          size = v .size ∙ g .size;
-          within = omega (arith, v .room, v .end, v .size);
-          beyond = v .beyond ∙ past old out used e _ (g .beyond) (v .end);
+          fills = fills-more (g .fills) v;
         }
 
 -- ---- a step, from what its parts ensure

@@ -2,12 +2,12 @@
 use Prim.Native.Nat.{ℕ, _+_, _-_, _≤_, _<_}
 use mathlib.Core.{Path.{_≡_, refl, sym, _∙_, ap}, Bool.{Bool, true, false, cond}, List.{[], _++_, append-assoc}}
 use native.Mathlib.Omega.{arith}
-use lib.{ListN.{length, take, drop, length-append, length-take, length-drop}, Seq.{drop-at, take-at}}
+use lib.{ListN.{length, take, drop, length-append, length-take, length-drop}, Seq.{drop-at, take-at, drop-drop}}
 use borrow.Author.Tests.{leb-true, leb-false}
 use Rattle.protocol.specs.{Buffers.Bytes, Step.{refused, meaning}, declared.{Answer.the-variants.Refused, Place.Place, Counts.Counts}, Run.place}
 use Rattle.spelling.specs.{Over.{hasRoom, over, PutAt}, declared.Put.{Put, the-variants.{End, Short}}}
 use Rattle.listing.{specs.Record.{recordText, endText}, proofs.Lengths.{record-length, end-length}}
-use Rattle.driver.specs.Listing.{stopLines}
+use Rattle.driver.specs.{Listing.stopLines, Play.Fills}
 
 -- a text that was put: the offset after it, the output up to there, and the output past it
 pub record Written (old : Bytes) (at : ℕ) (t new : Bytes) (e : ℕ) : Type 0 where
@@ -46,6 +46,18 @@ put-short {old} {at} {t} {new} {r} p x = go (hasRoom (length old) at (length t))
     go : (b : Bool) → hasRoom (length old) at (length t) ≡ b → r ≡ cond b (End (at + length t)) Short → new ≡ cond b (over old at t) old → (length old < at + length t) × (new ≡ old)
     go true h a n = absurd (let z : _≡_ {A = ℕ} 0 1 = cc in omega arith)
     go false h a n = (leb-false _ _ h, n)
+
+-- ---- the output filled from its start
+
+pub fills-none : (old : Bytes) → Fills old old 0
+fills-none old = record { size = refl; within = omega arith; beyond = refl }
+
+-- a text more
+pub fills-more : {old out t new : Bytes} {used e : ℕ} → Fills old out used → Written out used t new e → Fills old new e
+fills-more {old} {out} {t} {used = used} g v =
+    let d : drop (used + length t) out ≡ drop (used + length t) old =
+    sym (drop-drop (length t) used out) ∙ ap (drop (length t)) (g .beyond) ∙ drop-drop (length t) used old in
+    record { size = v .size ∙ g .size; within = omega (arith, v .room, v .end, v .size); beyond = v .beyond ∙ rw (v .end) d }
 
 -- ---- the last lines of a run that a refused line ends
 

@@ -46,6 +46,14 @@ pub data Piece (journal : Bytes) (s : Checkpoint) (p q : Bytes) : Bytes → Type
       → Piece journal s p q (recordText (place (s .counts .steps + 1)) (step (machine (s .state) p q) call bs .reply))
   theEnd : {e : Ending} → EndsAt journal (s .form) (s .at) e → Piece journal s p q (lastLines (s .counts) e)
 
+-- ---- the output
+
+-- the first n bytes of an output are written: it keeps its length, and all bytes past them are as they were
+pub record Fills (old new : Bytes) (n : ℕ) : Type 0 where
+  pub size : length new ≡ length old
+  pub within : n ≤ length new
+  pub beyond : drop n new ≡ drop n old
+
 -- ---- play
 
 -- what `play` tells of a run from a checkpoint with the buffers p and q, by its progress: it wrote `text`, the run is `there`, with the
@@ -67,11 +75,9 @@ pub data Tells (journal : Bytes) (from : Checkpoint) (p q : Bytes) (there : Chec
       → Tells journal from p q there p' q' text room Unfit
 
 -- a call of `play` that returns r, for the buffers p and q and the output `old`, and leaves p', q' and `new`: the text is the first
--- `written` bytes of the output, which keeps its length, and all bytes past it are as they were
+-- `written` bytes of the output
 pub record Plays (journal : Bytes) (from : Checkpoint) (p q old p' q' new : Bytes) (r : Played) : Type 0 where
-  pub size : length new ≡ length old
-  pub within : r .written ≤ length new
-  pub beyond : drop (r .written) new ≡ drop (r .written) old
+  pub fills : Fills old new (r .written)
   pub tells : Tells journal from p q (r .checkpoint) p' q' (take (r .written) new) (length new - r .written) (r .progress)
 
 -- the same of a lent journal, lent buffers and a lent output, as they come and as they are left
@@ -105,7 +111,5 @@ pub data Begins (journal : Bytes) (there : Checkpoint) (text : Bytes) (room : �
 
 -- a call of `start` that returns r, for the output `old`, and leaves `new`
 pub record Starts (journal old new : Bytes) (r : Played) : Type 0 where
-  pub size : length new ≡ length old
-  pub within : r .written ≤ length new
-  pub beyond : drop (r .written) new ≡ drop (r .written) old
+  pub fills : Fills old new (r .written)
   pub begins : Begins journal (r .checkpoint) (take (r .written) new) (length new - r .written) (r .progress)

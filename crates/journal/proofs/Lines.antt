@@ -1,11 +1,14 @@
 -- Laws of the lines of a journal. Assumes nothing.
 use Prim.Native.Nat.{ℕ, _+_, _≤_, _<_, _-_}
-use mathlib.Core.{Path.{_≡_, sym, _∙_, ap, subst}, List.{List, _∷_, _++_, append-nil}, Logic.{inl, inr}}
+use mathlib.Core.{Path.{_≡_, sym, _∙_, ap, subst}, Bool.true, List.{List, _∷_, _++_, append-nil}, Logic.{inl, inr}}
 use native.Mathlib.{Omega.arith, Numerals.add-one}
-use lib.{ListN.{length, getD, take, drop, length-drop, drop-of-length-le}, Seq.{drop-cons, drop-drop}}
+use lib.{ListN.{length, getD, take, drop, length-append, length-drop, drop-of-length-le}, Seq.{drop-cons, drop-drop}}
+use Rattle.protocol.proofs.Tests.{never}
 use Rattle.spelling.{specs.Bytes.{Without, upTo}, proofs.Split.{Edge, upTo-clean, upTo-split, upTo-part}}
-use Rattle.grammar.specs.{Table.rowsOf, Line.LineOf, declared.Line.Line}
-use Rattle.journal.specs.Journal.{inJournal, LineAt, NextOf, aLine}
+use Rattle.grammar.specs.{Table.rowsOf, Line.LineOf}
+use Rattle.grammar.specs.declared.Line.{Line, the-variants.{Opening as OpeningLine, Step as StepLine, Refused as RefusedLine}}
+use Rattle.journal.specs.Journal.{inJournal, LineAt, NextOf, tooMuch, empty, ended, unended, aLine, goesOn, offsetAfter}
+use Rattle.journal.specs.declared.Next.{Next}
 
 -- the line from an offset up to a newline at e, or to the end
 module _ (j : List ℕ) (at e : ℕ) (ends : e ≡ at + length (upTo 10 (drop at j))) where
@@ -37,3 +40,17 @@ module _ (j : List ℕ) (at e : ℕ) (ends : e ≡ at + length (upTo 10 (drop at
 -- a line that was read is the answer at its offset
 pub line-answer : (j : List ℕ) (at e form : ℕ) (a : Line) → length j ≤ 65536 → e ≡ at + length (upTo 10 (drop at j)) → e < length j → LineOf (rowsOf form) (take (e - at) (drop at j)) a → NextOf j at form (inJournal a at (e + 1))
 line-answer j at e form a s ends h o = aLine (take (e - at) (drop at j)) (e + 1) s (line-here j at e ends h) o
+
+-- a line lies before the next one, and inside the journal
+pub line-inside : {j : List ℕ} {at : ℕ} {l : List ℕ} {next : ℕ} → LineAt j at l next → (at < next) × (next ≤ length j)
+line-inside h = (omega (arith, h .after), omega (arith, h .after, simp (length-append, length-drop) at (ap length (h .whole))))
+
+-- an answer after which reading goes on is a line, and the offset after it is the next line's
+pub line-read : {j : List ℕ} {at form : ℕ} {n : Next} → NextOf j at form n → goesOn n ≡ true → (l : List ℕ) × LineAt j at l (offsetAfter at n)
+line-read (tooMuch l) g = never (sym g)
+line-read (empty l h e) g = never (sym g)
+line-read (ended l h e) g = never (sym g)
+line-read (unended l h w) g = never (sym g)
+line-read (aLine {a = OpeningLine form sizes} l next s h o) g = (l, h)
+line-read (aLine {a = StepLine call start end} l next s h o) g = (l, h)
+line-read (aLine {a = RefusedLine n} l next s h o) g = never (sym g)

@@ -1,13 +1,12 @@
 -- No byte is passed over: however far a journal was read on from its start, the lines that were read, joined, are the bytes up to
 -- the offset reached, and at the end they are the journal. Assumes nothing.
 use Prim.Native.Nat.{ℕ, _+_}
-use mathlib.Core.{Path.{_≡_, refl, sym, _∙_, ap}, Bool.{true, false}, List.{List, [], _∷_, _++_, append-assoc}}
+use mathlib.Core.{Path.{_≡_, refl, sym, _∙_, ap}, List.{List, [], _∷_, _++_, append-assoc}}
 use native.Mathlib.Omega.{arith}
 use lib.{ListN.{length, take, drop, length-append, length-take, length-drop, take-append-drop}, Seq.{take-at, take-all}}
 use Rattle.spelling.specs.Bytes.{Without}
-use Rattle.grammar.specs.declared.Line.{Line, the-variants.{Opening as OpeningLine, Step as StepLine, Refused as RefusedLine}}
-use Rattle.journal.specs.Journal.{inJournal, LineAt, NextOf, tooMuch, empty, ended, unended, aLine, goesOn, offsetAfter}
-use Rattle.journal.specs.{Theorems.{Reached, start, on, joined, Lines, Passed, PassedTheorem}, declared.Next.Next}
+use Rattle.journal.specs.{Journal.{LineAt, offsetAfter}, Theorems.{Reached, start, on, joined, Lines, Passed, PassedTheorem}}
+use Rattle.journal.proofs.Lines.{line-read}
 
 lines-one-more : (ls : List (List ℕ)) (l : List ℕ) → Lines ls → Without 10 l → Lines (ls ++ (l ∷ []))
 lines-one-more [] l a w = (w, tt)
@@ -36,25 +35,10 @@ passed-line j k at l next h p =
     passed-lines j (k + 1) next (p .lines ++ (l ∷ [])) (simp length-append (omega (arith, p .count))) (lines-one-more (p .lines) l (p .clean) (h .clean))
     (take-line j at l next h ∙ ap (λ (x : List ℕ). x ++ (l ++ (10 ∷ []))) (p .bytes) ∙ sym (joined-one-more (p .lines) l))
 
-stopped : {A : Type 0} → false ≡ true → A
-stopped e = absurd (let z : _≡_ {A = ℕ} 0 1 = cc in omega arith)
-
-passed-answer : (j : List ℕ) (k at : ℕ) (l : List ℕ) (next : ℕ) (a : Line) → LineAt j at l next → goesOn (inJournal a at next) ≡ true → Passed j k at → Passed j (k + 1) (offsetAfter at (inJournal a at next))
-passed-answer j k at l next (OpeningLine form sizes) h g p = passed-line j k at l next h p
-passed-answer j k at l next (StepLine call x y) h g p = passed-line j k at l next h p
-passed-answer j k at l next (RefusedLine n) h g p = stopped g
-
-passed-next : (j : List ℕ) (k at form : ℕ) {n : Next} → NextOf j at form n → goesOn n ≡ true → Passed j k at → Passed j (k + 1) (offsetAfter at n)
-passed-next j k at form (tooMuch l) g p = stopped g
-passed-next j k at form (empty l h e) g p = stopped g
-passed-next j k at form (ended l h e) g p = stopped g
-passed-next j k at form (unended l h w) g p = stopped g
-passed-next j k at form (aLine {a = a} l next s h o) g p = passed-answer j k at l next a h g p
-
 passed : {j : List ℕ} {k at form : ℕ} → Reached j k at form → Passed j k at
 unfolding joined
 passed {j} start = passed-lines j 0 0 [] refl tt refl
-passed {j} (on {k = k} {at = at} {form = form} r n g) = passed-next j k at form n g (passed r)
+passed {j} (on {k = k} {at = at} {n = n} r x g) = let l = line-read x g in passed-line j k at (l .0) (offsetAfter at n) (l .1) (passed r)
 
 pub passed-theorem : PassedTheorem
 passed-theorem j k at form r = passed r

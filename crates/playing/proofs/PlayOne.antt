@@ -5,20 +5,17 @@ use mathlib.Core.{Path.{_≡_, refl, sym, _∙_, ap}, List.{List, [], _∷_, _++
 use native.Mathlib.Omega.{arith}
 use lib.{ListN.{length, length-append}, Seq.append-snoc}
 use Rattle.protocol.specs.{Buffers.Bytes, Machine.{Machine, machine}, Run.{Entry, Record, run}, Counts.{sum, total}}
+use Rattle.protocol.proofs.Tests.{never}
 use Rattle.driver.specs.Listing.{Ending, Between, aLine, EndsAt, lines, lastLines}
 use Rattle.driver.specs.{Play.{runFrom, Leads, Piece, aStep, theEnd, Tells, finished, more, unfit}, declared.Checkpoint.Checkpoint}
-use Rattle.driver.{specs.declared.Progress.Progress, proofs.Running.{given, lines-append, run-records, lines-more}}
+use Rattle.driver.{specs.declared.Progress.{Progress, the-variants.{Finished, More}}, proofs.Running.{given, lines-append, run-records, lines-more}}
 use Rattle.playing.specs.Theorems.{PlayOneTheorem}
 use Rattle.playing.proofs.OneReading.{step-same, ends-same, no-end, Compared, alike, fewer, further, compare, none-after}
-use Rattle.playing.proofs.Writing.{Fills, room-same, written-same, output-same}
+use Rattle.playing.proofs.Writing.{room-same, written-same, output-same}
 
 -- the lines of the steps gs made from a checkpoint
 abbrev linesFrom : Checkpoint → Bytes → Bytes → List Entry → Bytes
 linesFrom a p q gs = lines (runFrom a p q gs .records)
-
--- and the last lines, where they lead to the checkpoint b and the journal ends
-abbrev finishedFrom : Checkpoint → Bytes → Bytes → List Entry → Checkpoint → Ending → Bytes
-finishedFrom a p q gs b e = linesFrom a p q gs ++ lastLines (b .counts) e
 
 -- ---- the next piece
 
@@ -48,107 +45,94 @@ last-piece {s = s} (theEnd x) y = ap (lastLines (s .counts)) (ends-same x y)
 
 -- ---- two runs
 
--- two checkpoints with their buffers are the same
-record Same (s s' : Checkpoint) (p q p' q' : Bytes) : Type 0 where
-  pub checkpoint : s ≡ s'
-  pub private : p ≡ p'
-  pub shared : q ≡ q'
+-- the same checkpoint with the same buffers
+abbrev Same : Checkpoint → Checkpoint → Bytes → Bytes → Bytes → Bytes → Type 0
+Same s s' p q p' q' = (s ≡ s') × (p ≡ p') × (q ≡ q')
 
--- a checkpoint and its buffers, from where they are, the machine and the counts
+-- from where they are, the machine and the counts
 checkpoint-same :
     (s s' : Checkpoint) (p q p' q' : Bytes) → s .at ≡ s' .at → s .form ≡ s' .form → machine (s .state) p q ≡ machine (s' .state) p' q'
     → s .counts ≡ s' .counts → Same s s' p q p' q'
 checkpoint-same s s' p q p' q' a f m k =
     let es = ap (λ (x : Machine). x .state) m in
-    record { checkpoint = rw (a, f, k, es); private = ap (λ (x : Machine). x .private) m; shared = ap (λ (x : Machine). x .shared) m }
+    (rw (a, f, k, es), ap (λ (x : Machine). x .private) m, ap (λ (x : Machine). x .shared) m)
 
-module _ {j : Bytes} {a b d : Checkpoint} {p q p₁ q₁ p₂ q₂ : Bytes} {gs hs : List Entry} (l : Leads j a p q gs b p₁ q₁) (m : Leads j a p q hs d p₂ q₂) where
-  -- the same steps lead to the same checkpoint
-  leads-same : gs ≡ hs → b .at ≡ d .at → Same b d p₁ q₁ p₂ q₂
-  leads-same e n =
-      checkpoint-same b d p₁ q₁ p₂ q₂ n (l .form ∙ sym (m .form))
-      (l .machine ∙ ap (λ (ks : List Entry). runFrom a p q ks .last) e ∙ sym (m .machine))
-      (l .counts ∙ ap (λ (ks : List Entry). sum (a .counts) (total (runFrom a p q ks .records))) e ∙ sym (m .counts))
-
-  -- a run with no room for the next piece, and one that made more steps
-  no-fewer :
-      {g : Entry} {ks : List Entry} {t : Bytes} {room : ℕ} → Piece j b p₁ q₁ t → Between j (a .form) (b .at) (g ∷ ks) (d .at) → hs ≡ gs ++ (g ∷ ks)
-      → length (linesFrom a p q hs) ≤ length (linesFrom a p q gs) + room → room < length t → ⊥
-  no-fewer x y e n r = omega (arith, passed l x y, ap (λ (ks : List Entry). length (linesFrom a p q ks)) e)
-
-  -- a run that is finished, and one with no room for the next piece
-  not-both :
-      {e : Ending} {t : Bytes} {room : ℕ} → EndsAt j (b .form) (b .at) e → Piece j d p₂ q₂ t
-      → length (finishedFrom a p q gs b e) ≤ length (linesFrom a p q hs) + room → room < length t → ⊥
-  not-both {e} {t} x y n r = go (compare (l .steps) (m .steps))
-    where
-      all : length (finishedFrom a p q gs b e) ≡ length (linesFrom a p q gs) + length (lastLines (b .counts) e)
-      all = length-append (linesFrom a p q gs) (lastLines (b .counts) e)
-
-      go : Compared j (a .form) gs hs (b .at) (d .at) → ⊥
-      go (alike s i) =
-          let o = leads-same s i in
-          let z : t ≡ lastLines (b .counts) e = last-piece y (rw (o .checkpoint) at x) ∙ ap (λ (k : Checkpoint). lastLines (k .counts) e) (sym (o .checkpoint)) in
-          omega (arith, all, ap length z, ap (λ (ks : List Entry). length (linesFrom a p q ks)) s)
-      go (fewer g ks s i) = none-after i (rw (l .form) at x)
-      go (further g ks s i) = omega (arith, all, passed m y i, ap (λ (ks : List Entry). length (linesFrom a p q ks)) s)
-
--- ---- what two calls tell
+-- the same steps lead to the same checkpoint
+leads-same :
+    {j : Bytes} {a b d : Checkpoint} {p q p₁ q₁ p₂ q₂ : Bytes} {gs hs : List Entry} → Leads j a p q gs b p₁ q₁ → Leads j a p q hs d p₂ q₂ → gs ≡ hs
+    → b .at ≡ d .at → Same b d p₁ q₁ p₂ q₂
+leads-same {a = a} {b} {d} {p} {q} {p₁} {q₁} {p₂} {q₂} l m e n =
+    checkpoint-same b d p₁ q₁ p₂ q₂ n (l .form ∙ sym (m .form))
+    (l .machine ∙ ap (λ (ks : List Entry). runFrom a p q ks .last) e ∙ sym (m .machine))
+    (l .counts ∙ ap (λ (ks : List Entry). sum (a .counts) (total (runFrom a p q ks .records))) e ∙ sym (m .counts))
 
 -- the progress, the checkpoint with the buffers and the text are the same
-record Alike (g g' : Progress) (s s' : Checkpoint) (p q p' q' t t' : Bytes) : Type 0 where
-  pub progress : g ≡ g'
-  pub there : Same s s' p q p' q'
-  pub text : t ≡ t'
+abbrev Alike : Progress → Progress → Checkpoint → Checkpoint → Bytes → Bytes → Bytes → Bytes → Bytes → Bytes → Type 0
+Alike g h b d p₁ q₁ p₂ q₂ t u = (g ≡ h) × Same b d p₁ q₁ p₂ q₂ × (t ≡ u)
 
-module _ {j : Bytes} {a : Checkpoint} {p q : Bytes} where
-  -- two that are finished
-  finished-same :
-      {b d : Checkpoint} {p₁ q₁ p₂ q₂ : Bytes} {gs hs : List Entry} {e f : Ending} (l : Leads j a p q gs b p₁ q₁) (m : Leads j a p q hs d p₂ q₂)
-      → EndsAt j (b .form) (b .at) e → EndsAt j (d .form) (d .at) f
-      → Same b d p₁ q₁ p₂ q₂ × (finishedFrom a p q gs b e ≡ finishedFrom a p q hs d f)
-  finished-same {b} {d} {p₁} {q₁} {p₂} {q₂} {gs} {hs} {e} {f} l m x y = go (compare (l .steps) (m .steps))
+module _ (j : Bytes) (a : Checkpoint) (p q : Bytes) where
+  -- a run that made the steps gs wrote the text t: it is finished, or for the next piece there is no room
+  data Ran (gs : List Entry) (b : Checkpoint) (p' q' t : Bytes) (room : ℕ) : Progress → Type 0 where
+    whole : {e : Ending} → EndsAt j (b .form) (b .at) e → t ≡ linesFrom a p q gs ++ lastLines (b .counts) e → Ran gs b p' q' t room Finished
+    cut : {u : Bytes} → t ≡ linesFrom a p q gs → Piece j b p' q' u → room < length u → Ran gs b p' q' t room More
+
+  -- the text holds the lines of the steps
+  ran-long : {gs : List Entry} {b : Checkpoint} {p' q' t : Bytes} {room : ℕ} {g : Progress} → Ran gs b p' q' t room g → length (linesFrom a p q gs) ≤ length t
+  ran-long {gs} {b} (whole {e = e} x h) = omega (arith, ap length h, length-append (linesFrom a p q gs) (lastLines (b .counts) e))
+  ran-long (cut h x r) = omega (arith, ap length h)
+
+  -- a run stops where the lines of further steps have no room
+  no-fewer :
+      {gs hs ks : List Entry} {k : Entry} {b : Checkpoint} {p' q' t : Bytes} {room to : ℕ} {g : Progress} → Leads j a p q gs b p' q' → Ran gs b p' q' t room g
+      → Between j (a .form) (b .at) (k ∷ ks) to → hs ≡ gs ++ (k ∷ ks) → length (linesFrom a p q hs) ≤ length t + room → ⊥
+  no-fewer l (whole x h) i e n = none-after i (rw (l .form) at x)
+  no-fewer l (cut h x r) i e n = omega (arith, passed l x i, ap length h, ap (λ (ks : List Entry). length (linesFrom a p q ks)) e)
+
+  -- at one checkpoint a run is finished or has no room for the next piece, but not both
+  module _ (gs : List Entry) (b : Checkpoint) (p' q' : Bytes) where
+    not-both :
+        {e : Ending} {t u v : Bytes} {room : ℕ} → EndsAt j (b .form) (b .at) e → t ≡ linesFrom a p q gs ++ lastLines (b .counts) e → u ≡ linesFrom a p q gs
+        → Piece j b p' q' v → room < length v → length t ≤ length u + room → ⊥
+    not-both {e} x h k y r n =
+        omega (arith, ap length h, ap length k, length-append (linesFrom a p q gs) (lastLines (b .counts) e), ap length (last-piece y x))
+
+    told-here :
+        {t u : Bytes} {room room' : ℕ} {g h : Progress} → length t + room ≡ length u + room' → Ran gs b p' q' t room g → Ran gs b p' q' u room' h
+        → (g ≡ h) × (t ≡ u)
+    told-here n (whole x e) (whole y f) = (refl, e ∙ ap (λ (k : Ending). linesFrom a p q gs ++ lastLines (b .counts) k) (ends-same x y) ∙ sym f)
+    told-here n (whole x e) (cut f y r) = absurd (not-both x e f y r (omega arith))
+    told-here n (cut e x r) (whole y f) = absurd (not-both y f e x r (omega arith))
+    told-here n (cut e x r) (cut f y k) = (refl, e ∙ sym f)
+
+  ran-same :
+      {gs hs : List Entry} {b d : Checkpoint} {p₁ q₁ p₂ q₂ t u : Bytes} {room room' : ℕ} {g h : Progress} → length t + room ≡ length u + room'
+      → Leads j a p q gs b p₁ q₁ → Leads j a p q hs d p₂ q₂ → Ran gs b p₁ q₁ t room g → Ran hs d p₂ q₂ u room' h → Alike g h b d p₁ q₁ p₂ q₂ t u
+  ran-same {gs} {hs} {b} {d} {p₁} {q₁} {p₂} {q₂} {t} {u} {g = g} {h} n l m x y = go (compare (l .steps) (m .steps))
     where
-      go : Compared j (a .form) gs hs (b .at) (d .at) → Same b d p₁ q₁ p₂ q₂ × (finishedFrom a p q gs b e ≡ finishedFrom a p q hs d f)
+      go : Compared j (a .form) gs hs (b .at) (d .at) → Alike g h b d p₁ q₁ p₂ q₂ t u
       go (alike s i) =
           let o = leads-same l m s i in
-          let z : e ≡ f = ends-same (rw (o .checkpoint) at x) y in
-          (o, rw (s, o .checkpoint, z))
-      go (fewer g ks s i) = absurd (none-after i (rw (l .form) at x))
-      go (further g ks s i) = absurd (none-after i (rw (m .form) at y))
-
-  -- two that had no room for the next piece
-  more-same :
-      {b d : Checkpoint} {p₁ q₁ p₂ q₂ t u : Bytes} {gs hs : List Entry} {room room' : ℕ} (l : Leads j a p q gs b p₁ q₁) (m : Leads j a p q hs d p₂ q₂)
-      → Piece j b p₁ q₁ t → Piece j d p₂ q₂ u → room < length t → room' < length u
-      → length (linesFrom a p q gs) + room ≡ length (linesFrom a p q hs) + room'
-      → Same b d p₁ q₁ p₂ q₂ × (linesFrom a p q gs ≡ linesFrom a p q hs)
-  more-same {b} {d} {p₁} {q₁} {p₂} {q₂} {gs = gs} {hs} l m x y r k n = go (compare (l .steps) (m .steps))
-    where
-      go : Compared j (a .form) gs hs (b .at) (d .at) → Same b d p₁ q₁ p₂ q₂ × (linesFrom a p q gs ≡ linesFrom a p q hs)
-      go (alike s i) = (leads-same l m s i, ap (λ (ks : List Entry). linesFrom a p q ks) s)
-      go (fewer g ks s i) = absurd (no-fewer l m x i s (omega arith) r)
-      go (further g ks s i) = absurd (no-fewer m l y i s (omega arith) k)
+          let z = told-here hs d p₂ q₂ n (rw (s, o .0, o .1, o .2) at x) y in
+          (z .0, o, z .1)
+      go (fewer k ks s i) = absurd (no-fewer l x i s (omega (arith, ran-long y)))
+      go (further k ks s i) = absurd (no-fewer m y i s (omega (arith, ran-long x)))
 
   told-same :
       {b d : Checkpoint} {p₁ q₁ p₂ q₂ t u : Bytes} {room room' : ℕ} {g h : Progress} → length t + room ≡ length u + room' → Tells j a p q b p₁ q₁ t room g
       → Tells j a p q d p₂ q₂ u room' h → Alike g h b d p₁ q₁ p₂ q₂ t u
-  told-same n (finished s l x e) (finished s' m y f) = let z = finished-same l m x y in record { progress = refl; there = z .0; text = e ∙ z .1 ∙ sym f }
-  told-same n (finished s l x e) (more s' m f y r) = absurd (let k = rw (e, f) at n in not-both l m x y (omega arith) r)
-  told-same n (finished s l x e) (unfit s' i k o f) = absurd (let z : _≡_ {A = ℕ} 0 1 = cc in omega arith)
-  told-same n (more s l e x r) (finished s' m y f) = absurd (let k = rw (e, f) at n in not-both m l y x (omega arith) r)
-  told-same n (more s l e x r) (more s' m f y k) =
-      let z = more-same l m x y r k (rw (e, f) at n) in
-      record { progress = refl; there = z .0; text = e ∙ z .1 ∙ sym f }
-  told-same n (more s l e x r) (unfit s' i k o f) = absurd (let z : _≡_ {A = ℕ} 0 1 = cc in omega arith)
-  told-same n (unfit s' i k o f) (finished s l x e) = absurd (let z : _≡_ {A = ℕ} 0 1 = cc in omega arith)
-  told-same n (unfit s' i k o f) (more s l e x r) = absurd (let z : _≡_ {A = ℕ} 0 1 = cc in omega arith)
-  told-same n (unfit s i k o f) (unfit s' i' k' o' f') =
-      record { progress = refl; there = record { checkpoint = i ∙ sym i'; private = k ∙ sym k'; shared = o ∙ sym o' }; text = f ∙ sym f' }
+  told-same n (finished s l x e) (finished s' m y f) = ran-same n l m (whole x e) (whole y f)
+  told-same n (finished s l x e) (more s' m f y r) = ran-same n l m (whole x e) (cut f y r)
+  told-same n (finished s l x e) (unfit s' i k o f) = never (sym s ∙ s')
+  told-same n (more s l e x r) (finished s' m y f) = ran-same n l m (cut e x r) (whole y f)
+  told-same n (more s l e x r) (more s' m f y k) = ran-same n l m (cut e x r) (cut f y k)
+  told-same n (more s l e x r) (unfit s' i k o f) = never (sym s ∙ s')
+  told-same n (unfit s' i k o f) (finished s l x e) = never (sym s ∙ s')
+  told-same n (unfit s' i k o f) (more s l e x r) = never (sym s ∙ s')
+  told-same n (unfit s i k o f) (unfit s' i' k' o' f') = (refl, (i ∙ sym i', k ∙ sym k', o ∙ sym o'), f ∙ sym f')
 
 pub play-one-theorem : PlayOneTheorem
 play-one-theorem j from p q old a b x y =
-    let u : Fills old (a .out) (a .played .written) = record { size = x .size; within = x .within; beyond = x .beyond } in
-    let v : Fills old (b .out) (b .played .written) = record { size = y .size; within = y .within; beyond = y .beyond } in
-    let s = told-same (room-same u v) (x .tells) (y .tells) in
-    rw (s .progress, s .there .checkpoint, written-same u v (s .text), s .there .private, s .there .shared, output-same u v (s .text))
+    let s = told-same j from p q (room-same (x .fills) (y .fills)) (x .tells) (y .tells) in
+    let w = written-same (x .fills) (y .fills) (s .2) in
+    let o = output-same (x .fills) (y .fills) (s .2) in
+    rw (s .0, s .1 .0, w, s .1 .1, s .1 .2, o)

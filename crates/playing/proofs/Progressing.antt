@@ -1,26 +1,24 @@
 -- What is written in one piece has at most 246 bytes. So with an output of that length each call of `start` and of `play` writes something, and
 -- the calls come to the listing's last line.
-use Prim.Native.Nat.{ℕ, suc, _+_, _-_, _≤_, _<_}
+use Prim.Native.Nat.{ℕ, _+_, _≤_, _<_}
 use mathlib.Core.{Path.{_≡_, refl, sym, _∙_, ap}, Bool.{Bool, true, false}, List.{List, [], _∷_}}
 use native.Mathlib.Omega.{arith}
-use lib.{Dec.eqb, ListN.{length, drop, length-append, length-take, length-drop}, Seq.length-take-le}
-use borrow.Author.Tests.{eqb-true, ne-eqb, le-leb}
+use lib.{Dec.eqb, ListN.{length, drop, length-append, length-take}}
+use borrow.Author.Tests.{eqb-true, le-leb}
 use Rattle.protocol.specs.{Pick.pick, Buffers.{Bytes, copyStart, copyBytes}, About.about, Machine.{Machine, machine}}
-use Rattle.protocol.specs.{Refusals.{openRefusal, wrongCount, refusal}, Run.{Entry, Record, place, run}}
+use Rattle.protocol.specs.{Refusals.{openRefusal, wrongCount, refusal}, Run.{Entry, place, run}}
 use Rattle.protocol.specs.Step.{refused, done as reply, meaning, actBytes, commitBytes, openReply, accepted, step}
-use Rattle.protocol.specs.{Counts.{counts, countsOf, sum, total}, declared.{Place.Place, Counts.Counts, Opening.Opening as Sizes, Call.Call}}
+use Rattle.protocol.specs.{Counts.{counts, sum}, declared.{Place.Place, Counts.Counts, Opening.Opening as Sizes, Call.Call}}
 use Rattle.protocol.specs.declared.{Act.{Act, the-variants.{Load, Store, Fence, Advance, Transfer}}, Answer.the-variants.Done}
-use Rattle.protocol.{specs.declared.{Name.the-variants.Open, Effect.Effect}, proofs.Extents.inside}
+use Rattle.protocol.{specs.declared.{Name.the-variants.Open, Effect.Effect}, proofs.{Tests.never, Extents.inside}}
 use Rattle.protocol.proofs.Refusals.{machine-fit, named, store-width, not-refused}
-use Rattle.grammar.specs.declared.Line.{Line, the-variants.{Opening as OpeningLine, Step as StepLine, Refused as RefusedLine}}
-use Rattle.journal.specs.Journal.{inJournal, LineAt, NextOf, tooMuch, empty, ended as atLast, unended, aLine as wholeLine, offsetAfter}
-use Rattle.journal.specs.declared.Next.{Next}
+use Rattle.journal.proofs.Lines.{line-read, line-inside}
 use Rattle.listing.{specs.Record.recordText, proofs.Lengths.{record-length, end-length}}
-use Rattle.driver.specs.Listing.{Ending, ended, stopped, Between, noLine, aLine, lines, lastLines, notOpened}
-use Rattle.driver.specs.Play.{runFrom, few, resumable, Leads, Piece, aStep, theEnd, Tells, finished, more, unfit, Plays, firstCheckpoint, Begins}
-use Rattle.driver.specs.{Play.{opens, fails as turned, noRoom, noRoomToEnd, Starts}, declared.Checkpoint.Checkpoint}
-use Rattle.driver.{specs.declared.{Progress.{Progress, the-variants.{More, Short}}, Played.Played}, proofs.{Reading.known, Running.run-length}}
-use Rattle.driver.proofs.{Putting.refused-length, Counting.{few-one, few-sum}, Loop.{Resumes, resumes}}
+use Rattle.driver.specs.Listing.{Ending, ended, stopped, lines, lastLines, notOpened}
+use Rattle.driver.specs.Play.{resumable, Piece, aStep, theEnd, Tells, finished, more, unfit, firstCheckpoint, Begins, opens, fails, noRoom, noRoomToEnd}
+use Rattle.driver.specs.declared.{Checkpoint.Checkpoint, Progress.Progress}
+use Rattle.driver.proofs.{Reading.known, Resuming.{resumes-again, steps-long, leads-on}, Putting.refused-length}
+use Rattle.playing.proofs.Writing.{text-and-room}
 use Rattle.playing.specs.Theorems.{pieceBytes, Begun, listed, running, Onward, ends, further, StartAdvancesTheorem, PlayAdvancesTheorem}
 
 -- ---- how long a piece is
@@ -64,29 +62,6 @@ piece-length : {j : Bytes} {s : Checkpoint} {p q t : Bytes} → Piece j s p q t 
 piece-length {s = s} {p} {q} (aStep {call = call} {bs = bs} x d) = step-length (place (s .counts .steps + 1)) (machine (s .state) p q) call bs
 piece-length {s = s} (theEnd {e = e} x) = last-length (s .counts) e
 
--- ---- play
-
-told-room :
-    {j : Bytes} {from : Checkpoint} {p q : Bytes} {there : Checkpoint} {p' q' text : Bytes} {room : ℕ} {g : Progress} → Tells j from p q there p' q' text room g
-    → g ≡ More → room < pieceBytes
-told-room (finished s l r t) e = absurd (let z : _≡_ {A = ℕ} 0 1 = cc in omega arith)
-told-room (more s l t x h) e = omega (arith, piece-length x)
-told-room (unfit s a b d t) e = absurd (let z : _≡_ {A = ℕ} 0 1 = cc in omega arith)
-
--- A CALL OF `play` THAT GOES ON leaves fewer than 246 bytes of the output unwritten
-play-fills :
-    {j : Bytes} {from : Checkpoint} {p q old p' q' new : Bytes} {r : Played} → Plays j from p q old p' q' new r → r .progress ≡ More
-    → length new < r .written + pieceBytes
-play-fills x e = let h = told-room (x .tells) e in omega (arith, x .within)
-
--- so to an output of 246 bytes or more it wrote something
-play-writes :
-    {j : Bytes} {from : Checkpoint} {p q old p' q' new : Bytes} {r : Played} → Plays j from p q old p' q' new r → r .progress ≡ More
-    → pieceBytes ≤ length new → 0 < r .written
-play-writes x e h = let f = play-fills x e in omega arith
-
--- ---- start
-
 -- the line of an opening, and the listing of a journal that opens no engine
 opening-length : (o : Sizes) → length (recordText (place 0) (openReply o)) ≤ pieceBytes
 unfolding meaning
@@ -96,34 +71,10 @@ opening-length o = go (eqb (openRefusal o) 0)
     go true = omega (arith, record-length (place 0) (Done Open) [])
     go false = omega (arith, refused-length (place 0) (openRefusal o))
 
-turned-length : (n : ℕ) → length (notOpened n) ≤ pieceBytes
-turned-length n = simp length-append (omega (arith, refused-length (place 0) n, end-length (counts 0 0 1)))
-
-begun-room :
-    {j : Bytes} {there : Checkpoint} {text : Bytes} {room : ℕ} {g : Progress} → Begins j there text room g → g ≡ Short
-    → (room < pieceBytes) × (text ≡ [])
-begun-room (opens x h t u) e = absurd (let z : _≡_ {A = ℕ} 0 1 = cc in omega arith)
-begun-room (turned n t u) e = absurd (let z : _≡_ {A = ℕ} 0 1 = cc in omega arith)
-begun-room (noRoom {o = o} x h t u r) e = (omega (arith, opening-length o), u)
-begun-room (noRoomToEnd {n = n} x t u r) e = (omega (arith, turned-length n), u)
-
--- A CALL OF `start` with an output of 246 bytes or more is never short of room
-start-writes : {j old new : Bytes} {r : Played} → Starts j old new r → pieceBytes ≤ length new → r .progress ≡ Short → ⊥
-start-writes {new = new} {r = r} x h e =
-    let b = begun-room (x .begins) e in
-    omega (arith, b .0, ap length (b .1), length-take-le (r .written) new (x .within))
+unopened-length : (n : ℕ) → length (notOpened n) ≤ pieceBytes
+unopened-length n = simp length-append (omega (arith, refused-length (place 0) n, end-length (counts 0 0 1)))
 
 -- ---- the run gets to its end
-
--- a step takes a byte of the journal or more
-steps-long : {j : Bytes} {form at to : ℕ} {gs : List Entry} → Between j form at gs to → at + length gs ≤ to
-steps-long noLine = omega arith
-steps-long (aLine x d r) = omega (arith, known x .1 .forward, steps-long r)
-
--- and stays inside it
-steps-inside : {j : Bytes} {form at to : ℕ} {gs : List Entry} → Between j form at gs to → at ≤ length j → to ≤ length j
-steps-inside noLine h = h
-steps-inside (aLine x d r) h = steps-inside r (known x .1 .inside)
 
 -- where a line is written, a step was made
 lines-some : (gs : List Entry) (n : ℕ) (m : Machine) → 0 < length (lines (run gs n m .records)) → 0 < length gs
@@ -131,72 +82,28 @@ unfolding run lines
 lines-some [] n m h = absurd (omega arith)
 lines-some (g ∷ gs) n m h = omega arith
 
--- the place after an answer lies in the journal
-line-inside : (j : Bytes) (at : ℕ) (l : Bytes) (next : ℕ) → LineAt j at l next → next ≤ length j
-line-inside j at l next h =
-    let n : length j - at ≡ length l + suc (length (drop next j)) =
-    sym (length-drop at j) ∙ ap length (h .whole) ∙ length-append l (10 ∷ drop next j) in
-    omega (arith, h .after)
-
-placed-inside : (j : Bytes) (at next : ℕ) (a : Line) → next ≤ length j → at ≤ length j → offsetAfter at (inJournal a at next) ≤ length j
-placed-inside j at next (OpeningLine f o) h k = h
-placed-inside j at next (StepLine call x y) h k = h
-placed-inside j at next (RefusedLine n) h k = k
-
-next-inside : {j : Bytes} {at form : ℕ} {b : Next} → NextOf j at form b → at ≤ length j → offsetAfter at b ≤ length j
-next-inside (tooMuch l) k = k
-next-inside (empty l h e) k = k
-next-inside (atLast l h n) k = k
-next-inside (unended l h w) k = k
-next-inside {j} {at} (wholeLine {a = a} l next s h o) k = placed-inside j at next a (line-inside j at l next h) k
-
--- no count is above the number of records
-few-total : (rs : List Record) → few (total rs) (length rs) ≡ true
-unfolding total
-few-total [] = refl
-few-total (r ∷ rs) =
-    few-sum (countsOf (r .given .call) (r .reply)) (total rs) 1 (length rs) (suc (length rs)) (few-one (r .given .call) (r .reply)) (few-total rs) (omega arith)
-
--- a checkpoint of a run, from what is to hold
-resumes-again : (n : ℕ) (s : Checkpoint) → Resumes n s → resumable n s ≡ true
-resumes-again n s r = rw (ne-eqb (s .form) 0 (r .named), le-leb _ _ (r .inside), r .few)
-
--- the steps of a run lead to another checkpoint of it
-leads-on :
-    {j : Bytes} {from : Checkpoint} {p q : Bytes} {gs : List Entry} {there : Checkpoint} {p' q' : Bytes} → resumable (length j) from ≡ true
-    → Leads j from p q gs there p' q' → resumable (length j) there ≡ true
-leads-on {j} {from} {p} {q} {gs} {there} s l =
-    let r = resumes (length j) from s in
-    let rs : List Record = runFrom from p q gs .records in
-    let n = run-length gs (from .counts .steps + 1) (machine (from .state) p q) in
-    resumes-again (length j) there
-    (record {
-      named = λ z. r .named (sym (l .form) ∙ z);
-      inside = steps-inside (l .steps) (r .inside);
-      few = rw (l .counts) (few-sum (from .counts) (total rs) (from .at) (length rs) (there .at) (r .few) (few-total rs) (omega (arith, steps-long (l .steps))));
-    })
-
+-- where the output has room for a piece, a call of `play` that goes on wrote the line of a step
 told-onward :
     {j : Bytes} {from : Checkpoint} {p q : Bytes} {there : Checkpoint} {p' q' text : Bytes} {room : ℕ} {g : Progress} → Tells j from p q there p' q' text room g
-    → resumable (length j) from ≡ true → (g ≡ More → 0 < length text) → Onward j from there g
+    → resumable (length j) from ≡ true → pieceBytes ≤ length text + room → Onward j from there g
 told-onward (finished s l r t) e h = ends
 told-onward {from = from} {p} {q} (more {gs = gs} s l t x r) e h =
-    let n = lines-some gs (from .counts .steps + 1) (machine (from .state) p q) (rw t at (h refl)) in
-    further (omega (arith, steps-long (l .steps))) (leads-on s l)
-told-onward (unfit s a b d t) e h = absurd (let z : _≡_ {A = ℕ} 0 1 = cc in omega arith)
+    let n = lines-some gs (from .counts .steps + 1) (machine (from .state) p q) (omega (arith, ap length t, piece-length x)) in
+    further (omega (arith, steps-long (l .steps))) (resumes-again _ _ (leads-on s l))
+told-onward (unfit s a b d t) e h = never (sym e ∙ s)
+
+-- and `start` is never short of room
+told-begun :
+    {j : Bytes} {there : Checkpoint} {text : Bytes} {room : ℕ} {g : Progress} → Begins j there text room g → pieceBytes ≤ length text + room → Begun j there g
+told-begun {j} (opens {form = f} {o = o} {next = n} x h t u) k =
+    let i = line-inside (line-read x refl .1) in
+    running (rw t (resumes-again (length j) (firstCheckpoint n f o) (record { named = known x .1; inside = i .1; few = rw (le-leb 0 n (omega arith)) })))
+told-begun (fails n t u) k = listed
+told-begun (noRoom {o = o} x h t u r) k = absurd (omega (arith, opening-length o, ap length u))
+told-begun (noRoomToEnd {n = n} x t u r) k = absurd (omega (arith, unopened-length n, ap length u))
 
 pub play-advances-theorem : PlayAdvancesTheorem
-play-advances-theorem j from p q old p' q' new r x s h =
-    told-onward (x .tells) s (λ e. omega (arith, length-take-le (r .written) new (x .within), play-writes x e (omega (arith, x .size))))
-
-told-begun :
-    {j : Bytes} {there : Checkpoint} {text : Bytes} {room : ℕ} {g : Progress} → Begins j there text room g → (g ≡ Short → ⊥) → Begun j there g
-told-begun {j} (opens {form = f} {o = o} {next = n} x h t u) k =
-    let i = next-inside x (omega arith) in
-    running (rw t (resumes-again (length j) (firstCheckpoint n f o) (record { named = known x .1; inside = i; few = rw (le-leb 0 n (omega arith)) })))
-told-begun (turned n t u) k = listed
-told-begun (noRoom x h t u r) k = absurd (k refl)
-told-begun (noRoomToEnd x t u r) k = absurd (k refl)
+play-advances-theorem j from p q old p' q' new r x s h = told-onward (x .tells) s (omega (arith, text-and-room (x .fills)))
 
 pub start-advances-theorem : StartAdvancesTheorem
-start-advances-theorem j old new r x h = told-begun (x .begins) (start-writes x (omega (arith, x .size)))
+start-advances-theorem j old new r x h = told-begun (x .begins) (omega (arith, text-and-room (x .fills)))

@@ -1,6 +1,6 @@
 -- `start` has one answer.
 use Prim.Native.Nat.{ℕ, _+_, _≤_, _<_}
-use mathlib.Core.{Path.{_≡_, refl, sym, _∙_, ap}, List.[]}
+use mathlib.Core.{Path.{_≡_, sym, _∙_, ap, ap₂}, List.[]}
 use native.Mathlib.Omega.{arith}
 use lib.ListN.{length}
 use Rattle.protocol.specs.{Buffers.Bytes, Refusals.openRefusal, Step.openReply, Run.place, declared.Opening.Opening as Sizes}
@@ -9,65 +9,56 @@ use Rattle.listing.specs.Record.{recordText}
 use Rattle.driver.specs.{Listing.{NotOpened, notOpened}, declared.{Checkpoint.Checkpoint, Progress.{Progress, the-variants.{Finished, More, Short}}}}
 use Rattle.driver.specs.Play.{firstCheckpoint, unopened, Begins, opens, fails, noRoom, noRoomToEnd}
 use Rattle.playing.specs.Theorems.{StartOneTheorem}
-use Rattle.playing.proofs.{OneReading.same-next, OneListing.{refusal-same, opened-not}, Writing.{Fills, room-same, written-same, output-same}}
+use Rattle.playing.proofs.{OneReading.same-next, OneListing.{refusal-same, opened-not}, Writing.{room-same, written-same, output-same}}
 
--- the first text of a journal, the checkpoint after it, and whether it goes on
-data First (j : Bytes) : Bytes → Checkpoint → Progress → Type 0 where
-  opening :
+-- what `start` tells: its progress, the checkpoint and the text
+record Told : Type 0 where
+  pub progress : Progress
+  pub checkpoint : Checkpoint
+  pub text : Bytes
+
+abbrev told : Progress → Checkpoint → Bytes → Told
+told g s t = record { progress = g; checkpoint = s; text = t }
+
+-- what it tells of a journal where the first text has room
+data First (j : Bytes) : Told → Type 0 where
+  opened :
       {form : ℕ} {o : Sizes} {next : ℕ} → NextOf j 0 0 (Opening form o next) → openRefusal o ≡ 0
-      → First j (recordText (place 0) (openReply o)) (firstCheckpoint next form o) More
-  turned : {n : ℕ} → NotOpened j n → First j (notOpened n) unopened Finished
+      → First j (told More (firstCheckpoint next form o) (recordText (place 0) (openReply o)))
+  failed : {n : ℕ} → NotOpened j n → First j (told Finished unopened (notOpened n))
 
--- three things that are told together are the same
-record Same (g g' : Progress) (s s' : Checkpoint) (t t' : Bytes) : Type 0 where
-  pub progress : g ≡ g'
-  pub checkpoint : s ≡ s'
-  pub text : t ≡ t'
+first-same : {j : Bytes} {a b : Told} → First j a → First j b → a ≡ b
+first-same (opened x e) (opened y f) = let z = same-next x y in ap₂ (told More) (cc) (cc)
+first-same (opened x e) (failed n) = absurd (opened-not x e n)
+first-same (failed n) (opened x e) = absurd (opened-not x e n)
+first-same (failed n) (failed m) = ap (λ (k : ℕ). told Finished unopened (notOpened k)) (refusal-same n m)
 
-first-same : {j t t' : Bytes} {s s' : Checkpoint} {g g' : Progress} → First j t s g → First j t' s' g' → Same g g' s s' t t'
-first-same (opening x e) (opening y f) = let z = same-next x y in record { progress = refl; checkpoint = cc; text = cc }
-first-same (opening x e) (turned n) = absurd (opened-not x e n)
-first-same (turned n) (opening x e) = absurd (opened-not x e n)
-first-same (turned n) (turned m) = record { progress = refl; checkpoint = refl; text = ap notOpened (refusal-same n m) }
+-- that, or there was no room for the text
+data Put (j : Bytes) (a : Told) (room : ℕ) : Type 0 where
+  put : {b : Told} → First j b → a ≡ b → Put j a room
+  short : {b : Told} → First j b → room < length (b .text) → a ≡ told Short unopened [] → Put j a room
 
--- what `start` tells: the first text was put, or there was no room for it
-data Put (j : Bytes) (s : Checkpoint) (t : Bytes) (room : ℕ) (g : Progress) : Type 0 where
-  put : {t₁ : Bytes} {s₁ : Checkpoint} {g₁ : Progress} → First j t₁ s₁ g₁ → Same g g₁ s s₁ t t₁ → Put j s t room g
-  short : {t₁ : Bytes} {s₁ : Checkpoint} {g₁ : Progress} → First j t₁ s₁ g₁ → room < length t₁ → Same g Short s unopened t [] → Put j s t room g
-
-told : {j : Bytes} {s : Checkpoint} {t : Bytes} {room : ℕ} {g : Progress} → Begins j s t room g → Put j s t room g
-told (opens x e es et) = put (opening x e) (record { progress = refl; checkpoint = es; text = et })
-told (fails n es et) = put (turned n) (record { progress = refl; checkpoint = es; text = et })
-told (noRoom x e es et r) = short (opening x e) r (record { progress = refl; checkpoint = es; text = et })
-told (noRoomToEnd n es et r) = short (turned n) r (record { progress = refl; checkpoint = es; text = et })
+begun : {j : Bytes} {s : Checkpoint} {t : Bytes} {room : ℕ} {g : Progress} → Begins j s t room g → Put j (told g s t) room
+begun (opens x e es et) = put (opened x e) (ap₂ (told More) es et)
+begun (fails n es et) = put (failed n) (ap₂ (told Finished) es et)
+begun (noRoom x e es et r) = short (opened x e) r (ap₂ (told Short) es et)
+begun (noRoomToEnd n es et r) = short (failed n) r (ap₂ (told Short) es et)
 
 -- where a text was put there was room for it
 no-short :
-    {t t' u u' : Bytes} {room : ℕ} → t ≡ u → t' ≡ [] → u ≡ u' → length t ≤ length t' + room → room < length u' → ⊥
-no-short a b c n r = omega (arith, ap length a, ap length b, ap length c)
+    {a b c d : Told} {room : ℕ} → a ≡ c → c ≡ d → b ≡ told Short unopened [] → length (a .text) ≤ length (b .text) + room → room < length (d .text) → ⊥
+no-short e f h n r = let len : Told → ℕ = λ x. length (x .text) in omega (arith, ap len e, ap len f, ap len h)
 
-put-same :
-    {j t t' : Bytes} {s s' : Checkpoint} {room room' : ℕ} {g g' : Progress} → length t + room ≡ length t' + room' → Put j s t room g → Put j s' t' room' g'
-    → Same g g' s s' t t'
-put-same n (put x a) (put y b) =
-    let i = first-same x y in
-    record {
-      progress = a .progress ∙ i .progress ∙ sym (b .progress);
-      checkpoint = a .checkpoint ∙ i .checkpoint ∙ sym (b .checkpoint);
-      text = a .text ∙ i .text ∙ sym (b .text);
-    }
-put-same n (put x a) (short y r b) = absurd (no-short (a .text) (b .text) (first-same x y .text) (omega arith) r)
-put-same n (short x r a) (put y b) = absurd (no-short (b .text) (a .text) (first-same y x .text) (omega arith) r)
-put-same n (short x r a) (short y q b) =
-    record {
-      progress = a .progress ∙ sym (b .progress);
-      checkpoint = a .checkpoint ∙ sym (b .checkpoint);
-      text = a .text ∙ sym (b .text);
-    }
+put-same : {j : Bytes} {a b : Told} {room room' : ℕ} → length (a .text) + room ≡ length (b .text) + room' → Put j a room → Put j b room' → a ≡ b
+put-same n (put x e) (put y f) = e ∙ first-same x y ∙ sym f
+put-same n (put x e) (short y r f) = absurd (no-short e (first-same x y) f (omega arith) r)
+put-same n (short x r e) (put y f) = absurd (no-short f (first-same y x) e (omega arith) r)
+put-same n (short x r e) (short y q f) = e ∙ sym f
 
 pub start-one-theorem : StartOneTheorem
 start-one-theorem j old a b x y =
-    let u : Fills old (a .out) (a .played .written) = record { size = x .size; within = x .within; beyond = x .beyond } in
-    let v : Fills old (b .out) (b .played .written) = record { size = y .size; within = y .within; beyond = y .beyond } in
-    let s = put-same (room-same u v) (told (x .begins)) (told (y .begins)) in
-    rw (s .progress, s .checkpoint, written-same u v (s .text), output-same u v (s .text))
+    let s = put-same (room-same (x .fills) (y .fills)) (begun (x .begins)) (begun (y .begins)) in
+    let t = ap (λ (z : Told). z .text) s in
+    let w = written-same (x .fills) (y .fills) t in
+    let o = output-same (x .fills) (y .fills) t in
+    rw (ap (λ (z : Told). z .progress) s, ap (λ (z : Told). z .checkpoint) s, w, o)

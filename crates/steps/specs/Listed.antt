@@ -1,8 +1,15 @@
 -- What `steps` answers. No contract can speak of what a write did with its bytes: false says no more than that one failed.
 use mathlib.Core.{Bool.{Bool, true, false}, List.List}
 use Rattle.protocol.specs.Buffers.{Bytes}
-use Rattle.driver.specs.declared.Checkpoint.{Checkpoint}
+use Rattle.driver.specs.declared.{Checkpoint.Checkpoint, Progress.{Progress, the-variants.{Finished, More, Short, Unfit}}}
 use Rattle.playing.specs.{Listing.Listing, Calls.{joined, Plays-on, Playing}}
+
+-- whether a run goes on after a call
+abbrev pub goesOn : Progress → Bool
+goesOn Finished = false
+goesOn More = true
+goesOn Short = false
+goesOn Unfit = false
 
 -- from a checkpoint on, with the buffers p and q: true, and calls of `play` lead from there to the listing's end
 pub data Ended (journal : Bytes) (from : Checkpoint) (p q : Bytes) : Bool → Type 0 where

@@ -10,7 +10,7 @@ ghost use Prim.Native.Nat.{_≤_};
 ghost use mathlib.Core.{Path._≡_, Bool.true};
 ghost use lib.ListN.{length};
 ghost use Rattle.driver.specs.Play.{resumable};
-ghost use Rattle.steps.specs.{Listed.{Ended, Listed}, Input.ReadInto};
+ghost use Rattle.steps.specs.{Listed.{goesOn, Ended, Listed}, Input.ReadInto};
 use driver::Checkpoint;
 use driver::Progress;
 use libc::EINTR;
@@ -26,7 +26,7 @@ enum Input {
     Failed,
 }
 
-// ReadAs standard input into buf, until it ends or buf is full. Where a read fails, errno says why. Each turn of the
+// Reads standard input into buf, until it ends or buf is full. Where a read fails, errno says why. Each pass of the
 // loop reads a byte or more, or is one of the retries.
 fn read_input(buf: &mut [u8]) -> Input
     ensures { λ r. ⌜ ReadInto r (now (buf .exit)) ⌝ }
@@ -54,6 +54,19 @@ fn read_input(buf: &mut [u8]) -> Input
     Input::Read(done)
 }
 
+// Whether a run goes on after a call. From a checkpoint of a run, and with room, no call answers `Short` or `Unfit`: then
+// the listing is out whole.
+fn goes_on(progress: Progress) -> bool
+    ensures { λ r. ⌜ r ≡ goesOn progress ⌝ }
+{
+    match progress {
+        Progress::Finished => false,
+        Progress::More => true,
+        Progress::Short => false,
+        Progress::Unfit => false,
+    }
+}
+
 // Writes the listing of a journal from a checkpoint on: all of it, or false where standard output does not take it.
 fn play_on(
     journal: &[u8],
@@ -73,22 +86,10 @@ fn play_on(
         if !io::write_all(STDOUT_FILENO, &out[0..written]) {
             return false;
         }
-        match progress {
-            Progress::More => {
-                there = played.checkpoint;
-                continue;
-            }
-            Progress::Finished => {
-                return true;
-            }
-            // From a checkpoint of a run, and with room, neither is answered.
-            Progress::Short => {
-                return true;
-            }
-            Progress::Unfit => {
-                return true;
-            }
+        if !goes_on(progress) {
+            return true;
         }
+        there = played.checkpoint;
     }
 }
 
@@ -106,29 +107,24 @@ fn list(journal: &[u8]) -> bool
     if !io::write_all(STDOUT_FILENO, &out[0..written]) {
         return false;
     }
-    match progress {
-        Progress::More => {
-            let checkpoint = played.checkpoint;
-            let state = checkpoint.state;
-            let opening = state.opening;
-            let cores = opening.cores;
-            let lines = opening.lines;
-            let width = opening.width;
-            let n = cores * lines * width;
-            let m = (2 * lines + cores) * width;
-            play_on(
-                journal,
-                checkpoint,
-                &mut private[0..n],
-                &mut shared[0..m],
-                &mut out,
-            )
-        }
-        Progress::Finished => true,
-        // With room, neither is answered.
-        Progress::Short => true,
-        Progress::Unfit => true,
+    if !goes_on(progress) {
+        return true;
     }
+    let checkpoint = played.checkpoint;
+    let state = checkpoint.state;
+    let opening = state.opening;
+    let cores = opening.cores;
+    let lines = opening.lines;
+    let width = opening.width;
+    let n = cores * lines * width;
+    let m = (2 * lines + cores) * width;
+    play_on(
+        journal,
+        checkpoint,
+        &mut private[0..n],
+        &mut shared[0..m],
+        &mut out,
+    )
 }
 
 // The failing call is the last one before its line is written, so that errno is its own.

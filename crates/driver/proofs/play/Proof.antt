@@ -6,8 +6,8 @@ use native.Mathlib.Omega.{arith}
 use lib.ListN.{length}
 use borrow.Author.{Needs.needs, Tests.{not-true, not-false}}
 use Rattle.driver.specs.{Play.unfit, Pieces.checkpointAt}
-use Rattle.driver.proofs.{Stepping.looked-over, play.Statement.statement}
-use Rattle.driver.proofs.Loop.{Reached, reached-start, room-for, finish, step-due, end-due, Made, shows, step-short, step-made}
+use Rattle.driver.proofs.{Stepping.looked-over, Putting.fills-none, play.Statement.statement}
+use Rattle.driver.proofs.Loop.{Reached, reached-start, at-checkpoint, room-for, finish, step-due, end-due, Made, shows, step-short, step-made}
 use Rattle.driver.proofs.play.Tie as tie
 
 abbrev Inv-loop : tie.InvT-loop
@@ -102,7 +102,7 @@ made c =
 
 returns : tie.Need-returns Inv-loop μ-loop
 returns c =
-    record { size = refl; within = omega arith; beyond = refl; tells = unfit (sym (c .before .resumable .ensures) ∙ not-true _ (c .if1 .taken)) refl refl refl refl }
+    record { fills = fills-none _; tells = unfit (sym (c .before .resumable .ensures) ∙ not-true _ (c .if1 .taken)) refl refl refl refl }
 
 loop-holds : tie.Need-loop-holds Inv-loop μ-loop
 loop-holds c =
@@ -149,10 +149,10 @@ pub play-spec : {M : Type 1} → statement M
 play-spec =
     tie.close
     (tie.spec
-    Inv-loop μ-loop (λ c κs. search needs) returns (λ c κs. search needs) loop-holds (λ c κs. c .before .loop .inv .2 .named) (λ c. search needs)
+    Inv-loop μ-loop (λ c κs. search needs) returns (λ c κs. search needs) loop-holds (λ c κs. at-checkpoint (c .before .loop .inv .2) .named) (λ c. search needs)
     put-last-requires (λ c κs. search needs) (λ c. at-head (at-last (c .before .before .before)) .loop .inv .0)
     (λ c. at-head (at-last (c .before .before .before)) .loop .inv .1)
-    (λ c. c .before .before .out .given ∙ at-head (at-last (c .before .before .before)) .loop .inv .2 .size) returns-2 (λ c. search needs)
+    (λ c. c .before .before .out .given ∙ at-head (at-last (c .before .before .before)) .loop .inv .2 .fills .size) returns-2 (λ c. search needs)
     (λ c κs. search needs) (λ c κs. search needs) (λ c. search needs) (λ c. search needs) (λ c κs. search needs) (λ c. search needs)
     (λ c. search needs) (λ c κs. search needs) (λ c. let a = low (c) in omega arith) (λ c. let a = low (c) in omega arith)
     (λ c. let a = low (c) in omega arith) (λ c. let a = low (c) in omega arith) (λ c. let a = low (c .before) in omega arith)
@@ -162,7 +162,7 @@ play-spec =
     (λ c. search needs) (λ c κs. search needs)
     (λ c. at-head (at-step (at-about (at-line (at-met (c .before .before .before .before .before))))) .loop .inv .0)
     (λ c. at-head (at-step (at-about (at-line (at-met (c .before .before .before .before .before))))) .loop .inv .1)
-    (λ c. c .before .before .before .before .out2 .given ∙ at-head (at-step (at-about (at-line (at-met (c .before .before .before .before .before))))) .loop .inv .2 .size)
+    (λ c. c .before .before .before .before .out2 .given ∙ at-head (at-step (at-about (at-line (at-met (c .before .before .before .before .before))))) .loop .inv .2 .fills .size)
     returns-3 (λ c. search needs) (λ c. let a = low (at-line (at-met (at-put (c .before .before .before)))) in omega arith)
     (λ c. let a = low (at-line (at-met (at-put (c .before .before .before)))) in omega arith)
     (λ c. let a = low (at-line (at-met (at-put (c .before .before .before)))) in omega arith)

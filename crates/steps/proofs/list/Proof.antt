@@ -1,37 +1,57 @@
--- The sizes that were opened lie inside the limits, so the parts lie in the arrays; they hold zeros.
+-- The first call lists the journal, or the calls of `play` do on buffers of zeros: the sizes that were opened lie inside the limits, so the parts
+-- lie in the arrays.
+use mathlib.Core.{Path._≡_, Bool.true}
 use native.Mathlib.Omega.{arith}
-use Rattle.protocol.proofs.Extents.{Inside, inside, copies-most, private-most, rows-most, shared-most}
-use Rattle.driver.proofs.Starting.{start-fits}
-use Rattle.steps.specs.Listed.{part}
-use Rattle.steps.proofs.{Calling.{list-finished, list-more, list-resumable, list-short, list-unfit, part-zeros}, list.Statement.statement}
+use lib.ListN.{length}
 use borrow.Author.Needs.{needs}
+use Rattle.protocol.proofs.{Tests.{was-true, was-false}, Extents.{Inside, inside, copies-most, private-most, rows-most, shared-most}}
+use Rattle.driver.{specs.{Play.resumable, declared.Progress.the-variants.More}, proofs.Starting.start-fits}
+use Rattle.steps.specs.Listed.{part}
+use Rattle.steps.proofs.{Calling.{list-over, list-more, list-played, part-zeros}, list.Statement.statement}
 use Rattle.steps.proofs.list.Tie as tie
 
--- the sizes of the engine that was opened
-sizes : (c : tie.After-opening) → Inside (c .before .before .before .before .before .before .before .before .before .before .start .result .checkpoint .state .opening)
-sizes c = inside _ (start-fits (c .before .before .before .before .before .before .before .before .before .before .start .ensures) (c .before .before .before .enum-told .given .1))
+-- ---- the places, each from a later one
 
-play-on-requires : tie.Need-play-on-requires
-play-on-requires c κs = (list-resumable (c .before .before .before .before .before .before .before .before .before .before .before .before .before .start .ensures) (omega (arith, c .before .before .before .before .before .before .before .before .before .before .before .before .out2 .given)) (c .before .before .before .before .before .before .enum-told .given .1), omega (arith, c .before .before .before .before .before .before .before .before .before .before .before .before .out2 .given))
+abbrev at-out : tie.After-goes-on → tie.After-out2
+at-out c = c .before .before .before .before .before
+
+abbrev at-test : tie.After-opening → tie.After-goes-on
+at-test c = c .before .before .before .before
+
+abbrev at-opening : tie.After-play-on → tie.After-opening
+at-opening c = c .before .before .before .before
+
+-- the run goes on from the checkpoint of the first call
+goes-on :
+    (c : tie.After-opening) → let s = at-out (at-test c) .before in
+    (s .start .result .progress ≡ More) × (resumable (length (s .before .before .before .args .journal .now)) (s .start .result .checkpoint) ≡ true)
+goes-on c =
+    let g = at-test c in
+    let o = at-out g in
+    list-more (o .before .start .ensures) (omega (arith, o .out2 .given)) (was-true (g .goes-on .ensures) (c .before .before .before .if2 .left))
+
+-- the sizes of the engine that was opened
+sizes : (c : tie.After-opening) → Inside (at-out (at-test c) .before .start .result .checkpoint .state .opening)
+sizes c = inside _ (start-fits (at-out (at-test c) .before .start .ensures) (goes-on c .0))
 
 returns-2 : tie.Need-returns-2
 returns-2 c =
-    let a = sizes (c .before .before .before .before .before .before .before) in
-    list-more (c .before .before .before .before .before .before .before .before .before .before .before .before .before .before .before .before .before .start .ensures) (c .before .before .before .before .before .before .before .before .before .before .enum-told .given .1) (part-zeros _ 65536 (private-most a)) (part-zeros _ 9216 (shared-most a)) (c .before .before .before .play-on .ensures)
+    let o = at-out (c .before) in
+    list-over (o .before .start .ensures) (omega (arith, o .out2 .given)) (was-false (c .before .goes-on .ensures) (c .if2 .taken))
 
-returns-4 : tie.Need-returns-4
-returns-4 c = absurd (list-short (c .before .before .before .before .before .before .before .start .ensures) (omega (arith, c .before .before .before .before .before .before .out2 .given)) (c .enum-told3 .given .1))
-
-returns-5 : tie.Need-returns-5
-returns-5 c = absurd (list-unfit (c .before .before .before .before .before .before .before .start .ensures) (omega (arith, c .before .before .before .before .before .before .out2 .given)) (c .enum-told4 .given .1))
+returns-3 : tie.Need-returns-3
+returns-3 c =
+    let y = c .before .before .before in
+    let p = at-opening y in
+    let a = sizes p in
+    list-played (at-out (at-test p) .before .start .ensures) (goes-on p .0) (part-zeros _ 65536 (private-most a)) (part-zeros _ 9216 (shared-most a)) (y .play-on .ensures)
 
 pub list-spec : {M : Type 1} → statement M
 list-spec =
     tie.close
     (tie.spec
     (λ c. search needs) (λ c κs. search needs) (λ c. search needs) (λ c. search needs) (λ c. search needs) (λ c κs. search needs) (λ c. part)
-    (λ c. search needs) (λ c. let a = copies-most (sizes c) in omega arith) (λ c. let a = private-most (sizes c) in omega arith)
+    (λ c κs. search needs) returns-2 (λ c. let a = copies-most (sizes c) in omega arith) (λ c. let a = private-most (sizes c) in omega arith)
     (λ c. omega (arith, sizes c .mostLines)) (λ c. let a = rows-most (sizes c) in omega arith) (λ c. let a = shared-most (sizes c) in omega arith)
-    (λ c. search needs) (λ c. search needs) (λ c. private-most (sizes c)) (λ c. search needs) (λ c. search needs)
-    (λ c. shared-most (sizes (c .before))) (λ c. search needs) play-on-requires (λ c. search needs) (λ c. search needs) (λ c. search needs) returns-2
-    (λ c. list-finished (c .before .before .before .before .before .before .before .start .ensures) (c .enum-told2 .given .1)) returns-4 returns-5)
+    (λ c. search needs) (λ c. search needs) (λ c. private-most (sizes c)) (λ c. search needs) (λ c. search needs) (λ c. shared-most (sizes (c .before)))
+    (λ c. search needs) (λ c κs. let p = c .before .before .before in (goes-on p .1, omega (arith, at-out (at-test p) .out2 .given))) returns-3)

@@ -1,4 +1,4 @@
--- Each turn of the loop leaves less to read, or a retry less.
+-- Each pass of the loop leaves less to read, or a retry less.
 use Prim.Native.Nat.{_+_, _-_, _≤_}
 use mathlib.Core.Path.{_≡_, refl, _∙_}
 use native.Mathlib.Omega.{arith}
@@ -15,30 +15,33 @@ Inv-loop buf₀ done₀ retries₀ buf done retries = (length buf ≡ length buf
 abbrev μ-loop : tie.MeasureT-loop
 μ-loop buf₀ done₀ retries₀ buf done retries = (length buf - done) + retries
 
--- the turn of the loop that a count belongs to
-abbrev turn : tie.After-count Inv-loop μ-loop → tie.At-loop Inv-loop μ-loop
-turn c = c .before .before .before .before .before .before .before .before
+-- the read that a count belongs to, and the pass of the loop
+abbrev at-read : tie.After-count Inv-loop μ-loop → tie.After-read Inv-loop μ-loop
+at-read c = c .before .before .before .before .before
+
+abbrev pass : tie.After-count Inv-loop μ-loop → tie.At-loop Inv-loop μ-loop
+pass c = at-read c .before .before .before
 
 -- the buffer after a read, which put its bytes into the part that was left
 abbrev filled : tie.After-count Inv-loop μ-loop → Bytes
 filled c =
-    putMid (turn c .loop .done) (length (turn c .loop .buf) - turn c .loop .done) (turn c .loop .buf)
-    (c .before .before .before .before .before .read .last .1 .0)
+    putMid (pass c .loop .done) (length (pass c .loop .buf) - pass c .loop .done) (pass c .loop .buf)
+    (at-read c .read .last .1 .0)
 
 -- it is as long as before
-same : (c : tie.After-count Inv-loop μ-loop) → length (filled c) ≡ length (turn c .loop .buf)
+same : (c : tie.After-count Inv-loop μ-loop) → length (filled c) ≡ length (pass c .loop .buf)
 same c = c .before .before .before .before .buf .given .1
 
-long : (c : tie.After-count Inv-loop μ-loop) → length (filled c) ≡ length (turn c .before .before .args .buf .now)
-long c = same c ∙ turn c .loop .inv .0
+long : (c : tie.After-count Inv-loop μ-loop) → length (filled c) ≡ length (pass c .before .before .args .buf .now)
+long c = same c ∙ pass c .loop .inv .0
 
 -- what was read before lies in it, and with the count too
-before : (c : tie.After-count Inv-loop μ-loop) → turn c .loop .done ≤ length (filled c)
-before c = omega (arith, same c, turn c .loop .inv .1)
+before : (c : tie.After-count Inv-loop μ-loop) → pass c .loop .done ≤ length (filled c)
+before c = omega (arith, same c, pass c .loop .inv .1)
 
-within : (c : tie.After-count Inv-loop μ-loop) → turn c .loop .done + c .count .result ≤ length (filled c)
+within : (c : tie.After-count Inv-loop μ-loop) → pass c .loop .done + c .count .result ≤ length (filled c)
 within c =
-    let m = mid-len (turn c .loop .done) (length (filled c)) (filled c) (omega arith) in
+    let m = mid-len (pass c .loop .done) (length (filled c)) (filled c) (omega arith) in
     omega (arith, before c, c .count .ensures .0 .0, m)
 
 pub read-input-spec : {M : Type 1} → statement M

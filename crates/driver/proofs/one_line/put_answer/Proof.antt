@@ -3,7 +3,7 @@ use Prim.Native.Nat.{_+_, _-_, _≤_}
 use lib.ListN.{length}
 use mathlib.Core.Path.{_≡_, sym, _∙_}
 use native.Mathlib.Omega.{arith}
-use Rattle.driver.proofs.{Decoding.{store-bytes, copy-bytes}, one_line.put_answer.Statement.statement}
+use Rattle.driver.proofs.{Decoding.act-bytes-are, one_line.put_answer.Statement.statement}
 use borrow.Author.Needs.{needs}
 use Rattle.driver.proofs.one_line.put_answer.Tie as tie
 
@@ -14,7 +14,7 @@ ends c = rw (c .span-of .ensures, c .before .copy-start .ensures) (c .before .be
 returns : tie.Need-returns
 returns c =
     let s = c .before .before .before .before .before in
-    rw (store-bytes _ _ _ (sym (s .is-store .ensures) ∙ c .before .before .before .before .if1 .taken)) (c .before .before .put-record .ensures)
+    rw (act-bytes-are, sym (s .is-store .ensures) ∙ c .before .before .before .before .if1 .taken) (c .before .before .put-record .ensures)
 
 returns-2 : tie.Need-returns-2
 returns-2 c =
@@ -22,7 +22,7 @@ returns-2 c =
     let r = s .span-of .result in
     let n : r .start + r .count - r .start ≡ r .count = omega arith in
     let t = s .before .before .before in
-    rw (copy-bytes _ _ _ (sym (t .is-store .ensures) ∙ s .before .before .if1 .left)) (rw (n, s .span-of .ensures, s .before .copy-start .ensures) at (c .before .before .put-record2 .ensures))
+    rw (act-bytes-are, sym (t .is-store .ensures) ∙ s .before .before .if1 .left) (rw (n, s .span-of .ensures, s .before .copy-start .ensures) at (c .before .before .put-record2 .ensures))
 
 pub put-answer-spec : {M : Type 1} → statement M
 put-answer-spec =

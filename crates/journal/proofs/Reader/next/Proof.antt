@@ -53,6 +53,13 @@ module _ {M : Type 1} (𝓤 : URA M) (H : Heap 𝓤) (A : Atoms 𝓤) (mem : Mem
   ReadAt = tripleOf 𝓤 H A work.signature (work.spec 𝓤 H A mem run)
 
 module _ {M : Type 1} (𝓤 : URA M) (H : Heap 𝓤) (A : Atoms 𝓤) (W : Given 𝓤 H A) (mem : Memory → SProp 𝓤) (run : Routine → Fun 𝓤) (κ : Lft) (q : Share) (d : Reader) where
+  -- the structs' lifetime in a signature, and as locals of a body have it
+  abbrev α : NamedLft
+  α = namedLft 1 0 tt (κ, tt)
+
+  abbrev αᵉ : NamedLft
+  αᵉ = record { mir = erased; lft = κ }
+
   abbrev mach : Val
   mach = T′.lowered d
 
@@ -75,7 +82,7 @@ module _ {M : Type 1} (𝓤 : URA M) (H : Heap 𝓤) (A : Atoms 𝓤) (W : Given
   read-val r = LL.val R.the-type R′.the-laws r
 
   abbrev handed-val : Read → Val
-  handed-val r = LL.val (P.the-type (namedLft 1 0 tt (κ, tt))) (P′.the-laws (namedLft 1 0 tt (κ, tt))) (handed r)
+  handed-val r = LL.val (P.the-type α) (P′.the-laws α) (handed r)
 
   abbrev Post : Val → SProp 𝓤
   Post = walkOf 𝓤 H A this.ended stayed (this.clauses 𝓤 H A mem run) .post (((κ, tt), (q, tt), tt, (d, tt), (mach ∷ [], tt)), tt)
@@ -85,10 +92,10 @@ module _ {M : Type 1} (𝓤 : URA M) (H : Heap 𝓤) (A : Atoms 𝓤) (W : Given
 
   -- the struct's type and laws, and d's fields' values
   abbrev D : Declared
-  D = T.the-type (namedLft 1 0 tt (κ, tt))
+  D = T.the-type α
 
   abbrev L : LL.Laws D
-  L = T′.the-laws (namedLft 1 0 tt (κ, tt))
+  L = T′.the-laws α
 
   abbrev vd : Values (D .parts)
   vd = (d .journal, (d .at, (d .form, tt)))
@@ -107,7 +114,7 @@ module _ {M : Type 1} (𝓤 : URA M) (H : Heap 𝓤) (A : Atoms 𝓤) (W : Given
   apart : d .at < 2 ^ 64 → d .form < 2 ^ 32 → ent 𝓤 (onEntry 𝓤 H A this.signature (κ, tt) (q, tt) (d, tt) (mach ∷ [], tt)) (sep 𝓤 (ReadAt 𝓤 H A mem run .pre to) (sem 𝓤 H A Own))
   apart fits fine =
       qed W ((‵ (flft κ q) ⊛ ‵ ftrue) ∷ ‵ (owns (B (κ, tt) ∷ []) (d, tt) (mach ∷ [], tt)) ∷ []) ∵
-      move ! (1 ∷ []) $ fsplit ! $ move ! (1 ∷ []) $ drop ! $ use1 W (‵ Own ⊛ ‵ Own) (LL.copy D (T′.the-copy (namedLft 1 0 tt (κ, tt))) 𝓤 H A W .twice d (mach ∷ [])) $ split ! $
+      move ! (1 ∷ []) $ fsplit ! $ move ! (1 ∷ []) $ drop ! $ use1 W (‵ Own ⊛ ‵ Own) (LL.copy D (T′.the-copy α) 𝓤 H A W .twice d (mach ∷ [])) $ split ! $
       use1 W (given (mach ∷ [] ≡ mach ∷ []) (‵ (all-own (D .parts) L vd))) (own-open 𝓤 H A W D L vd mach) $ learn ! (λ _. use1 W (‵ (ownAt (D .parts) L 0 (d .journal)) ⊛ ‵ (rest (D .parts) L 0 vd)) (own-out 𝓤 H A W (D .parts) L 0 vd) $ split ! $
       -- [what the slice owns; what the numbers own; what the struct owns; the token]
       move ! (1 ∷ []) $ drop ! $ nothing ! $ owned ! u32 (Is u32) (uint-makes 𝓤 H A W w32) (d .form) _ (refl, fine) $ fjoin ! $ owned ! usize (Is usize) (uint-makes 𝓤 H A W w64) (d .at) _ (refl, fits) $ fjoin ! $ move ! (1 ∷ 0 ∷ []) $ fjoin ! $
@@ -121,26 +128,22 @@ module _ {M : Type 1} (𝓤 : URA M) (H : Heap 𝓤) (A : Atoms 𝓤) (W : Given
     is-onward : Is (B (κ, tt)) (onward r) (T′.lowered (onward r) ∷ [])
     is-onward = LL.owes D L (onward r) (LL.owed D L d _ isd .0, (LL.owed R.the-type R′.the-laws r _ isr .0, (LL.owed R.the-type R′.the-laws r _ isr .1 .0, tt)))
 
-    is-handed : Is (P.the-row (namedLft 1 0 tt (κ, tt))) (handed r) (handed-val r ∷ [])
-    is-handed = LL.owes (P.the-type (namedLft 1 0 tt (κ, tt))) (P′.the-laws (namedLft 1 0 tt (κ, tt))) (handed r) (is-onward, (LL.owed R.the-type R′.the-laws r _ isr .1 .1 .0, tt))
+    is-handed : Is (P.the-row α) (handed r) (handed-val r ∷ [])
+    is-handed = LL.owes (P.the-type α) (P′.the-laws α) (handed r) (is-onward, (LL.owed R.the-type R′.the-laws r _ isr .1 .1 .0, tt))
 
     exits : Found r → ent 𝓤 (⋆ 𝓤 H A ((‵ (flft κ q) ⊛ ‵ ftrue) ∷ ‵ Own ∷ [])) (Post (handed-val r))
     exits e =
         qed W ((‵ (flft κ q) ⊛ ‵ ftrue) ∷ ‵ Own ∷ []) ∵
         suffices ! _ (ends-at 𝓤 H A this.ended stayed (this.clauses 𝓤 H A mem run) W (((κ, tt), (q, tt), tt, (d, tt), (mach ∷ [], tt)), tt) (handed-val r) (handed r) (tt, tt) (tt, tt)) $
         says ! (e .found, ap₂ (λ (n m : ℕ). record { journal = d .journal; at = n; form = m }) (e .place) (e .formed)) $
-        frame ! $ use1 W (‵ Own ⊛ ‵ Own) (LL.copy D (T′.the-copy (namedLft 1 0 tt (κ, tt))) 𝓤 H A W .twice d (mach ∷ [])) $ split ! $ nothing ! $ move ! (1 ∷ 0 ∷ []) $ fjoin ! $ frame ! $
+        frame ! $ use1 W (‵ Own ⊛ ‵ Own) (LL.copy D (T′.the-copy α) 𝓤 H A W .twice d (mach ∷ [])) $ split ! $ nothing ! $ move ! (1 ∷ 0 ∷ []) $ fjoin ! $ frame ! $
         -- [what the struct owns]: the numbers' facts take the place of those of at and form, and it is put beside the answer's
         owned ! usize (Is usize) (uint-makes 𝓤 H A W w64) (r .at) _ (refl, LL.owed R.the-type R′.the-laws r _ isr .0 .1) $ move ! (1 ∷ 0 ∷ []) $
         use2 W (‵ (B (κ, tt) .own (record { journal = d .journal; at = r .at; form = d .form }) (T′.lowered (record { journal = d .journal; at = r .at; form = d .form }) ∷ []))) (own-put 𝓤 H A W D L 1 vd (r .at) mach) $
         owned ! u32 (Is u32) (uint-makes 𝓤 H A W w32) (r .form) _ (refl, LL.owed R.the-type R′.the-laws r _ isr .1 .0 .1) $ move ! (1 ∷ 0 ∷ []) $
         use2 W (‵ (B (κ, tt) .own (onward r) (T′.lowered (onward r) ∷ []))) (own-put 𝓤 H A W D L 2 (d .journal, (r .at, (d .form, tt))) (r .form) (T′.lowered (record { journal = d .journal; at = r .at; form = d .form }))) $
         nothing ! $ owned ! S.the-row (Is S.the-row) (EL.makes S.the-type S′.the-plain 𝓤 H A) (r .next) _ (LL.owed R.the-type R′.the-laws r _ isr .1 .1 .0) $ fjoin ! $ move ! (1 ∷ 0 ∷ []) $ fjoin ! $
-        by ! (own-shut 𝓤 H A W (P.the-type (namedLft 1 0 tt (κ, tt))) (P′.the-laws (namedLft 1 0 tt (κ, tt))) (onward r, (r .next, tt)))
-
-  -- the structs' types as locals of a body have them
-  abbrev αᵉ : NamedLft
-  αᵉ = record { mir = erased; lft = κ }
+        by ! (own-shut 𝓤 H A W (P.the-type α) (P′.the-laws α) (onward r, (r .next, tt)))
 
   module _ (C : Calls 𝓤 H) (Λ : Loops 𝓤 H) (fm : FmC 𝓤 H (W .laws) C) (known : Triple 𝓤 (C #journal·read-at) (ReadAt 𝓤 H A mem run)) where
     walk : Is (B (κ, tt)) d (mach ∷ []) → Holds (hasTy (T′.mir (named 0)) mach) × WT mach → ent 𝓤 (onEntry 𝓤 H A this.signature (κ, tt) (q, tt) (d, tt) (mach ∷ [], tt)) (WpFn 𝓤 H C Λ code.function (mach ∷ []) Post)
