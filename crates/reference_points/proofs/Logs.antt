@@ -182,8 +182,8 @@ tso-decides h =
 
 pub tso-theorem : TsoTheorem
 unfolding every some sameOp same keeps ordered sees ofStore last seen read reading tso
-tso-theorem = each tso (λ (h : Log). TSO 0 h) (λ h. tso-decides h .holds) obeying refl
+tso-theorem = each tso (λ h. true) (λ h. tso-decides h .holds) obeying refl
 
 pub not-tso-theorem : NotTsoTheorem
 unfolding every some sameOp same keeps ordered sees ofStore last seen read reading tso
-not-tso-theorem = each (λ h. fails (tso h)) (λ (h : Log). TSO 0 h → ⊥) (λ h. not-decides (tso h) (tso-decides h) .holds) disobeying refl
+not-tso-theorem = each (λ h. fails (tso h)) (λ h. true) (λ h. not-decides (tso h) (tso-decides h) .holds) disobeying refl

@@ -1,4 +1,4 @@
--- Whether bytes are a number, and whether they are data, can be told. Assumes nothing.
+-- Whether bytes are a number, and whether they are data, can be told; of known bytes it is told by computing. Assumes nothing.
 use Prim.Native.Nat.{ℕ, _≤_, _<_}
 use mathlib.Core.{Path.{_≡_, refl, sym, _∙_, ap, ap₂, subst}, Bool.{Bool, true, false}, List.{List, [], _∷_}, Logic.{_⊎_, inl, inr}}
 use native.Mathlib.Omega.{arith}
@@ -11,14 +11,15 @@ use Rattle.spelling.proofs.{Lists.le-or-lt, DecimalLaws.{value, value-d
 abbrev pub Told : Type 0 → Type 0
 Told P = P ⊎ (P → ⊥)
 
-pub same-number : (a b : ℕ) → Told (a ≡ b)
+unfoldable pub same-number : (a b : ℕ) → Told (a ≡ b)
 same-number a b = go (eqb a b) refl
   where
     go : (t : Bool) → eqb a b ≡ t → Told (a ≡ b)
     go true e = inl (eqb-true a b e)
     go false e = inr (eqb-false a b e)
 
-same-list : (a b : List ℕ) → Told (a ≡ b)
+unfoldable pub same-list : (a b : List ℕ) → Told (a ≡ b)
+unfolding same-number
 same-list [] [] = inl refl
 same-list [] (y ∷ b) = inr (λ e. let z : _≡_ {A = ℕ} 0 1 = cc in omega arith)
 same-list (x ∷ a) [] = inr (λ e. let z : _≡_ {A = ℕ} 0 1 = cc in omega arith)
@@ -29,7 +30,8 @@ same-list (x ∷ a) (y ∷ b) = go (same-number x y) (same-list a b)
     go (inr p) q = inr (λ e. p (cc))
     go (inl p) (inr q) = inr (λ e. q (cc))
 
-all-bytes : (l : List ℕ) → Told (All Byte l)
+unfoldable pub all-bytes : (l : List ℕ) → Told (All Byte l)
+unfolding le-or-lt
 all-bytes [] = inl tt
 all-bytes (x ∷ l) = go (le-or-lt 256 x) (all-bytes l)
   where
@@ -38,7 +40,8 @@ all-bytes (x ∷ l) = go (le-or-lt 256 x) (all-bytes l)
     go (inr h) (inl t) = inl (h, t)
     go (inr h) (inr t) = inr (λ a. t (a .1))
 
-pub number-told : (v : List ℕ) → Told (IsNumber v)
+unfoldable pub number-told : (v : List ℕ) → Told (IsNumber v)
+unfolding le-or-lt same-list
 number-told v = go (le-or-lt (value 0 v) greatest) (same-list v (decimal (value 0 v)))
   where
     go : (value 0 v ≤ greatest) ⊎ (greatest < value 0 v) → Told (v ≡ decimal (value 0 v)) → Told (IsNumber v)
@@ -46,7 +49,8 @@ number-told v = go (le-or-lt (value 0 v) greatest) (same-list v (decimal (value 
     go (inr h) t = inr (λ n. let e : value 0 v ≡ n .0 = ap (value 0) (n .2) ∙ value-decimal (n .0) (n .1) in omega (arith, n .1))
     go (inl h) (inr t) = inr (λ n. let e : value 0 v ≡ n .0 = ap (value 0) (n .2) ∙ value-decimal (n .0) (n .1) in t (n .2 ∙ ap decimal (sym e)))
 
-pub data-told : (v : List ℕ) → Told (IsData v)
+unfoldable pub data-told : (v : List ℕ) → Told (IsData v)
+unfolding le-or-lt all-bytes same-list
 data-told v = go (le-or-lt 1 (length (unhex v))) (all-bytes (unhex v)) (same-list v (hex (unhex v)))
   where
     stands : (d : IsData v) → unhex v ≡ d .0

@@ -6,7 +6,7 @@ use lib.{ListN.{length, getD}, Dec.leb}
 use borrow.Author.Tests.{leb-true, leb-false}
 use Rattle.spelling.specs.Bytes.{All}
 
-pub le-or-lt : (a b : ℕ) → (a ≤ b) ⊎ (b < a)
+unfoldable pub le-or-lt : (a b : ℕ) → (a ≤ b) ⊎ (b < a)
 le-or-lt a b = go (leb a b) refl
   where
     go : (t : Bool) → leb a b ≡ t → (a ≤ b) ⊎ (b < a)
