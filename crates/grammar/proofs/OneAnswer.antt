@@ -62,7 +62,9 @@ told form s k vs f =
     let h : fromOf form + k < rowCount = omega (arith, row-place form k (f .listed), ranged form .high) in
     row-by-tag (lineTag s) (fromOf form + k) h (same-tag (fromOf form + k) s vs h (in-table form f) .1)
 
-pub one-answer-theorem : OneAnswerTheorem
+-- unfolded, it computes the answer of a line whose bytes are known
+unfoldable pub one-answer-theorem : OneAnswerTheorem
+unfolding le-or-lt same-number number-told data-told noneRead reads-some found-some shapes told apart short some-answer one
 one-answer-theorem form s =
     let a = some-answer form s in
     record {

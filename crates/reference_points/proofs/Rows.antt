@@ -5,32 +5,17 @@ use Rattle.protocol.specs.Refusals.{openRefusal, ownersFit, slotsFit, stateFits
 use Rattle.protocol.specs.{Refusals.{stateRefusal, refusal}, Step.{meaning, accepted, step, shown}}
 use Rattle.protocol.specs.Tables.{loadOwned, loadTable, storeTable, fenceTable, advanceTable, evictTable, serveLoad, serveAsked, serveTable}
 use Rattle.protocol.specs.Tables.{receiveRenew, receiveGrant, receiveTable, yieldTable, takeTable, tableOf}
-use Rattle.reference_points.specs.{Rows.{got, told}, Points.{points, PointsTheorem}}
-use Rattle.reference_points.specs.Steps.{alsoAt, askRows, loadRows, storeRows, fenceRows, advanceRows, evictRows, serveRows, receiveRows}
-use Rattle.reference_points.specs.Steps.{writebackRows, StepsTheorem}
+use Rattle.reference_points.specs.{Rows.{got, told}, Points.{points, PointsTheorem}, Steps.{stepRows, StepsTheorem}}
 use Rattle.reference_points.specs.Numbers.{called, turnedAway, refusals, NumbersTheorem, opens, accepted as isAccepted, refusedWithSeven}
 use Rattle.reference_points.specs.{Numbers.{inside, outside, OpeningsTheorem}, Show.{isShown, isTold, looks, ShowTheorem}}
 use Rattle.reference_points.proofs.Each.{agree}
 
--- ---- the definitions that a call computes by
-
-unfoldable pub refusing : Unit {0}
-unfolding every first openingFits openRefusal ownersFit slotsFit stateFits buffersFit machineRefusal callRules callRefusal stateRules stateRefusal refusal
-refusing = tt
-
-unfoldable pub coreTables : Unit {0}
-unfolding loadOwned loadTable storeTable fenceTable advanceTable evictTable
-coreTables = tt
-
-unfoldable pub flightTables : Unit {0}
-unfolding serveLoad serveAsked serveTable receiveRenew receiveGrant receiveTable yieldTable takeTable
-flightTables = tt
-
+-- the definitions that a call computes by: its refusals, its table, and what is moved
 unfoldable pub calling : Unit {0}
-unfolding refusing coreTables flightTables tableOf movedPrivate movedShared applied meaning accepted step shown
+unfolding every first openingFits openRefusal ownersFit slotsFit stateFits buffersFit machineRefusal callRules callRefusal stateRules stateRefusal refusal
+    loadOwned loadTable storeTable fenceTable advanceTable evictTable serveLoad serveAsked serveTable receiveRenew receiveGrant receiveTable yieldTable
+    takeTable tableOf movedPrivate movedShared applied meaning accepted step shown
 calling = tt
-
--- ---- the theorems
 
 pub points-theorem : PointsTheorem
 unfolding calling
@@ -38,19 +23,7 @@ points-theorem = agree got told points refl
 
 pub steps-theorem : StepsTheorem
 unfolding calling
-steps-theorem =
-    record {
-      ask = agree got told (alsoAt 12 9 askRows) refl;
-      load = agree got told loadRows refl;
-      store = agree got told storeRows refl;
-      fence = agree got told fenceRows refl;
-      advance = agree got told advanceRows refl;
-      evict = agree got told (alsoAt 9 7 evictRows) refl;
-      serve = agree got told (alsoAt 9 7 serveRows) refl;
-      receive = agree got told (alsoAt 9 7 receiveRows) refl;
-      writeback = agree got told (alsoAt 9 7 writebackRows) refl;
-      other = refl;
-    }
+steps-theorem = record { rows = agree got told stepRows refl; other = refl }
 
 pub numbers-theorem : NumbersTheorem
 unfolding calling

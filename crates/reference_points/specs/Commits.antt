@@ -11,51 +11,38 @@ use Rattle.reference_points.specs.Numbers.{opening}
 abbrev pub small : Opening
 small = opening 2 3 2 10
 
-abbrev pub with : Call → Bytes → Entry
-with k bytes = record { call = k; bytes = bytes }
+-- a call, the bytes given to it, and what it answers
+pub data Played : Type 0 where
+  played : (call : Call) (bytes : Bytes) (reply : Reply) → Played
+
+abbrev pub entryOf : Played → Entry
+entryOf (played k bs r) = record { call = k; bytes = bs }
+
+abbrev pub replyOf : Played → Reply
+replyOf (played k bs r) = r
 
 -- core 1 stores to line 2, loads from it and makes a fence; core 0 loads line 0. Only a store takes the bytes given to it
-abbrev pub calls : List Entry
-calls =
-    with (Store 1 2) (7 ∷ 8 ∷ [])
-    ∷ with (Load 1 2) []
-    ∷ with (Serve 1) []
-    ∷ with (Receive 1) []
-    ∷ with (Store 1 2) (5 ∷ 6 ∷ [])
-    ∷ with (Load 1 2) (9 ∷ 9 ∷ [])
-    ∷ with (Fence 1) (9 ∷ 9 ∷ [])
-    ∷ with (Advance 0 3) []
-    ∷ with (Load 0 0) []
-    ∷ with (Serve 0) []
-    ∷ with (Receive 0) []
-    ∷ with (Load 0 0) []
-    ∷ with (Evict 0 0) []
-    ∷ with (Take 0) []
-    ∷ with (Fence 0) []
-    ∷ []
-
--- what they answer, in their order
-abbrev pub replies : List Reply
-replies =
-    done ask
-    ∷ refused 20
-    ∷ done own
-    ∷ done own
-    ∷ commit 1 (stamp 1) (store 2 (5 ∷ 6 ∷ []))
-    ∷ commit 1 (stamp 0) (load 2 (5 ∷ 6 ∷ []))
-    ∷ commit 1 (stamp 1) fence
-    ∷ done advance
-    ∷ done ask
-    ∷ done share
-    ∷ done share
-    ∷ commit 0 (stamp 3) (load 0 (0 ∷ 0 ∷ []))
-    ∷ done evict
-    ∷ refused 25
-    ∷ commit 0 (stamp 3) fence
+abbrev pub plays : List Played
+plays =
+    played (Store 1 2) (7 ∷ 8 ∷ []) (done ask)
+    ∷ played (Load 1 2) [] (refused 20)
+    ∷ played (Serve 1) [] (done own)
+    ∷ played (Receive 1) [] (done own)
+    ∷ played (Store 1 2) (5 ∷ 6 ∷ []) (commit 1 (stamp 1) (store 2 (5 ∷ 6 ∷ [])))
+    ∷ played (Load 1 2) (9 ∷ 9 ∷ []) (commit 1 (stamp 0) (load 2 (5 ∷ 6 ∷ [])))
+    ∷ played (Fence 1) (9 ∷ 9 ∷ []) (commit 1 (stamp 1) fence)
+    ∷ played (Advance 0 3) [] (done advance)
+    ∷ played (Load 0 0) [] (done ask)
+    ∷ played (Serve 0) [] (done share)
+    ∷ played (Receive 0) [] (done share)
+    ∷ played (Load 0 0) [] (commit 0 (stamp 3) (load 0 (0 ∷ 0 ∷ [])))
+    ∷ played (Evict 0 0) [] (done evict)
+    ∷ played (Take 0) [] (refused 25)
+    ∷ played (Fence 0) [] (commit 0 (stamp 3) fence)
     ∷ []
 
 -- a commit: its place in the list of calls, core, timestamp, and what it did
-abbrev pub made : ℕ → ℕ → ℕ → Op Bytes → Commit Bytes
+abbrev pub made : {A : Type 0} → ℕ → ℕ → ℕ → Op A → Commit A
 made p c t o = record { place = place p; core = c; ts = stamp t; op = o }
 
 -- "A commit carries kind, core, timestamp and, but for a fence, line and bytes"; "A call that is refused or commits nothing still has its place."
@@ -69,5 +56,5 @@ committed =
     ∷ []
 
 pub record CommitsTheorem : Type 0 where
-  pub replies : map (λ (r : Record). r .reply) (run calls 1 (freshMachine small) .records) ≡ replies
-  pub committed : commitsOf small calls ≡ committed
+  pub replies : map (λ (r : Record). r .reply) (run (map entryOf plays) 1 (freshMachine small) .records) ≡ map replyOf plays
+  pub committed : commitsOf small (map entryOf plays) ≡ committed

@@ -7,30 +7,19 @@ use Rattle.spelling.specs.Text.{text}
 use Rattle.grammar.specs.{Table.rowsOf, Line.LineOf, declared.Line.{Line, the-variants.{Opening, Step, Refused}}}
 use Rattle.reference_points.specs.{Rows.Each, Numbers.opening}
 
--- a line of a journal, where the first line is due (form 0) or after `fabric=1` (form 1)
-pub record Written : Type 0 where
-  pub form : ℕ
-  pub line : List ℕ
-
-abbrev pub written : ℕ → List ℕ → Written
-written form s = record { form = form; line = s }
-
--- what a line says. A step's data are from one offset of the line up to another; a step without data has none at the line's end
-pub record Spoken : Type 0 where
-  pub line : Written
-  pub says : Line
-
-abbrev pub spoken : ℕ → List ℕ → Line → Spoken
-spoken form s a = record { line = written form s; says = a }
+-- a line of a journal, where the first line is due (form 0) or after `fabric=1` (form 1), and what it says. A step's data are from one offset of
+-- the line up to another; a step without data has none at the line's end
+pub data Spoken : Type 0 where
+  spoken : (form : ℕ) (line : List ℕ) (says : Line) → Spoken
 
 -- the line says so
-abbrev pub Says : Written → Line → Type 0
-Says w a = LineOf (rowsOf (w .form)) (w .line) a
+abbrev pub Says : Spoken → Type 0
+Says (spoken form s a) = LineOf (rowsOf form) s a
 
--- "First line `fabric=1 cores=N lines=N width=N lease=N`, then one step a line, single blanks: `op=` load, evict: `core=N line=N`; store:
--- `core=N line=N data=H`; fence, serve, receive: `core=N`; advance: `core=N by=N`; yield, take: `line=N`."
-abbrev pub readLines : List Spoken
-readLines =
+abbrev pub lines : List Spoken
+lines =
+    -- "First line `fabric=1 cores=N lines=N width=N lease=N`, then one step a line, single blanks: `op=` load, evict: `core=N line=N`; store:
+    -- `core=N line=N data=H`; fence, serve, receive: `core=N`; advance: `core=N by=N`; yield, take: `line=N`."
     spoken 0 (text "fabric=1 cores=2 lines=3 width=4 lease=5") (Opening 1 (opening 2 3 4 5))
     ∷ spoken 1 (text "op=load core=3 line=4") (Step (Load 3 4) 21 21)
     ∷ spoken 1 (text "op=evict core=3 line=4") (Step (Evict 3 4) 22 22)
@@ -41,57 +30,39 @@ readLines =
     ∷ spoken 1 (text "op=advance core=3 by=4294967295") (Step (Advance 3 4294967295) 31 31)
     ∷ spoken 1 (text "op=yield line=3") (Step (Yield 3) 15 15)
     ∷ spoken 1 (text "op=take line=3") (Step (Take 3) 14 14)
+    -- "`fabric=1` and the step kind are fixed text, so anything else there is 11"; so are an empty line, another key and a step where the first
+    -- line is due
+    ∷ spoken 1 (text "op=jump core=3") (Refused 11)
+    ∷ spoken 1 (text "op=fetch core=3") (Refused 11)
+    ∷ spoken 1 (text "op= core=3") (Refused 11)
+    ∷ spoken 1 (text "op=yield core=3") (Refused 11)
+    ∷ spoken 1 (text "op=take") (Refused 11)
+    ∷ spoken 1 (text "fabric=1 cores=2 lines=3 width=4 lease=5") (Refused 11)
+    ∷ spoken 1 [] (Refused 11)
+    ∷ spoken 1 (replicate 200 97) (Refused 11)
+    ∷ spoken 0 (text "fabric=9 cores=2 lines=3 width=4 lease=5") (Refused 11)
+    ∷ spoken 0 (text "op=load core=3 line=4") (Refused 11)
+    -- "10 line over 200 bytes"
+    ∷ spoken 1 (replicate 201 97) (Refused 10)
+    -- "12 number without digits, with another byte, with a leading zero (0 itself is fine) or above 4,294,967,295"; it goes before 13
+    ∷ spoken 1 (text "op=load core= line=0") (Refused 12)
+    ∷ spoken 1 (text "op=load core=1x line=0") (Refused 12)
+    ∷ spoken 1 (text "op=load core=x1 line=0") (Refused 12)
+    ∷ spoken 1 (text "op=load core=01 line=0") (Refused 12)
+    ∷ spoken 1 (text "op=load core=0 line=00") (Refused 12)
+    ∷ spoken 1 (text "op=load core=4294967296 line=0") (Refused 12)
+    ∷ spoken 1 (text "op=advance core=0 by=10000000000") (Refused 12)
+    ∷ spoken 1 (text "op=store core=0 line=f data=0A") (Refused 12)
+    ∷ spoken 0 (text "fabric=1 cores=2 lines=3 width=4 lease=") (Refused 12)
+    -- "13 data empty, odd in count, or not 0-9 a-f"
+    ∷ spoken 1 (text "op=store core=3 line=4 data=") (Refused 13)
+    ∷ spoken 1 (text "op=store core=3 line=4 data=0") (Refused 13)
+    ∷ spoken 1 (text "op=store core=3 line=4 data=000") (Refused 13)
+    ∷ spoken 1 (text "op=store core=3 line=4 data=0A") (Refused 13)
+    ∷ spoken 1 (text "op=store core=3 line=4 data=g0") (Refused 13)
+    ∷ spoken 1 (text "op=store core=3 line=4 data=0g") (Refused 13)
+    ∷ spoken 1 (text "op=store core=3 line=4 data=0/") (Refused 13)
     ∷ []
 
--- "`fabric=1` and the step kind are fixed text, so anything else there is 11"; so are an empty line, another key and a step where the first
--- line is due
-abbrev pub formless : List Written
-formless =
-    written 1 (text "op=jump core=3")
-    ∷ written 1 (text "op=fetch core=3")
-    ∷ written 1 (text "op= core=3")
-    ∷ written 1 (text "op=yield core=3")
-    ∷ written 1 (text "op=take")
-    ∷ written 1 (text "fabric=1 cores=2 lines=3 width=4 lease=5")
-    ∷ written 1 []
-    ∷ written 1 (replicate 200 97)
-    ∷ written 0 (text "fabric=9 cores=2 lines=3 width=4 lease=5")
-    ∷ written 0 (text "op=load core=3 line=4")
-    ∷ []
-
--- "10 line over 200 bytes"
-abbrev pub overlong : Written
-overlong = written 1 (replicate 201 97)
-
--- "12 number without digits, with another byte, with a leading zero (0 itself is fine) or above 4,294,967,295"; it goes before 13
-abbrev pub misnumbered : List Written
-misnumbered =
-    written 1 (text "op=load core= line=0")
-    ∷ written 1 (text "op=load core=1x line=0")
-    ∷ written 1 (text "op=load core=x1 line=0")
-    ∷ written 1 (text "op=load core=01 line=0")
-    ∷ written 1 (text "op=load core=0 line=00")
-    ∷ written 1 (text "op=load core=4294967296 line=0")
-    ∷ written 1 (text "op=advance core=0 by=10000000000")
-    ∷ written 1 (text "op=store core=0 line=f data=0A")
-    ∷ written 0 (text "fabric=1 cores=2 lines=3 width=4 lease=")
-    ∷ []
-
--- "13 data empty, odd in count, or not 0-9 a-f"
-abbrev pub misspelt : List Written
-misspelt =
-    written 1 (text "op=store core=3 line=4 data=")
-    ∷ written 1 (text "op=store core=3 line=4 data=0")
-    ∷ written 1 (text "op=store core=3 line=4 data=000")
-    ∷ written 1 (text "op=store core=3 line=4 data=0A")
-    ∷ written 1 (text "op=store core=3 line=4 data=g0")
-    ∷ written 1 (text "op=store core=3 line=4 data=0g")
-    ∷ written 1 (text "op=store core=3 line=4 data=0/")
-    ∷ []
-
-pub record LinesTheorem : Type 0 where
-  pub read : Each (λ (k : Spoken). Says (k .line) (k .says)) readLines
-  pub formless : Each (λ (w : Written). Says w (Refused 11)) formless
-  pub overlong : Says overlong (Refused 10)
-  pub misnumbered : Each (λ (w : Written). Says w (Refused 12)) misnumbered
-  pub misspelt : Each (λ (w : Written). Says w (Refused 13)) misspelt
+abbrev pub LinesTheorem : Type 0
+LinesTheorem = Each Says lines

@@ -1,17 +1,13 @@
 -- Small logs of commits that obey the memory model of Order (crates/protocol/specs/Order.antt), and small logs that do not: one for each clause of it.
 --
--- The values are numbers; where nothing is stored a line reads 0.
+-- The values are numbers; where nothing is stored a line reads 0. A commit is `at` its place, core and timestamp, with what it did.
 use Prim.Native.Nat.{ℕ}
 use mathlib.Core.List.{List, [], _∷_}
-use Rattle.protocol.specs.{Stamps.stamp, Step.{Op, load, store, fence}, Run.{Commit, place}, Order.TSO}
-use Rattle.reference_points.specs.Rows.{Each}
+use Rattle.protocol.specs.{Step.{Op, load, store, fence}, Run.Commit, Order.TSO}
+use Rattle.reference_points.specs.{Rows.Each, Commits.made as at}
 
 abbrev pub Log : Type 0
 Log = List (Commit ℕ)
-
--- a commit: its place in the list of calls, core, timestamp, and what it did
-abbrev pub at : ℕ → ℕ → ℕ → Op ℕ → Commit ℕ
-at p c t o = record { place = place p; core = c; ts = stamp t; op = o }
 
 -- two commits of core 0, made one after the other, and the second sorted first
 abbrev pub swapped : Op ℕ → Op ℕ → Log

@@ -14,40 +14,31 @@ use Rattle.protocol.specs.declared.Recall.the-variants.{None as NoRecall, Downg
 use Rattle.protocol.specs.Step.{Reply, refused, done, Outcome, step, openReply, opened}
 use Rattle.reference_points.specs.Rows.{core, asked, answered, askedElsewhere, answeredElsewhere, sharedCopy, cleanCopy, dirtyCopy, pieces}
 use Rattle.reference_points.specs.Rows.{sharedLine, ownedLine, withWriteback, busy, unmoved, counting, given, private, shared, greatest, cell}
-use Rattle.reference_points.specs.Rows.{stateOf, withCore, withLine, Agree}
+use Rattle.reference_points.specs.Rows.{machineOf, withCore, withLine, Agree}
 
--- the state of the rows, with a lease of 10
-abbrev pub usual : Pieces → State
-usual p = stateOf 10 p
+-- the machine of the rows, with a lease of 10
+abbrev pub usual : Pieces → Machine
+usual p = machineOf 10 p unmoved
 
--- a call on a machine, and its number
-pub record Refusal : Type 0 where
-  pub number : ℕ
-  pub machine : Machine
-  pub call : Call
-  pub bytes : Bytes
+-- a call on a machine, the bytes given to it, and its number
+pub data Refusal : Type 0 where
+  refusal : (number : ℕ) (on : Machine) (call : Call) (bytes : Bytes) → Refusal
 
 abbrev pub called : Refusal → Outcome
-called r = step (r .machine) (r .call) (r .bytes)
+called (refusal n m call bs) = step m call bs
 
 -- "A refused call returns its number, the state it got, both buffers byte for byte."
 abbrev pub turnedAway : Refusal → Outcome
-turnedAway r = record { reply = refused (r .number); machine = r .machine }
+turnedAway (refusal n m call bs) = record { reply = refused n; machine = m }
 
--- ---- 3 to 6 and 20 to 27, by what a call is given and the pieces that it finds
+-- ---- 3 to 6 and 20 to 27, by what a call is given and the pieces that it finds, with nothing else amiss
 
-pub record Cause : Type 0 where
-  pub number : ℕ
-  pub before : Pieces
-  pub call : Call
-  pub bytes : Bytes
-
-abbrev pub cause : ℕ → Pieces → Call → Cause
-cause n p call = record { number = n; before = p; call = call; bytes = given }
+abbrev pub cause : ℕ → Pieces → Call → Refusal
+cause n p call = refusal n (usual p) call given
 
 -- a store of too few or too many bytes
-abbrev pub storing : ℕ → Pieces → ℕ → ℕ → Bytes → Cause
-storing n p c l bs = record { number = n; before = p; call = Store c l; bytes = bs }
+abbrev pub storing : ℕ → Pieces → ℕ → ℕ → Bytes → Refusal
+storing n p c l bs = refusal n (usual p) (Store c l) bs
 
 -- nothing asked and no copy; a request under way, asked or answered, and no copy
 abbrev pub idle : Pieces
@@ -63,7 +54,7 @@ granted = pieces (core 7 9 (answered GrantOwn 4 9)) NoCopy (sharedLine 4 9)
 abbrev pub full : Pieces
 full = pieces (core 7 9 Empty) (dirtyCopy 6 greatest) (ownedLine 1 NoRecall)
 
-abbrev pub causes : List Cause
+abbrev pub causes : List Refusal
 causes =
     -- 3 core ≥ cores. Cores 3 and 4 would be refused for their slots, copies and clocks too: with 20, 20, 26, 27, 21, 27, 22
     cause 3 idle (Load 3 0)
@@ -140,26 +131,30 @@ causes =
     ∷ cause 27 (pieces (core 7 9 (asked WantLoad greatest (Version (stamp 4)))) (sharedCopy 4 9) (busy (sharedLine 4 9))) (Serve 1)
     ∷ []
 
--- the cause on a machine with nothing else amiss
-abbrev pub alone : Cause → Refusal
-alone k = record { number = k .number; machine = machine (usual (k .before)) (private unmoved) (shared unmoved); call = k .call; bytes = k .bytes }
-
 -- with 2 as well: the private buffer is a byte short
-abbrev pub withTwo : Cause → Refusal
-withTwo k = record { number = 2; machine = machine (usual (k .before)) (drop 1 (private unmoved)) (shared unmoved); call = k .call; bytes = k .bytes }
+abbrev pub shortened : Machine → Machine
+shortened m = machine (m .state) (drop 1 (m .private)) (m .shared)
 
 -- with 1 as well: the last line has an owner ≥ cores
-abbrev pub misowned : Pieces → State
-misowned p = withLine 3 (ownedLine 3 NoRecall) (usual p)
+abbrev pub misowned : Machine → Machine
+misowned m = machine (withLine 3 (ownedLine 3 NoRecall) (m .state)) (m .private) (m .shared)
 
-abbrev pub withOne : Cause → Refusal
-withOne k = record { number = 1; machine = machine (misowned (k .before)) (private unmoved) (shared unmoved); call = k .call; bytes = k .bytes }
+-- the same call with a smaller number on a machine that was changed
+abbrev pub sooner : ℕ → (Machine → Machine) → Refusal → Refusal
+sooner n change (refusal k m call bs) = refusal n (change m) call bs
 
 -- ---- 1 and 2
 
 -- a fence of core 0, which nothing but 1 and 2 refuses here
 abbrev pub fencing : ℕ → Machine → Refusal
-fencing n m = record { number = n; machine = m; call = Fence 0; bytes = [] }
+fencing n m = refusal n m (Fence 0) []
+
+-- on the machine of the rows with another state, or with other buffers
+abbrev pub unfit : State → Refusal
+unfit s = fencing 1 (machine s (private unmoved) (shared unmoved))
+
+abbrev pub mislaid : Bytes → Bytes → Refusal
+mislaid p q = fencing 2 (machine (usual idle .state) p q)
 
 -- openings with one value outside the limits
 abbrev pub opening : ℕ → ℕ → ℕ → ℕ → Opening
@@ -169,50 +164,37 @@ abbrev pub outside : List Opening
 outside =
     opening 0 1 1 1 ∷ opening 17 1 1 1 ∷ opening 1 0 1 1 ∷ opening 1 65 1 1 ∷ opening 1 1 0 1 ∷ opening 1 1 65 1 ∷ opening 1 1 1 0 ∷ opening 1 1 1 1001 ∷ []
 
--- 1 "state whose sizes or lease lie outside the limits"
-abbrev pub missized : Opening → Refusal
-missized o = fencing 1 (freshMachine o)
-
--- 1 ".. or with an owner ≥ cores, or a slot's line ≥ lines"
-abbrev pub unfit : State → Refusal
-unfit s = fencing 1 (machine s (private unmoved) (shared unmoved))
-
--- 2 "a buffer not of its exact length"
-abbrev pub mislaid : ℕ → State → Bytes → Bytes → Refusal
-mislaid n s p q = fencing n (machine s p q)
-
 abbrev pub machineRows : List Refusal
 machineRows =
-    unfit (misowned idle)
-    ∷ unfit (withLine 0 (ownedLine 3 NoRecall) (usual idle))
-    ∷ unfit (withCore 2 (core 7 9 (Asked WantLoad 4 (stamp 7) NothingHeld)) (usual idle))
-    ∷ unfit (withCore 0 (core 7 9 (Answered GrantShare 4 (stamp 4) (stamp 9))) (usual idle))
-    ∷ mislaid 2 (usual idle) (drop 1 (private unmoved)) (shared unmoved)
-    ∷ mislaid 2 (usual idle) (9 ∷ private unmoved) (shared unmoved)
-    ∷ mislaid 2 (usual idle) (private unmoved) (drop 1 (shared unmoved))
-    ∷ mislaid 2 (usual idle) (private unmoved) (9 ∷ shared unmoved)
-    ∷ mislaid 2 (usual idle) (shared unmoved) (private unmoved)
+    -- 1 "state .. with an owner ≥ cores, or a slot's line ≥ lines"
+    fencing 1 (misowned (usual idle))
+    ∷ unfit (withLine 0 (ownedLine 3 NoRecall) (usual idle .state))
+    ∷ unfit (withCore 2 (core 7 9 (Asked WantLoad 4 (stamp 7) NothingHeld)) (usual idle .state))
+    ∷ unfit (withCore 0 (core 7 9 (Answered GrantShare 4 (stamp 4) (stamp 9))) (usual idle .state))
+    -- 2 "a buffer not of its exact length"
+    ∷ mislaid (drop 1 (private unmoved)) (shared unmoved)
+    ∷ mislaid (9 ∷ private unmoved) (shared unmoved)
+    ∷ mislaid (private unmoved) (drop 1 (shared unmoved))
+    ∷ mislaid (private unmoved) (9 ∷ shared unmoved)
+    ∷ mislaid (shared unmoved) (private unmoved)
     -- 1 and 2
-    ∷ mislaid 1 (misowned idle) (drop 1 (private unmoved)) (shared unmoved)
-    ∷ mislaid 1 (misowned idle) (private unmoved) (9 ∷ shared unmoved)
-    ∷ map missized outside
+    ∷ sooner 1 misowned (mislaid (drop 1 (private unmoved)) (shared unmoved))
+    ∷ sooner 1 misowned (mislaid (private unmoved) (9 ∷ shared unmoved))
+    -- 1 "state whose sizes or lease lie outside the limits"
+    ∷ map (λ o. fencing 1 (freshMachine o)) outside
 
 -- ---- the theorems
 
 -- each number alone, and each two together
 abbrev pub refusals : List Refusal
-refusals = machineRows ++ map alone causes ++ map withTwo causes ++ map withOne causes
+refusals = machineRows ++ causes ++ map (sooner 2 shortened) causes ++ map (sooner 1 misowned) causes
 
 abbrev pub NumbersTheorem : Type 0
 NumbersTheorem = Agree called turnedAway refusals
 
 -- an opening's answer and state
-pub record Opened : Type 0 where
-  pub reply : Reply
-  pub state : State
-
-abbrev pub opens : Opening → Opened
-opens o = record { reply = openReply o; state = opened o }
+abbrev pub opens : Opening → Reply × State
+opens o = (openReply o, opened o)
 
 -- "Fresh, for given sizes and lease: every timestamp 0, slots empty, no copies, manager lines shared, no recall, no writeback"
 abbrev pub fresh : Opening → State
@@ -222,12 +204,12 @@ fresh o = record { opening = o; core = replicate 16 (core 0 0 Empty); cell = rep
 abbrev pub inside : List Opening
 inside = opening 1 1 1 1 ∷ opening 16 64 64 1000 ∷ opening 2 3 4 5 ∷ []
 
-abbrev pub accepted : Opening → Opened
-accepted o = record { reply = done Open; state = fresh o }
+abbrev pub accepted : Opening → Reply × State
+accepted o = (done Open, fresh o)
 
 -- "a refused opening, which gets none, the fresh state of 1 core, 1 line, width 1, lease 1"
-abbrev pub refusedWithSeven : Opening → Opened
-refusedWithSeven o = record { reply = refused 7; state = fresh (opening 1 1 1 1) }
+abbrev pub refusedWithSeven : Opening → Reply × State
+refusedWithSeven o = (refused 7, fresh (opening 1 1 1 1))
 
 -- which openings are accepted, and which are refused; the answer and the state of each
 pub record OpeningsTheorem : Type 0 where

@@ -9,20 +9,15 @@ use Rattle.driver.specs.Listing.{ended, stopped, lastLines, notOpened}
 use Rattle.reference_points.specs.Rows.{Agree}
 
 -- the record of a call: its place, its answer, the line printed for it
-pub record Printed : Type 0 where
-  pub place : ℕ
-  pub reply : Reply
-  pub line : Bytes
-
-abbrev pub printed : ℕ → Reply → Bytes → Printed
-printed n r s = record { place = n; reply = r; line = s }
+pub data Printed : Type 0 where
+  printed : (place : ℕ) (reply : Reply) (line : Bytes) → Printed
 
 -- what the definition gives for it, and what 01 prints
 abbrev pub recorded : Printed → Bytes
-recorded k = recordText (place (k .place)) (k .reply)
+recorded (printed n r s) = recordText (place n) r
 
 abbrev pub printedLine : Printed → Bytes
-printedLine k = k .line
+printedLine (printed n r s) = s
 
 -- "n is the place; done is open, ask, recall, share, renew, own, drop, evict, advance, yield or take; a fence prints core and ts"
 abbrev pub records : List Printed

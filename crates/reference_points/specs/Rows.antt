@@ -69,14 +69,8 @@ pieces k x m = record { number = 2; core = k; copy = x; line = m }
 -- ---- the bytes
 
 -- the bytes of line 2 at its four places: core 1's copy, the manager's line, the writeback, the answer to core 1
-pub record Places : Type 0 where
-  pub copy : Bytes
-  pub manager : Bytes
-  pub writeback : Bytes
-  pub answer : Bytes
-
-abbrev pub places : Bytes → Bytes → Bytes → Bytes → Places
-places x m w a = record { copy = x; manager = m; writeback = w; answer = a }
+pub data Places : Type 0 where
+  places : (copy manager writeback answer : Bytes) → Places
 
 -- n bytes that count from a
 abbrev pub counting : ℕ → ℕ → Bytes
@@ -105,11 +99,11 @@ given = counting 5 200
 
 -- the private buffer: core 0's copies of the four lines, then core 1's, then core 2's
 abbrev pub private : Places → Bytes
-private b = counting 30 10 ++ b .copy ++ counting 25 45
+private (places x m w a) = counting 30 10 ++ x ++ counting 25 45
 
 -- the shared buffer: the four lines, their writebacks, the answers to the three cores
 abbrev pub shared : Places → Bytes
-shared b = counting 10 100 ++ b .manager ++ counting 15 115 ++ b .writeback ++ counting 10 135 ++ b .answer ++ counting 5 150
+shared (places x m w a) = counting 10 100 ++ m ++ counting 15 115 ++ w ++ counting 10 135 ++ a ++ counting 5 150
 
 -- ---- the machine
 
@@ -154,20 +148,15 @@ withLine l m s = record { opening = s .opening; core = s .core; cell = s .cell; 
 -- ---- rows
 
 -- a row: the lease and the pieces before the call; the call; its answer, the pieces and the bytes after it
-pub record Row : Type 0 where
-  pub lease : ℕ
-  pub before : Pieces
-  pub call : Call
-  pub reply : Reply
-  pub after : Pieces
-  pub bytes : Places
+pub data Row : Type 0 where
+  row : (lease : ℕ) (before : Pieces) (call : Call) (reply : Reply) (after : Pieces) (bytes : Places) → Row
 
 -- what `step` gives on a row's machine, and what the row says: the answer, the whole state and both buffers
 abbrev pub got : Row → Outcome
-got r = step (machineOf (r .lease) (r .before) unmoved) (r .call) given
+got (row lease p call a q b) = step (machineOf lease p unmoved) call given
 
 abbrev pub told : Row → Outcome
-told r = record { reply = r .reply; machine = machineOf (r .lease) (r .after) (r .bytes) }
+told (row lease p call a q b) = record { reply = a; machine = machineOf lease q b }
 
 -- P holds of each entry of a list
 abbrev pub Each : {A : Type 0} → (A → Type 0) → List A → Type 0

@@ -6,21 +6,15 @@ use lib.ListN.{drop}
 use Rattle.protocol.specs.{Machine.{Machine, machine}, Step.{Buffer, inPrivate, inShared, Shown, shown}}
 use Rattle.protocol.specs.declared.{Copy.{Copy, the-variants.None as NoCopy}, Slot.the-variants.Empty}
 use Rattle.reference_points.specs.Rows.{core, sharedCopy, cleanCopy, dirtyCopy, sharedLine, pieces, unmoved, private, shared, Agree}
-use Rattle.reference_points.specs.Numbers.{usual, idle, misowned}
+use Rattle.reference_points.specs.Numbers.{usual, idle, shortened, misowned}
 
 -- a machine, a core and a line, and the part that is shown: its buffer, start and end
-pub record Look : Type 0 where
-  pub machine : Machine
-  pub core : ℕ
-  pub line : ℕ
-  pub part : Shown
-
-abbrev pub look : Machine → ℕ → ℕ → Buffer → ℕ → ℕ → Look
-look m c l b start end = record { machine = m; core = c; line = l; part = record { buffer = b; start = start; end = end } }
+pub data Look : Type 0 where
+  look : (on : Machine) (core line : ℕ) (buffer : Buffer) (start end : ℕ) → Look
 
 -- the machine of the rows, where core 1 has this copy of line 2
 abbrev pub holding : Copy → Machine
-holding x = machine (usual (pieces (core 7 9 Empty) x (sharedLine 4 9))) (private unmoved) (shared unmoved)
+holding x = usual (pieces (core 7 9 Empty) x (sharedLine 4 9))
 
 abbrev pub looks : List Look
 looks =
@@ -38,16 +32,16 @@ looks =
     -- 3, 4, 2 and 1
     ∷ look (holding NoCopy) 3 2 inShared 0 0
     ∷ look (holding NoCopy) 1 4 inShared 0 0
-    ∷ look (machine (usual idle) (drop 1 (private unmoved)) (shared unmoved)) 1 2 inShared 0 0
-    ∷ look (machine (usual idle) (private unmoved) (drop 1 (shared unmoved))) 0 1 inShared 0 0
-    ∷ look (machine (misowned idle) (private unmoved) (shared unmoved)) 0 1 inShared 0 0
+    ∷ look (shortened (usual idle)) 1 2 inShared 0 0
+    ∷ look (machine (usual idle .state) (private unmoved) (drop 1 (shared unmoved))) 0 1 inShared 0 0
+    ∷ look (misowned (usual idle)) 0 1 inShared 0 0
     ∷ []
 
 abbrev pub isShown : Look → Shown
-isShown k = shown (k .machine) (k .core) (k .line)
+isShown (look m c l b start end) = shown m c l
 
 abbrev pub isTold : Look → Shown
-isTold k = k .part
+isTold (look m c l b start end) = record { buffer = b; start = start; end = end }
 
 abbrev pub ShowTheorem : Type 0
 ShowTheorem = Agree isShown isTold looks

@@ -12,91 +12,70 @@ use Rattle.protocol.specs.declared.{Slot.{Slot, the-variants.{Empty, Answered}}
 use Rattle.protocol.specs.declared.{ManagerLine.ManagerLine, State.State}
 use Rattle.protocol.specs.declared.Call.{Call, the-variants.{Load, Store, Fence, Evict, Advance, Serve, Receive, Yield, Take}}
 use Rattle.reference_points.specs.Rows.{core, asked, answered, askedElsewhere, answeredElsewhere, sharedCopy, cleanCopy, dirtyCopy, pieces}
-use Rattle.reference_points.specs.Rows.{sharedLine, ownedLine, withRecall, withWriteback, busy, greatest, Row, AllHold, Places, places}
+use Rattle.reference_points.specs.Rows.{sharedLine, ownedLine, withRecall, withWriteback, busy, greatest, Row, row, AllHold, Places, places}
 use Rattle.reference_points.specs.Rows.{copyBytes, managerBytes, writebackBytes, answerBytes, unmoved, given, counting, private, shared}
 use Rattle.reference_points.specs.Rows.{stateOf, withCore, withLine}
 
 -- a call that is done: what it answers, the pieces and the bytes after it
 abbrev pub doing : Pieces → Call → Name → Pieces → Places → Row
-doing p call d q b = record { lease = 10; before = p; call = call; reply = done d; after = q; bytes = b }
+doing p call d q b = row 10 p call (done d) q b
 
 -- rows of a step that leaves the clocks, as they stand and with other clocks
 abbrev pub withClocks : ℕ → ℕ → Pieces → Pieces
 withClocks lts sts p = pieces (core lts sts (p .core .slot)) (p .copy) (p .line)
 
 abbrev pub atClocks : ℕ → ℕ → Row → Row
-atClocks lts sts r =
-    record {
-      lease = r .lease;
-      before = withClocks lts sts (r .before);
-      call = r .call;
-      reply = r .reply;
-      after = withClocks lts sts (r .after);
-      bytes = r .bytes;
-    }
+atClocks lts sts (row lease p call a q b) = row lease (withClocks lts sts p) call a (withClocks lts sts q) b
 
 abbrev pub alsoAt : ℕ → ℕ → List Row → List Row
 alsoAt lts sts rs = rs ++ map (atClocks lts sts) rs
 
 -- ---- load, store, fence and advance
 
--- "ask. The slot becomes asked" with "load or store, line, the lts when asked, the wts of the shared copy held, or none": the copy and the manager's
--- line, which stay
-abbrev pub asking : Call → Want → Copy → Held → ManagerLine → Row
-asking call a x h m = doing (pieces (core 12 40 Empty) x m) call ask (pieces (core 12 40 (asked a 12 h)) x m) unmoved
+-- "ask. The slot becomes asked" with "load or store, line, the lts when asked, the wts of the shared copy held, or none": lts, and the copy and the
+-- manager's line, which stay
+abbrev pub asking : ℕ → Call → Want → Copy → Held → ManagerLine → Row
+asking lts call a x h m = doing (pieces (core lts 40 Empty) x m) call ask (pieces (core lts 40 (asked a lts h)) x m) unmoved
 
 abbrev pub askRows : List Row
 askRows =
     -- load: "shared, lts > rts, or none: ask"; store: "owned: .. Else: ask"
-    asking (Load 1 2) WantLoad NoCopy NothingHeld (sharedLine 4 9)
-    ∷ asking (Load 1 2) WantLoad NoCopy NothingHeld (busy (ownedLine 1 NoRecall))
-    ∷ asking (Load 1 2) WantLoad (sharedCopy 4 11) (Version (stamp 4)) (busy (ownedLine 0 NoRecall))
-    ∷ asking (Store 1 2) WantStore NoCopy NothingHeld (sharedLine 4 9)
-    ∷ asking (Store 1 2) WantStore NoCopy NothingHeld (busy (ownedLine 1 NoRecall))
-    ∷ asking (Store 1 2) WantStore (sharedCopy 4 20) (Version (stamp 4)) (busy (sharedLine 4 20))
+    asking 12 (Load 1 2) WantLoad NoCopy NothingHeld (sharedLine 4 9)
+    ∷ asking 12 (Load 1 2) WantLoad NoCopy NothingHeld (busy (ownedLine 1 NoRecall))
+    ∷ asking 12 (Load 1 2) WantLoad (sharedCopy 4 11) (Version (stamp 4)) (busy (ownedLine 0 NoRecall))
+    ∷ asking 12 (Store 1 2) WantStore NoCopy NothingHeld (sharedLine 4 9)
+    ∷ asking 12 (Store 1 2) WantStore NoCopy NothingHeld (busy (ownedLine 1 NoRecall))
+    ∷ asking 12 (Store 1 2) WantStore (sharedCopy 4 20) (Version (stamp 4)) (busy (sharedLine 4 20))
     -- 27 speaks of an owned line
-    ∷ asking (Store 1 2) WantStore (sharedCopy 4 greatest) (Version (stamp 4)) (sharedLine 4 greatest)
+    ∷ asking 12 (Store 1 2) WantStore (sharedCopy 4 greatest) (Version (stamp 4)) (sharedLine 4 greatest)
     ∷ []
 
--- a load that commits: the slot and the manager's line, which stay; lts and the copy before it, its ts, and the copy after it
-abbrev pub loading : Slot → ManagerLine → ℕ → Copy → ℕ → Copy → Row
-loading s m lts x ts y =
-    record {
-      lease = 10;
-      before = pieces (core lts 1 s) x m;
-      call = Load 1 2;
-      reply = commit 1 (stamp ts) (load 2 copyBytes);
-      after = pieces (core ts 1 s) y m;
-      bytes = unmoved;
-    }
+-- a load that commits: the slot and the manager's line, which stay; lts, sts and the copy before it, its ts, and the copy after it
+abbrev pub loading : Slot → ManagerLine → ℕ → ℕ → Copy → ℕ → Copy → Row
+loading s m lts sts x ts y =
+    row 10 (pieces (core lts sts s) x m) (Load 1 2) (commit 1 (stamp ts) (load 2 copyBytes)) (pieces (core ts sts s) y m) unmoved
 
 abbrev pub loadRows : List Row
 loadRows =
     -- "owned, dirty: commit at lts; copy's rts becomes max(rts, lts)"
-    loading Empty (ownedLine 1 NoRecall) 15 (dirtyCopy 11 11) 15 (dirtyCopy 11 15)
-    ∷ loading answeredElsewhere (busy (ownedLine 1 NoRecall)) 12 (dirtyCopy 11 13) 12 (dirtyCopy 11 13)
-    ∷ loading askedElsewhere (ownedLine 1 Flush) 7 (dirtyCopy 6 greatest) 7 (dirtyCopy 6 greatest)
+    loading Empty (ownedLine 1 NoRecall) 15 1 (dirtyCopy 11 11) 15 (dirtyCopy 11 15)
+    ∷ loading answeredElsewhere (busy (ownedLine 1 NoRecall)) 12 1 (dirtyCopy 11 13) 12 (dirtyCopy 11 13)
+    ∷ loading askedElsewhere (ownedLine 1 Flush) 7 1 (dirtyCopy 6 greatest) 7 (dirtyCopy 6 greatest)
     -- "owned, not dirty: lts becomes max(lts, wts), commit there; rts becomes max(rts, lts)"
-    ∷ loading Empty (ownedLine 1 NoRecall) 2 (cleanCopy 3 7) 3 (cleanCopy 3 7)
-    ∷ loading answeredElsewhere (busy (ownedLine 1 NoRecall)) 2 (cleanCopy 8 7) 8 (cleanCopy 8 8)
-    ∷ loading askedElsewhere (ownedLine 1 Flush) greatest (cleanCopy 3 7) greatest (cleanCopy 3 greatest)
+    ∷ loading Empty (ownedLine 1 NoRecall) 2 1 (cleanCopy 3 7) 3 (cleanCopy 3 7)
+    ∷ loading answeredElsewhere (busy (ownedLine 1 NoRecall)) 2 1 (cleanCopy 8 7) 8 (cleanCopy 8 8)
+    ∷ loading askedElsewhere (ownedLine 1 Flush) greatest 1 (cleanCopy 3 7) greatest (cleanCopy 3 greatest)
     -- "shared, lts ≤ rts: lts becomes max(lts, wts), commit there"; this line asked for to store to it, or answered
-    ∷ loading Empty (sharedLine 4 9) 7 (sharedCopy 4 9) 7 (sharedCopy 4 9)
-    ∷ loading (asked WantStore 3 (Version (stamp 4))) (busy (ownedLine 0 NoRecall)) 9 (sharedCopy 4 9) 9 (sharedCopy 4 9)
-    ∷ loading (answered GrantOwn 4 20) (ownedLine 1 Flush) 3 (sharedCopy 4 9) 4 (sharedCopy 4 9)
+    ∷ loading Empty (sharedLine 4 9) 7 1 (sharedCopy 4 9) 7 (sharedCopy 4 9)
+    ∷ loading (asked WantStore 3 (Version (stamp 4))) (busy (ownedLine 0 NoRecall)) 9 1 (sharedCopy 4 9) 9 (sharedCopy 4 9)
+    ∷ loading (answered GrantOwn 4 20) (ownedLine 1 Flush) 3 1 (sharedCopy 4 9) 4 (sharedCopy 4 9)
     ∷ []
 
 -- a store that commits: the slot and the manager's line, which stay; lts, sts and the copy before it, and its ts
 abbrev pub storing : Slot → ManagerLine → ℕ → ℕ → Copy → ℕ → Row
 storing s m lts sts x ts =
-    record {
-      lease = 10;
-      before = pieces (core lts sts s) x m;
-      call = Store 1 2;
-      reply = commit 1 (stamp ts) (store 2 given);
-      after = pieces (core lts ts s) (dirtyCopy ts ts) m;
-      bytes = places given managerBytes writebackBytes answerBytes;
-    }
+    row 10 (pieces (core lts sts s) x m) (Store 1 2) (commit 1 (stamp ts) (store 2 given)) (pieces (core lts ts s) (dirtyCopy ts ts) m)
+    (places given managerBytes writebackBytes answerBytes)
 
 abbrev pub storeRows : List Row
 storeRows =
@@ -111,17 +90,12 @@ storeRows =
     ∷ storing Empty (ownedLine 1 NoRecall) 7 greatest (dirtyCopy 6 8) greatest
     ∷ []
 
--- a fence: the slot, which stays; lts and sts before it, and its ts
+-- a fence: the slot, the copy and the manager's line, which stay; lts and sts before it, and its ts
+abbrev pub fencingOver : Copy → ManagerLine → Slot → ℕ → ℕ → ℕ → Row
+fencingOver x m s lts sts ts = row 10 (pieces (core lts sts s) x m) (Fence 1) (commit 1 (stamp ts) fence) (pieces (core ts sts s) x m) unmoved
+
 abbrev pub fencing : Slot → ℕ → ℕ → ℕ → Row
-fencing s lts sts ts =
-    record {
-      lease = 10;
-      before = pieces (core lts sts s) (dirtyCopy 6 8) (busy (ownedLine 1 NoRecall));
-      call = Fence 1;
-      reply = commit 1 (stamp ts) fence;
-      after = pieces (core ts sts s) (dirtyCopy 6 8) (busy (ownedLine 1 NoRecall));
-      bytes = unmoved;
-    }
+fencing = fencingOver (dirtyCopy 6 8) (busy (ownedLine 1 NoRecall))
 
 abbrev pub fenceRows : List Row
 fenceRows =
@@ -312,15 +286,11 @@ otherTold = record { reply = done own; machine = machine otherAfter (private unm
 
 -- ---- the theorem
 
--- every row of every table holds; where the clocks stay, with either of them the later one
+-- every row of every table; where the clocks stay, with either of them the later one
+abbrev pub stepRows : List Row
+stepRows =
+    alsoAt 12 9 askRows ++ loadRows ++ storeRows ++ fenceRows ++ advanceRows ++ alsoAt 9 7 (evictRows ++ serveRows ++ receiveRows ++ writebackRows)
+
 pub record StepsTheorem : Type 0 where
-  pub ask : AllHold (alsoAt 12 9 askRows)
-  pub load : AllHold loadRows
-  pub store : AllHold storeRows
-  pub fence : AllHold fenceRows
-  pub advance : AllHold advanceRows
-  pub evict : AllHold (alsoAt 9 7 evictRows)
-  pub serve : AllHold (alsoAt 9 7 serveRows)
-  pub receive : AllHold (alsoAt 9 7 receiveRows)
-  pub writeback : AllHold (alsoAt 9 7 writebackRows)
+  pub rows : AllHold stepRows
   pub other : otherGot ≡ otherTold
