@@ -64,7 +64,7 @@ told form s k vs f =
 
 -- unfolded, it computes the answer of a line whose bytes are known
 unfoldable pub one-answer-theorem : OneAnswerTheorem
-unfolding le-or-lt same-number number-told data-told noneRead reads-some found-some shapes told apart short some-answer one
+unfolding le-or-lt number-told data-told byte-told noneRead value-read reads-some found-some some-answer told
 one-answer-theorem form s =
     let a = some-answer form s in
     record {

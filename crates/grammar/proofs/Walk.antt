@@ -26,7 +26,8 @@ module _ (s : List ℕ) (b : ℕ) (t : List ℕ) (at : ℕ) where
       go (suc k) m = let x : at + 1 + k ≡ at + suc k = omega arith in subst (λ (n : ℕ). getD s n 0 ≡ getD t k 0) x (h .1 k (le-of-suc-le-suc m))
 
 -- whether a byte is in the line at an offset
-pub byte-told : (s : List ℕ) (at b : ℕ) → Told ((at < length s) × (getD s at 0 ≡ b))
+unfoldable pub byte-told : (s : List ℕ) (at b : ℕ) → Told ((at < length s) × (getD s at 0 ≡ b))
+unfolding at-most same-number
 byte-told s at b = told-both (at-most (suc at) (length s)) (same-number (getD s at 0) b)
 
 -- a text that is there, and what is read after it

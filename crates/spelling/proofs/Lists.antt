@@ -6,12 +6,13 @@ use lib.{ListN.{length, getD}, Dec.leb}
 use borrow.Author.Tests.{leb-true, leb-false}
 use Rattle.spelling.specs.Bytes.{All}
 
+-- one of two facts, by a test
+abbrev pub by-test : {A B : Type 0} (t : Bool) → (t ≡ true → A) → (t ≡ false → B) → A ⊎ B
+by-test true f g = inl (f refl)
+by-test false f g = inr (g refl)
+
 unfoldable pub le-or-lt : (a b : ℕ) → (a ≤ b) ⊎ (b < a)
-le-or-lt a b = go (leb a b) refl
-  where
-    go : (t : Bool) → leb a b ≡ t → (a ≤ b) ⊎ (b < a)
-    go true e = inl (leb-true a b e)
-    go false e = inr (leb-false a b e)
+le-or-lt a b = by-test (leb a b) (leb-true a b) (leb-false a b)
 
 pub all-append : (P : ℕ → Type 0) (p q : List ℕ) → All P p → All P q → All P (p ++ q)
 all-append P [] q a b = b
