@@ -1,9 +1,9 @@
 -- From the row that was found to the answer of the line. Assumes nothing.
 use Prim.Native.Nat.{ℕ, zero, suc, _+_, _≤_, _<_, _-_}
-use mathlib.Core.{Path.{_≡_, refl, _∙_, ap, subst}, List.{List, [], _∷_, _++_}, Logic.{inl, inr}}
+use mathlib.Core.{Path.{_≡_, refl, _∙_, ap, subst}, List.{List, [], _∷_, _++_}, Logic.⊎-elim}
 use native.Mathlib.Omega.{arith}
 use lib.{ListN.{length, getD, drop, replicate, length-replicate}, Seq.{sets, sets-eq, getD-drop}}
-use Rattle.spelling.{specs.Hex.hex, proofs.Decide.{Told, same-number}}
+use Rattle.spelling.{specs.Hex.hex, proofs.Decide.same-number}
 use Rattle.grammar.specs.{Form.{Part, fixed, value, number, pairs, Has, Given}, Table.{rowsOf, rowAt, table, rowCount, numberCount, fromOf, toOf}}
 use Rattle.grammar.specs.Line.{said, Matches, LineOf, noForm, wrongNumber, wrongData, spelt}
 use Rattle.grammar.specs.Scan.{RowAt, Scans, formOf, valuesIn, nothingRead, Fails, FoundIn, nowhere, here, answerOf, RowFound}
@@ -111,13 +111,9 @@ none-short s from to h l k a b vs f = omega (arith, same-tag k s vs (omega arith
 pub found-by :
     (s : List ℕ) (from to : ℕ) (f : Found) → to ≤ rowCount → RowAt (lineTag s) (f .row) → from ≤ f .row → f .row < to
     → Scans s (formOf (f .row)) 0 (nothingRead s) (f .values) → FoundIn s from to f
-found-by s from to f h o a b d = by (same-number (f .values .fault) 11)
+found-by s from to f h o a b d = ⊎-elim (λ e. nowhere e (fail e)) (here a b d) (same-number (f .values .fault) 11)
   where
     fail : f .values .fault ≡ 11 → (k : ℕ) → from ≤ k → k < to → Fails s (formOf k)
     fail e k x y vs g =
         let i : k ≡ f .row = o k (omega arith) (same-tag k s vs (omega arith) g .1) in
         fails-of s (formOf (f .row)) (f .values) (entry-at (f .row) (omega arith) .shape) d e vs (subst (λ (m : ℕ). Has s (formOf m) vs) i g)
-
-    by : Told (f .values .fault ≡ 11) → FoundIn s from to f
-    by (inl e) = nowhere e (fail e)
-    by (inr n) = here a b d n

@@ -25,19 +25,14 @@ after-value s at = sym (drop-drop (length (valueAt s at)) at s)
 not-longer : (s : List ℕ) (at : ℕ) → at < length s → Fails (drop at s) []
 not-longer s at h vs f = omega (arith, simp length-drop at (ap length (ends-only _ vs f)))
 
-not-other : (s : List ℕ) (at b : ℕ) (p : List Part) → (at < length s → getD s at 0 ≡ b → ⊥) → Fails (drop at s) (fixed b ∷ p)
-not-other s at b p n vs f =
+-- a byte of the form is in the line, and what is after it has the rest of the form
+byte-met : (s : List ℕ) (at b : ℕ) (p : List Part) (vs : List (List ℕ)) → Has (drop at s) (fixed b ∷ p) vs → (at < length s) × (getD s at 0 ≡ b) × Has (drop (at + 1) s) p vs
+byte-met s at b p vs f =
     let d = byte-only (drop at s) b p vs f in
     let l : at < length s = omega (arith, simp length-drop at (ap length (d .1))) in
     let e : getD s at 0 ∷ drop (at + 1) s ≡ b ∷ d .0 = sym (at-byte s at l) ∙ d .1 in
-    n l (cc)
-
-not-same : (s : List ℕ) (at b : ℕ) (p : List Part) → at < length s → Fails (drop (at + 1) s) p → Fails (drop at s) (fixed b ∷ p)
-not-same s at b p l n vs f =
-    let d = byte-only (drop at s) b p vs f in
-    let e : getD s at 0 ∷ drop (at + 1) s ≡ b ∷ d .0 = sym (at-byte s at l) ∙ d .1 in
     let u : d .0 ≡ drop (at + 1) s = cc in
-    n vs (subst (λ (x : List ℕ). Has x p vs) u (d .2))
+    (l, (cc), subst (λ (x : List ℕ). Has x p vs) u (d .2))
 
 has-same : (s : List ℕ) (at b : ℕ) (p : List Part) (vs : List (List ℕ)) → at < length s → getD s at 0 ≡ b → Has (drop (at + 1) s) p vs → Has (drop at s) (fixed b ∷ p) vs
 has-same s at b p vs l e f = rw (at-byte s at l, e) (byte-here (drop (at + 1) s) b p vs f)
@@ -108,11 +103,11 @@ outcome {s} {at = at} (longer l e) h i f g = fails e (not-longer s at l)
 outcome {s} {at = at} {v = v} (same {p = p} {b = b} l e d) h i f g = up (outcome d h (omega arith) f g)
   where
     up : {r : Values} → Outcome s (drop (at + 1) s) p v r → Outcome s (drop at s) (fixed b ∷ p) v r
-    up (fails o n) = fails o (not-same s at b p l n)
+    up (fails o n) = fails o (λ vs m. n vs (byte-met s at b p vs m .2))
     up (badNumber vs o n k) = badNumber vs o (has-same s at b p vs l e n) k
     up (badData vs z o n k m) = badData vs z o (has-same s at b p vs l e n) k m
     up (fine ns bs z o k m q a) = fine ns bs z o k (at-byte s at l ∙ ap₂ (λ (x : ℕ) (y : List ℕ). x ∷ y) e m) q a
-outcome {s} {at = at} (other {p = p} {b = b} n e) h i f g = fails e (not-other s at b p n)
+outcome {s} {at = at} (other {p = p} {b = b} n e) h i f g = fails e (λ vs m. let d = byte-met s at b p vs m in n (d .0) (d .1))
 outcome {s} {at = at} (aValue {q = number} (right n l e u) t) h i f g = number-up s at h n l e u (outcome t (h .1) (upTo-within 32 s at i) (rw u f) (rw u g))
 outcome {s} {at = at} (aValue {q = number} (wrong n u) t) h i f g = number-bad s at h n u (outcome t (h .1) (upTo-within 32 s at i) (rw u (inr refl)) (rw u g))
 outcome {s} {at = at} {r = r} (aValue {p = p} {q = pairs} {v = v} {w = w} d t) h i f g = by d f (last (subst (λ (x : List Part). Scans s x (valueEnd s at) w r) h t))

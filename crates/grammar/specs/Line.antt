@@ -42,7 +42,9 @@ pub data LineOf (rows : List Row) (s : List ℕ) : Line → Type 0 where
   -- 12 a form, with a value that is no number where an N is
   wrongNumber : (k : ℕ) (vs : List (List ℕ)) → length s ≤ 200 → Matches rows s k vs → (NumbersRight rows k vs → ⊥) → LineOf rows s (Refused 12)
   -- 13 a form whose numbers are right, with a value that is no data where an H is
-  wrongData : (k : ℕ) (vs : List (List ℕ)) → length s ≤ 200 → Matches rows s k vs → NumbersRight rows k vs → (DataRight rows k vs → ⊥) → LineOf rows s (Refused 13)
+  wrongData :
+      (k : ℕ) (vs : List (List ℕ)) → length s ≤ 200 → Matches rows s k vs → NumbersRight rows k vs → (DataRight rows k vs → ⊥)
+      → LineOf rows s (Refused 13)
   -- no refusal: the line spells the answer
   spelt : {a : Line} → length s ≤ 200 → Spelt rows s a → LineOf rows s a
 

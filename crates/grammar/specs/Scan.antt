@@ -60,7 +60,9 @@ pub data Scans (s : List ℕ) : List Part → ℕ → Values → Values → Type
   longer : {at : ℕ} {v r : Values} → at < length s → r .fault ≡ 11 → Scans s [] at v r
   same : {p : List Part} {b at : ℕ} {v r : Values} → at < length s → getD s at 0 ≡ b → Scans s p (at + 1) v r → Scans s (fixed b ∷ p) at v r
   other : {p : List Part} {b at : ℕ} {v r : Values} → (at < length s → getD s at 0 ≡ b → ⊥) → r .fault ≡ 11 → Scans s (fixed b ∷ p) at v r
-  aValue : {p : List Part} {q : Value} {at : ℕ} {v w r : Values} → ValueRead q v (valueAt s at) at w → Scans s p (valueEnd s at) w r → Scans s (value q ∷ p) at v r
+  aValue :
+      {p : List Part} {q : Value} {at : ℕ} {v w r : Values} → ValueRead q v (valueAt s at) at w → Scans s p (valueEnd s at) w r
+      → Scans s (value q ∷ p) at v r
 
 -- nothing read yet: the data, if there are none, are the empty part at the line's end
 abbrev pub nothingRead : List ℕ → Values

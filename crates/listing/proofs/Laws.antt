@@ -8,7 +8,7 @@ use Rattle.spelling.specs.{Over.{over, PutAt, PutBefore}, Decimal.decimal, Hex.
 use Rattle.spelling.proofs.OverLaws.{over-from, over-length, over-append, before-place, before-laid, before-from, put-done, put-short}
 use Rattle.spelling.proofs.{DecimalLaws.decimal-short, HexLaws.hex-length}
 use Rattle.protocol.specs.{declared.Name.Name, Step.fence}
-use Rattle.listing.specs.{Record.{nameText, doneText, commitText}, Back.{Room, Field, Tail, three, access, doneEnd}}
+use Rattle.listing.specs.{Record.{doneText, commitText}, Back.{Room, Field, Tail, three, access, doneEnd}}
 
 -- a text that was put where it fits
 module _ (old : List ℕ) (at : ℕ) (t new : List ℕ) (r : Put) (p : PutAt old at t new r) (h : at + length t ≤ length old) where

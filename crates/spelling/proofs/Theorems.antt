@@ -1,5 +1,5 @@
 -- The theorems of specs/Theorems: reading numbers and data leaves no freedom, and what is printed is read back. Assumes nothing.
-use Prim.Native.Nat.{ℕ, _≤_, _<_}
+use Prim.Native.Nat.{ℕ}
 use mathlib.Core.{Path.{_≡_, refl, sym, _∙_, ap, ap₂}, List.List, Logic.⊎-elim}
 use native.Mathlib.Omega.{arith}
 use lib.ListN.{length, take}

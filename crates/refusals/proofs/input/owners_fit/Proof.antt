@@ -1,6 +1,5 @@
 -- The lines passed fit, so all of them fit if those that are left do.
 use Prim.Native.Nat.{_≤_, _-_}
-use native.Mathlib.Omega.{arith}
 use borrow.Author.Needs.{needs}
 use lib.ListN.{length}
 use Rattle.protocol.specs.{Fresh.freshLine, Refusals.{ownerFits, ownersFit}, declared.ManagerLine.ManagerLine}
