@@ -94,9 +94,12 @@ module _ (rows : List Row) (from n : ℕ) (count : length rows ≡ n) (below : f
       let a = some-answer s (le-or-lt (length s) 200) in
       record { answer = a .0; holds = a .1; only = λ b x. same-answer rows shapes apart s b (a .0) x (a .1) }
 
--- unfolded, it computes the answer of a line whose bytes are known
-unfoldable pub one-answer-theorem : OneAnswerTheorem
+-- the one answer of a line; unfolded, it computes where the line's bytes are known
+unfoldable pub one-answer : OneAnswerTheorem
 unfolding le-or-lt same-number number-told data-told noneRead reads-some found-some shapes told apart short some-answer one
-one-answer-theorem form s =
+one-answer form s =
     let r = ranged form in
     one (rowsOf form) (fromOf form) (toOf form - fromOf form) (r .count) (omega (arith, r .order, r .high)) (row-in form) s
+
+pub one-answer-theorem : OneAnswerTheorem
+one-answer-theorem = one-answer
