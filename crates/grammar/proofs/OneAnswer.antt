@@ -62,13 +62,16 @@ told form s k vs f =
     let h : fromOf form + k < rowCount = omega (arith, row-place form k (f .listed), ranged form .high) in
     row-by-tag (lineTag s) (fromOf form + k) h (same-tag (fromOf form + k) s vs h (in-table form f) .1)
 
--- unfolded, it computes the answer of a line whose bytes are known
-unfoldable pub one-answer-theorem : OneAnswerTheorem
+-- the one answer of a line; unfolded, it computes where the line's bytes are known
+unfoldable pub one-answer : OneAnswerTheorem
 unfolding le-or-lt number-told data-told byte-told noneRead value-read reads-some found-some some-answer told
-one-answer-theorem form s =
+one-answer form s =
     let a = some-answer form s in
     record {
       answer = a .0;
       holds = a .1;
       only = λ b x. same-answer (rowsOf form) (row-shape form) (λ s j k vs ws f g. omega (arith, told form s j vs f, told form s k ws g)) s b (a .0) x (a .1);
     }
+
+pub one-answer-theorem : OneAnswerTheorem
+one-answer-theorem = one-answer

@@ -2,18 +2,18 @@
 use Prim.Native.Nat.{ℕ}
 use mathlib.Core.{Path.{_≡_, refl, subst}, List.List}
 use Rattle.spelling.{specs.{Bytes.upTo, Decimal.{decimal, decimalUpTo}, Hex.hex}, proofs.{DecimalLaws.value, HexLaws.unhex}}
-use Rattle.grammar.{specs.{Table.rowsOf, Line.LineOf, declared.Line.Line}, proofs.OneAnswer.one-answer-theorem}
+use Rattle.grammar.{specs.{Table.rowsOf, Line.LineOf, declared.Line.Line}, proofs.OneAnswer.one-answer}
 use Rattle.reference_points.specs.Lines.{Spoken, spoken, Says, lines, LinesTheorem}
 use Rattle.reference_points.proofs.Each.{each}
 
 -- the answer of a line
 unfoldable pub answer : ℕ → List ℕ → Line
-unfolding one-answer-theorem upTo decimal decimalUpTo hex value unhex
-answer form s = one-answer-theorem form s .answer
+unfolding one-answer upTo decimal decimalUpTo hex value unhex
+answer form s = one-answer form s .answer
 
 pub says : (form : ℕ) (s : List ℕ) {a : Line} → answer form s ≡ a → LineOf (rowsOf form) s a
 unfolding answer
-says form s e = subst (LineOf (rowsOf form) s) e (one-answer-theorem form s .holds)
+says form s e = subst (LineOf (rowsOf form) s) e (one-answer form s .holds)
 
 -- the answer of a line of the table, and what the table tells of it
 abbrev found : Spoken → Line

@@ -4,13 +4,13 @@ use mathlib.Core.{Path.{_≡_, refl}, Bool.true, List.{List, [], _∷_}}
 use native.Mathlib.Omega.{arith}
 use lib.{Dec.{ltb, lit≤}, ListN.{length, take, drop}}
 use borrow.Author.Tests.{ltb-true}
-use Rattle.protocol.specs.{Run.run, Counts.total}
-use Rattle.spelling.specs.{Bytes.upTo, Hex.hex}
-use Rattle.journal.{specs.Journal.{inJournal, NextOf, ended}, proofs.Lines.line-answer}
+use Rattle.protocol.specs.{Buffers.Bytes, Run.{Entry, run}, Counts.total, declared.Call.{Call, the-variants.{Load, Store, Serve, Receive, Take}}}
+use Rattle.spelling.specs.{Bytes.upTo, Decimal.{decimal, decimalUpTo}, Hex.hex}
+use Rattle.journal.{specs.{Journal.{inJournal, NextOf, ended as atLast}, declared.Next.the-variants.Opening}, proofs.Lines.line-answer}
 use Rattle.listing.specs.Record.{recordText, endText}
-use Rattle.driver.specs.Listing.{Data, noData, someData, noLine, aLine, atEnd, lines}
-use Rattle.playing.specs.Listing.{opens}
-use Rattle.reference_points.specs.Sample.{sampleJournal, SampleTheorem}
+use Rattle.driver.specs.Listing.{ended, Data, noData, someData, noLine, aLine, atEnd, lines}
+use Rattle.playing.specs.Listing.{ReadAs, opens}
+use Rattle.reference_points.specs.{Numbers.opening, Sample.{sampleJournal, SampleTheorem}}
 use Rattle.reference_points.proofs.{Rows.calling, Lines.{answer, says}}
 
 -- where the line at an offset of the sample ends, and the line
@@ -30,18 +30,32 @@ line form at h =
 seven : {digits : List ℕ} → digits ≡ hex (7 ∷ []) → Data digits (7 ∷ [])
 seven e = someData {bs = 7 ∷ []} (record { some = lit≤ tt; bytes = (lit≤ tt, tt); same = e })
 
-pub sample-theorem : SampleTheorem
-unfolding calling run answer recordText endText lines total
-sample-theorem =
-    opens (line 0 0 refl) refl
-    (record {
+-- the first line opens an engine
+first : NextOf sampleJournal 0 0 (Opening 1 (opening 1 1 1 10) 42)
+unfolding answer
+first = line 0 0 refl
+
+-- the other lines are these calls
+abbrev call : Call → Bytes → Entry
+call k bs = record { call = k; bytes = bs }
+
+abbrev calls : List Entry
+calls = call (Store 0 0) (7 ∷ []) ∷ call (Serve 0) [] ∷ call (Receive 0) [] ∷ call (Store 0 0) (7 ∷ []) ∷ call (Load 0 0) [] ∷ call (Take 0) [] ∷ []
+
+reads : ReadAs sampleJournal 1 42 calls ended
+unfolding answer
+reads =
+    record {
       to = 175;
       steps =
           aLine (line 1 42 refl) (seven refl)
           (aLine (line 1 73 refl) (noData refl)
           (aLine (line 1 89 refl) (noData refl)
           (aLine (line 1 107 refl) (seven refl)
-          (aLine (line 1 138 refl) (noData refl)
-          (aLine (line 1 160 refl) (noData refl) noLine)))));
-      ends = atEnd (ended (lit≤ tt) (lit≤ tt) (λ e. omega arith));
-    })
+          (aLine (line 1 138 refl) (noData refl) (aLine (line 1 160 refl) (noData refl) noLine)))));
+      ends = atEnd (atLast (lit≤ tt) (lit≤ tt) (λ e. omega arith));
+    }
+
+pub sample-theorem : SampleTheorem
+unfolding calling run decimal decimalUpTo hex recordText endText lines total
+sample-theorem = opens first refl reads
