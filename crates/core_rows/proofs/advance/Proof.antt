@@ -18,7 +18,7 @@ returns-2 c k n o =
     let e = c .before .before in
     let b = e .before .before in
     let s = sum-at _ (b .before .before .args .by) (sym (b .after .ensures) ∙ e .to .given .1) in
-    rw (c .advance .ensures, s .0, s .1)
+    rw (c .advance .ensures, s .0, ← s .1)
 
 pub advance-spec : {M : Type 1} → statement M
 advance-spec =

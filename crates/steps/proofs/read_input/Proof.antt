@@ -51,7 +51,7 @@ read-input-spec =
     Inv-loop μ-loop (λ c. (refl, omega arith)) (λ c. search needs) (λ c. search needs) (λ c. search needs) (λ c κs. search needs) (λ c. search needs)
     (λ c. search needs) (λ c. search needs) (λ c κs. search needs) (λ c. omega (arith, within (c .before), long (c .before)))
     (λ c. omega (arith, within (c .before), same (c .before), c .if1 .taken)) (λ c. (long (c .before), within (c .before)))
-    (λ c. long (c .before .before)) (λ c. counts _ _ (before (c .before .before))) (λ c κs. search needs)
+    (λ c. long (c .before .before)) (λ c. counts _ _ (omega (arith, before (c .before .before)))) (λ c κs. search needs)
     (λ c. long (c .before .before .before .before)) (λ c. tt) (λ c. long (c .before .before .before .before .before)) (λ c. tt) (λ c. search needs)
     (λ c. omega (arith, same (c .before .before .before .before .before), c .if4 .left))
     (λ c. (long (c .before .before .before .before .before), before (c .before .before .before .before .before))) (λ c. c .before .loop .inv .0)
