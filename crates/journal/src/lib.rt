@@ -1,9 +1,9 @@
 // A journal read line by line.
 //
 // An offset and a form say where reading is: it starts at offset 0 in form 0, where the first line is due. `step_at` says what
-// is there, `read_at` also the offset and the form after it. A `Reader` holds the journal with the offset and the form; `next`
-// returns what is there and the reader after it together, and nobody else can set its offset, so no byte is passed over. A
-// refusal, or the end, leaves the reader where it is: asking again gives the same answer.
+// is there. A `Reader` holds the journal with the offset and the form; `next` returns what is there and the reader after
+// it together, and nobody else can set its offset, so no byte is passed over. A refusal, or the end, leaves the reader where it is:
+// asking again gives the same answer.
 ghost use mathlib.Core.Path.{_≡_};
 ghost use Rattle.journal.specs.Journal.{NextOf, offsetAfter, formAfter, ReadOf, StepOf};
 use grammar::Line;
@@ -89,14 +89,14 @@ fn form_after(form: u32, n: Next) -> u32
 }
 
 // One reading: what is at an offset, and the offset and the form after it.
-pub struct Read {
-    pub at: usize,
-    pub form: u32,
-    pub next: Next,
+struct Read {
+    at: usize,
+    form: u32,
+    next: Next,
 }
 
 // The work of a reader's step, on the slice and the numbers.
-pub fn read_at(journal: &[u8], at: usize, form: u32) -> Read
+fn read_at(journal: &[u8], at: usize, form: u32) -> Read
     ensures { λ r. ⌜ ReadOf (now (journal .entry)) at form r ⌝ }
 {
     let next = step_at(journal, at, form);

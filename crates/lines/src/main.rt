@@ -1,10 +1,11 @@
 // How far a journal reads: the journal of standard input is read, line by line, to its end or to the first line that is refused.
-// One line is printed: how many lines were read, and the number of the refusal if there is one. It is an example of a walk
-// through a journal; unlike `steps` it takes a read that fails for the end of the input.
+// One line is printed: how many lines were read, and the number of the refusal if there is one. It is an example of a walk with
+// the reader; unlike `steps` it takes a read that fails for the end of the input.
 ghost use mathlib.Core.Path.{_≡_};
 ghost use Rattle.journal.specs.Journal.{goesOn};
 ghost use Rattle.lines.specs.Count.{CountsLines};
 use journal::Next;
+use journal::Reader;
 use libc::STDIN_FILENO;
 use libc::STDOUT_FILENO;
 
@@ -26,22 +27,19 @@ fn goes_on(n: Next) -> bool
     }
 }
 
-// A whole journal, from its start: each reading is at the offset, and in the form, that the one before returned.
+// A whole journal, by a reader from its start: each step is that of the reader that the one before returned.
 fn count_lines(journal: &[u8]) -> LineCount
     ensures { λ r. ⌜ CountsLines (now (journal .entry)) r ⌝ }
 {
     let mut lines: usize = 0;
-    let mut at: usize = 0;
-    let mut form: u32 = 0;
-    loop {
-        let read = journal::read_at(journal, at, form);
-        let next = read.next;
-        if !goes_on(next) {
-            return LineCount { lines, last: next };
-        }
+    let mut s = Reader::new(journal).next();
+    while goes_on(s.next) {
         lines = lines + 1;
-        at = read.at;
-        form = read.form;
+        s = s.reader.next();
+    }
+    LineCount {
+        lines,
+        last: s.next,
     }
 }
 
