@@ -5,7 +5,7 @@ use native.Mathlib.{Nat.{add-assoc, add-zero, zero-add}, Omega.arith}
 use lib.{Dec.leb, ListN.length}
 use borrow.Author.Tests.{leb-true, le-leb}
 use Rattle.protocol.specs.{Buffers.Bytes, Step.{Reply, refused, done, commit, meaning}, Run.Record, Counts.{nothingMet, countsOf, sum, total}}
-use Rattle.protocol.{specs.declared.{Call.Call, Answer.{Answer, the-variants.{Refused, Done, Commit}}, Counts.Counts}, proofs.Tests.both-true}
+use Rattle.protocol.{specs.Words.{Call, Answer, Refused, Done, Commit, Counts}, proofs.Tests.both-true}
 use Rattle.driver.specs.Play.{few}
 
 -- ---- sums
@@ -22,7 +22,7 @@ none-plus a = rw (zero-add (a .steps), zero-add (a .commits), zero-add (a .refus
 pub total-append : (rs ts : List Record) → total (rs ++ ts) ≡ sum (total rs) (total ts)
 unfolding total
 total-append [] ts = sym (none-plus (total ts))
-total-append (r ∷ rs) ts = ap (sum (countsOf (r .given .call) (r .reply))) (total-append rs ts) ∙ sym (plus-assoc (countsOf (r .given .call) (r .reply)) (total rs) (total ts))
+total-append (r ∷ rs) ts = ap (sum (countsOf (r .entry .call) (r .reply))) (total-append rs ts) ∙ sym (plus-assoc (countsOf (r .entry .call) (r .reply)) (total rs) (total ts))
 
 -- a record is a step line
 pub one-step : (call : Call) (x : Reply) → countsOf call x .steps ≡ 1
@@ -33,7 +33,7 @@ one-step call (commit c t o) = refl
 pub total-steps : (rs : List Record) → total rs .steps ≡ length rs
 unfolding total
 total-steps [] = refl
-total-steps (r ∷ rs) = omega (arith, one-step (r .given .call) (r .reply), total-steps rs)
+total-steps (r ∷ rs) = omega (arith, one-step (r .entry .call) (r .reply), total-steps rs)
 
 -- an answer's bytes are not counted
 pub same-counts : (call : Call) (a : Answer) (bs cs : Bytes) → countsOf call (meaning a bs) ≡ countsOf call (meaning a cs)
@@ -76,4 +76,4 @@ pub few-total : (rs : List Record) → few (total rs) (length rs) ≡ true
 unfolding total
 few-total [] = refl
 few-total (r ∷ rs) =
-    few-sum (countsOf (r .given .call) (r .reply)) (total rs) 1 (length rs) (suc (length rs)) (few-one (r .given .call) (r .reply)) (few-total rs) (omega arith)
+    few-sum (countsOf (r .entry .call) (r .reply)) (total rs) 1 (length rs) (suc (length rs)) (few-one (r .entry .call) (r .reply)) (few-total rs) (omega arith)

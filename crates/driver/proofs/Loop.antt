@@ -6,8 +6,7 @@ use lib.{ListN.{length, take}, Seq.length-take-le}
 use Rattle.protocol.specs.{Limits.{mostCores, mostLines}, Buffers.Bytes, About.{about, namedLine}, Refusals.machineRefusal}
 use Rattle.protocol.specs.Machine.{Machine, machine, coreAt, lineAt, piecesAt, theCore, theLine, written, applied}
 use Rattle.protocol.specs.{Step.{Reply, meaning, actBytes, Outcome, accepted, step}, Run.{Entry, place, run}, Counts.{countsOf, sum}}
-use Rattle.protocol.specs.declared.{Opening.Opening as Sizes, State.State, Call.Call, About.About, Counts.Counts, Effect.Effect}
-use Rattle.protocol.proofs.Keep.{still}
+use Rattle.protocol.{specs.{declared.Opening.Opening as Sizes, Words.{State, Call, About, Counts, Effect}}, proofs.Keep.still}
 use Rattle.spelling.specs.{Over.PutAt, declared.Put.{Put, the-variants.{End as PutEnd, Short as NoRoom}}}
 use Rattle.refusals.specs.Input.{inputRefusal}
 use Rattle.buffers.specs.Moves.{Moves}
@@ -16,11 +15,9 @@ use Rattle.tables.{specs.Found.{Found, effectWith}, proofs.Making.{Finds, made,
 use Rattle.driver.specs.Listing.{Ending, EndsAt, lines, lastLines}
 use Rattle.driver.specs.Play.{runFrom, few, resumable, Leads, Piece, aStep, theEnd, Fills, finished, more, Plays}
 use Rattle.driver.specs.Pieces.{endingOf, IsByte, StepDue, DueAt, aStep as isStep, theEnd as isEnd, beside, BesideInside, answerLine, checkpointAt}
-use Rattle.driver.specs.{Pieces.playedBy, declared.{Checkpoint.Checkpoint, Played.Played, Last.Last}}
-use Rattle.driver.specs.declared.Due.{Due, the-variants.{Step, Last as AtLast}}
-use Rattle.driver.proofs.{Counting.{one-step, same-counts, few-later}, Stepping.replied}
-use Rattle.driver.proofs.{Running.{given, leads-none, leads-more, lines-more}, Resuming.{Resumes, leads-on}}
-use Rattle.driver.proofs.Putting.{Written, put-written, put-short, fills-none, fills-more}
+use Rattle.driver.specs.{Pieces.playedBy, declared.{Checkpoint.Checkpoint, Played.Played, Last.Last, Due.{Due, the-variants.{Step, Last as AtLast}}}}
+use Rattle.driver.proofs.{Counting.{one-step, same-counts, few-later}, Stepping.replied, Running.{entryOf, leads-none, leads-more, lines-more}}
+use Rattle.driver.proofs.{Resuming.{Resumes, leads-on}, Putting.{Written, put-written, put-short, fills-none, fills-more}}
 
 -- at the loop's head: the steps gs were made from one checkpoint to the other, and their lines are written
 pub record Reached (j : Bytes) (from : Checkpoint) (p₀ q₀ old : Bytes) (o : Sizes) (base : ℕ) (p q out : Bytes) (there : Checkpoint) (used : ℕ) : Type 0 where
@@ -98,7 +95,7 @@ module _ {j : Bytes} {from : Checkpoint} {p₀ q₀ old : Bytes} {o : Sizes} {ba
           start = g .start;
           opening = eo;
           based = rw em (g .based ∙ still m call bs);
-          gs = g .gs ++ (given call bs ∷ []);
+          gs = g .gs ++ (entryOf call bs ∷ []);
           leads = leads-more (g .leads) call bs (checkpointAt next (there .form) k s') p' q' (x .line) (x .bytes .spelt) refl em ek;
           text = v .before ∙ rw (g .text) (sym (lines-more (g .leads) call bs));
           fills = fills-more (g .fills) v;

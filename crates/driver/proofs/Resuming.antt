@@ -4,8 +4,7 @@ use mathlib.Core.{Path.{_≡_, sym, _∙_}, Bool.true, List.List}
 use native.Mathlib.Omega.{arith}
 use lib.{Dec.{eqb, leb}, ListN.length}
 use borrow.Author.Tests.{not-true, leb-true, eqb-false, ne-eqb, le-leb}
-use Rattle.protocol.specs.{Pick.fails, Buffers.Bytes, Machine.machine, Run.{Entry, Record}, Counts.total}
-use Rattle.protocol.proofs.Tests.{both-true, not-fails}
+use Rattle.protocol.{specs.{Pick.fails, Buffers.Bytes, Machine.machine, Run.{Entry, Record}, Counts.total}, proofs.Tests.{both-true, not-fails}}
 use Rattle.driver.specs.{Listing.{Between, noLine, aLine}, Play.{runFrom, few, resumable, Leads}, declared.Checkpoint.Checkpoint}
 use Rattle.driver.proofs.{Reading.known, Counting.{few-sum, few-total}, Running.run-length}
 

@@ -48,11 +48,11 @@ unfolding run total
 leads-none j s p q = record { steps = noLine; form = refl; machine = refl; counts = sym (plus-none (s .counts)) }
 
 -- a call with its bytes, and the record of it at a checkpoint
-abbrev pub given : Call → Bytes → Entry
-given call bs = record { call = call; bytes = bs }
+abbrev pub entryOf : Call → Bytes → Entry
+entryOf call bs = record { call = call; bytes = bs }
 
 abbrev recordAt : Checkpoint → Bytes → Bytes → Call → Bytes → Record
-recordAt b p q call bs = record { place = place (b .counts .steps + 1); given = given call bs; reply = step (machine (b .state) p q) call bs .reply }
+recordAt b p q call bs = record { place = place (b .counts .steps + 1); entry = entryOf call bs; reply = step (machine (b .state) p q) call bs .reply }
 
 -- a step more
 module _ {j : Bytes} {a b : Checkpoint} {p q p' q' : Bytes} {gs : List Entry} (l : Leads j a p q gs b p' q') (call : Call) (bs : Bytes) where
@@ -62,20 +62,20 @@ module _ {j : Bytes} {a b : Checkpoint} {p q p' q' : Bytes} {gs : List Entry} (l
   abbrev before : List Record
   before = runFrom a p q gs .records
 
-  records-more : runFrom a p q (gs ++ (given call bs ∷ [])) .records ≡ before ++ (recordAt b p' q' call bs ∷ [])
+  records-more : runFrom a p q (gs ++ (entryOf call bs ∷ [])) .records ≡ before ++ (recordAt b p' q' call bs ∷ [])
   unfolding run
   records-more =
       let k : a .counts .steps + 1 + length gs ≡ b .counts .steps + 1 =
       omega (arith, run-length gs (a .counts .steps + 1) (machine (a .state) p q), total-steps before, ap (λ (c : Counts). c .steps) (l .counts)) in
-      run-records gs (given call bs ∷ []) (a .counts .steps + 1) (machine (a .state) p q) ∙ rw (k, ← l .machine)
+      run-records gs (entryOf call bs ∷ []) (a .counts .steps + 1) (machine (a .state) p q) ∙ rw (k, ← l .machine)
 
-  pub lines-more : lines (runFrom a p q (gs ++ (given call bs ∷ [])) .records) ≡ lines before ++ recordText (place (b .counts .steps + 1)) reply
+  pub lines-more : lines (runFrom a p q (gs ++ (entryOf call bs ∷ [])) .records) ≡ lines before ++ recordText (place (b .counts .steps + 1)) reply
   unfolding lines
   lines-more =
       ap lines records-more ∙ lines-append before (recordAt b p' q' call bs ∷ [])
       ∙ ap (λ (t : Bytes). lines before ++ t) (append-nil (recordText (place (b .counts .steps + 1)) reply))
 
-  counts-more : sum (b .counts) (countsOf call reply) ≡ sum (a .counts) (total (runFrom a p q (gs ++ (given call bs ∷ [])) .records))
+  counts-more : sum (b .counts) (countsOf call reply) ≡ sum (a .counts) (total (runFrom a p q (gs ++ (entryOf call bs ∷ [])) .records))
   unfolding total
   counts-more =
       ap (λ (k : Counts). sum k (countsOf call reply)) (l .counts) ∙ plus-assoc (a .counts) (total before) (countsOf call reply)
@@ -85,12 +85,12 @@ module _ {j : Bytes} {a b : Checkpoint} {p q p' q' : Bytes} {gs : List Entry} (l
   pub leads-more :
       (d : Checkpoint) (x y : Bytes) {start end : ℕ} → NextOf j (b .at) (b .form) (Step call start end (d .at)) → Data (part j start (end - start)) bs
       → d .form ≡ b .form → machine (d .state) x y ≡ step (machine (b .state) p' q') call bs .machine → d .counts ≡ sum (b .counts) (countsOf call reply)
-      → Leads j a p q (gs ++ (given call bs ∷ [])) d x y
+      → Leads j a p q (gs ++ (entryOf call bs ∷ [])) d x y
   unfolding run
   leads-more d x y n g ef em ek =
       record {
         steps = steps-append (l .steps) (aLine (rw (l .form) at n) g noLine);
         form = ef ∙ l .form;
-        machine = em ∙ sym (run-last gs (given call bs ∷ []) (a .counts .steps + 1) (machine (a .state) p q) ∙ rw (← l .machine));
+        machine = em ∙ sym (run-last gs (entryOf call bs ∷ []) (a .counts .steps + 1) (machine (a .state) p q) ∙ rw (← l .machine));
         counts = ek ∙ counts-more;
       }

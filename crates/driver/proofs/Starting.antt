@@ -3,14 +3,13 @@ use Prim.Native.Nat.{ℕ}
 use mathlib.Core.{Path.{_≡_, refl, subst}, Bool.{true, false}}
 use native.Mathlib.Omega.{arith}
 use Rattle.protocol.specs.{Pick.first, Limits.openingFits, Buffers.Bytes, Refusals.openRefusal, Step.{done, openReply}, Run.place}
-use Rattle.protocol.specs.declared.{Opening.Opening as Sizes, Name.the-variants.Open}
-use Rattle.protocol.proofs.Refusals.{opening-fit}
+use Rattle.protocol.{specs.{declared.Opening.Opening as Sizes, Words.Open}, proofs.Refusals.opening-fit}
 use Rattle.spelling.specs.{Over.PutAt, declared.Put.{Put, the-variants.{End, Short}}}
 use Rattle.journal.specs.{Journal.NextOf, declared.Next.the-variants.Opening}
 use Rattle.listing.specs.Record.{recordText}
 use Rattle.driver.specs.{Listing.{NotOpened, outside, notOpened}, Pieces.{Puts, refusedBy, openedBy}}
-use Rattle.driver.specs.{Play.{Begins, opens, fails, noRoom, noRoomToEnd, Starts}, declared.Checkpoint.Checkpoint}
-use Rattle.driver.specs.declared.{Progress.{Progress, the-variants.More}, Played.Played}
+use Rattle.driver.specs.Play.{Begins, opens, fails, noRoom, noRoomToEnd, Starts}
+use Rattle.driver.specs.declared.{Checkpoint.Checkpoint, Progress.{Progress, the-variants.More}, Played.Played}
 use Rattle.driver.proofs.Putting.{put-written, put-short, fills-none, fills-more}
 
 -- what the test of the limits says of 7

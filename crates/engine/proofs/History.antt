@@ -4,23 +4,22 @@ use mathlib.Core.{Path.{_≡_, refl, sym, _∙_, ap, ap₂}, Bool.{Bool, true, f
 use native.Mathlib.Omega.{arith}
 use lib.Dec.{eqb}
 use borrow.Author.Tests.{eqb-true}
-use Rattle.protocol.specs.{Pick.pick, Machine.{Machine, freshMachine}, Refusals.openRefusal, Step.{Reply, refused, done, meaning}}
-use Rattle.protocol.specs.{declared.Name.the-variants.Open, Run.{Entry, Record, place, run}}
-use Rattle.protocol.proofs.Order.Theorem.{open-theorem, order-theorem, sort-theorem}
+use Rattle.protocol.specs.{Pick.pick, Machine.{Machine, freshMachine}, Refusals.openRefusal, Step.{Reply, refused, done, meaning}, Words.Open}
+use Rattle.protocol.{specs.Run.{Entry, Record, place, run}, proofs.Order.Theorem.{open-theorem, order-theorem, sort-theorem}}
 use Rattle.engine.specs.History.{Made, MadeFrom, none, next, recordsOf, HistoryTheorem}
 
 -- what the calls were given
-givens : List Made → List Entry
-givens [] = []
-givens (e ∷ es) = e .given ∷ givens es
+entries : List Made → List Entry
+entries [] = []
+entries (e ∷ es) = e .entry ∷ entries es
 
 -- the records of the calls are those of the run of what they were given
-records-run : {m : Machine} (es : List Made) (p : ℕ) → MadeFrom m es → recordsOf es p ≡ run (givens es) p m .records
-unfolding recordsOf run givens
+records-run : {m : Machine} (es : List Made) (p : ℕ) → MadeFrom m es → recordsOf es p ≡ run (entries es) p m .records
+unfolding recordsOf run entries
 records-run [] p none = refl
 records-run (e ∷ es) p (next h made) =
-    ap₂ (λ (a : Reply) (rs : List Record). record { place = place p; given = e .given; reply = a } ∷ rs) (h .reply)
-    (records-run es (suc p) made ∙ ap (λ (m : Machine). run (givens es) (suc p) m .records) (h .machine))
+    ap₂ (λ (a : Reply) (rs : List Record). record { place = place p; entry = e .entry; reply = a } ∷ rs) (h .reply)
+    (records-run es (suc p) made ∙ ap (λ (m : Machine). run (entries es) (suc p) m .records) (h .machine))
 
 -- an opening that is answered by its name is not refused
 accepted : (n : ℕ) (b : Bool) → eqb n 0 ≡ b → pick b (done Open) (refused n) ≡ done Open → n ≡ 0
@@ -33,4 +32,4 @@ history-theorem o r w a es made =
     let z : openRefusal o ≡ 0 = accepted (openRefusal o) _ refl (sym (w .reply) ∙ ap (λ x. meaning x []) a) in
     let s : r .state ≡ freshMachine o .state = w .state ∙ open-theorem o z in
     let d : MadeFrom (freshMachine o) es = rw s at made in
-    rw (records-run es 1 d) (sort-theorem o (givens es), order-theorem o z (givens es))
+    rw (records-run es 1 d) (sort-theorem o (entries es), order-theorem o z (entries es))

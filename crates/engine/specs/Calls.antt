@@ -4,8 +4,7 @@ use mathlib.Core.{Path._≡_, List.[]}
 use lib.ListN.{length}
 use denote.Ref.{RefT, ptr, now}
 use Rattle.protocol.specs.{Buffers.{Bytes, part, copyStart}, Machine.{Machine, machine, coreOf, lineOf}}
-use Rattle.protocol.specs.{Step.{meaning, openReply, opened, step, Buffer, inPrivate, inShared, Shown, shown}, declared.Opening.Opening}
-use Rattle.protocol.specs.declared.{State.State, Call.Call}
+use Rattle.protocol.specs.{Step.{meaning, openReply, opened, step, Buffer, inPrivate, inShared, Shown, shown}, Words.{Opening, State, Call}}
 use Rattle.tables.specs.Spans.{spanOf}
 use Rattle.engine.specs.declared.{Opened.Opened, Returned.Returned}
 
@@ -30,7 +29,7 @@ pub record Opens (o : Opening) (r : Opened) : Type 0 where
 -- r is the part of the lent slice s that has `count` bytes from `start` on, as far as s has them. It points into the same memory, `start` bytes
 -- past where s points, or to the end of s where s ends before that. `commit_bytes` promises it of the private buffer
 pub record PartOf (s : RefT Bytes) (start count : ℕ) (r : RefT Bytes) : Type 0 where
-  pub place : ptr r ≡ (ptr s .0, min start (length (now s)) + ptr s .1)
+  pub pointer : ptr r ≡ (ptr s .0, min start (length (now s)) + ptr s .1)
   pub bytes : now r ≡ part (now s) start count
 
 -- which of the two lent slices a buffer is, the private one p or the shared one q

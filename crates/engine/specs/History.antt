@@ -10,7 +10,7 @@ use Rattle.engine.specs.{declared.{Returned.Returned, Opened.Opened}, Ca
 
 -- a call that was made: the call with the bytes given to it, what it returned, and both buffers as it left them
 pub record Made : Type 0 where
-  pub given : Entry
+  pub entry : Entry
   pub returned : Returned
   pub private : Bytes
   pub shared : Bytes
@@ -26,7 +26,7 @@ pub data MadeFrom : Machine → List Made → Type 0 where
   none : {m : Machine} → MadeFrom m []
   next :
       {m : Machine} {e : Made} {es : List Made}
-      → Performs m (e .given .call) (e .given .bytes) (e .returned) (e .private) (e .shared) → MadeFrom (left e) es → MadeFrom m (e ∷ es)
+      → Performs m (e .entry .call) (e .entry .bytes) (e .returned) (e .private) (e .shared) → MadeFrom (left e) es → MadeFrom m (e ∷ es)
 
 -- what a call answered, in the scope document's terms; a commit's bytes are read where the call says that they lie, in the private buffer as
 -- it left it
@@ -36,7 +36,7 @@ answered e = meaning (e .returned .answer) (part (e .private) (e .returned .star
 -- the records of calls made one after the other; the first one's place is p
 unfoldable pub recordsOf : List Made → ℕ → List Record
 recordsOf [] p = []
-recordsOf (e ∷ es) p = record { place = place p; given = e .given; reply = answered e } ∷ recordsOf es (suc p)
+recordsOf (e ∷ es) p = record { place = place p; entry = e .entry; reply = answered e } ∷ recordsOf es (suc p)
 
 -- their commits; the first call's place is 1
 abbrev pub history : List Made → List (Commit Bytes)

@@ -6,8 +6,7 @@ use lib.{ListN.{length, getD, drop, replicate, length-replicate}, Seq.{sets, set
 use Rattle.spelling.{specs.Hex.hex, proofs.Decide.same-number}
 use Rattle.grammar.specs.{Form.{Part, fixed, value, number, pairs, Has, Given}, Table.{rowsOf, rowAt, table, rowCount, numberCount, fromOf, toOf}}
 use Rattle.grammar.specs.Line.{said, Matches, LineOf, noForm, wrongNumber, wrongData, spelt}
-use Rattle.grammar.specs.Scan.{RowAt, Scans, formOf, valuesIn, nothingRead, Fails, FoundIn, nowhere, here, answerOf, RowFound}
-use Rattle.grammar.specs.declared.Found.{Found}
+use Rattle.grammar.specs.{Scan.{RowAt, Scans, formOf, valuesIn, nothingRead, Fails, FoundIn, nowhere, here, answerOf, RowFound}, declared.Found.Found}
 use Rattle.grammar.proofs.{Outcome.{Outcome, fails, badNumber, badData, fine, outcome-of, fails-of}, Rows.{lineTag, entry-at, same-tag}}
 use Rattle.grammar.proofs.Forms.{ranged, row-place, row-in, in-table}
 

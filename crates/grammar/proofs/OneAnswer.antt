@@ -3,13 +3,11 @@ use Prim.Native.Nat.{ℕ, _+_, _-_, _≤_, _<_}
 use mathlib.Core.{Path.{_≡_, refl}, List.{List, [], _∷_}, Logic.{_⊎_, inl, inr, ⊎-elim}}
 use native.Mathlib.Omega.{arith}
 use lib.ListN.{length, getD}
-use Rattle.spelling.{proofs.{Lists.le-or-lt, Decide.{number-told, data-told}}}
-use Rattle.spelling.proofs.Split.{upTo-within}
-use Rattle.grammar.specs.{Form.{Part, fixed, value, Value, number, pairs}, Table.{rowsOf, rowCount, fromOf, toOf}}
-use Rattle.grammar.specs.{Line.{Matches, LineOf, tooLong}, Theorems.OneAnswerTheorem}
+use Rattle.spelling.proofs.{Lists.le-or-lt, Decide.{number-told, data-told}, Split.upTo-within}
+use Rattle.grammar.specs.{Form.{Part, fixed, value, Value, number, pairs}, Table.{rowsOf, rowCount, fromOf, toOf}, Line.{Matches, LineOf, tooLong}}
+use Rattle.grammar.specs.{Theorems.OneAnswerTheorem, declared.{Line.Line, Values.Values, Found.Found}}
 use Rattle.grammar.specs.Scan.{valueAt, valueEnd, formOf, ValueRead, Scans, right, wrong, ended, longer, same, other, aValue, nothingRead, withNumber}
-use Rattle.grammar.specs.{Scan.{withoutNumber, withData, withoutData, FoundIn, nowhere}, declared.{Line.Line, Values.Values}}
-use Rattle.grammar.specs.declared.Found.{Found}
+use Rattle.grammar.specs.Scan.{withoutNumber, withData, withoutData, FoundIn, nowhere}
 use Rattle.grammar.proofs.{Walk.byte-told, Rows.{letters, lineTag, same-tag, row-by-tag}, Judge.{answer-line, none-there, found-by}}
 use Rattle.grammar.proofs.{Forms.{ranged, row-place, row-shape, in-table}, Unique.same-answer}
 

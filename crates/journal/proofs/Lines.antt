@@ -5,10 +5,8 @@ use native.Mathlib.{Omega.arith, Numerals.add-one}
 use lib.{ListN.{length, getD, take, drop, length-append, length-drop, drop-of-length-le}, Seq.{drop-cons, drop-drop}}
 use Rattle.protocol.proofs.Tests.{never}
 use Rattle.spelling.{specs.Bytes.{Without, upTo}, proofs.Split.{Edge, upTo-clean, upTo-split, upTo-part}}
-use Rattle.grammar.specs.{Table.rowsOf, Line.LineOf}
-use Rattle.grammar.specs.declared.Line.{Line, the-variants.{Opening as OpeningLine, Step as StepLine, Refused as RefusedLine}}
-use Rattle.journal.specs.Journal.{inJournal, LineAt, NextOf, tooMuch, empty, ended, unended, aLine, goesOn, offsetAfter}
-use Rattle.journal.specs.declared.Next.{Next}
+use Rattle.grammar.specs.{Table.rowsOf, Line.LineOf, declared.Line.{Line, the-variants.{Opening as OpeningLine, Step as StepLine, Refused as RefusedLine}}}
+use Rattle.journal.specs.{Journal.{inJournal, LineAt, NextOf, tooMuch, empty, ended, unended, aLine, goesOn, offsetAfter}, declared.Next.Next}
 
 -- the line from an offset up to a newline at e, or to the end
 module _ (j : List ℕ) (at e : ℕ) (ends : e ≡ at + length (upTo 10 (drop at j))) where

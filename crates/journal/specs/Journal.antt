@@ -4,8 +4,7 @@ use mathlib.Core.{Path._≡_, Bool.{Bool, true, false}, List.{List, _∷_, _++_}
 use lib.ListN.{length, drop}
 use denote.Ref.{now}
 use Rattle.spelling.specs.Bytes.{Without}
-use Rattle.grammar.specs.{Table.rowsOf, Line.LineOf}
-use Rattle.grammar.specs.declared.Line.{Line, the-variants.{Opening as OpeningLine, Step as StepLine, Refused as RefusedLine}}
+use Rattle.grammar.specs.{Table.rowsOf, Line.LineOf, declared.Line.{Line, the-variants.{Opening as OpeningLine, Step as StepLine, Refused as RefusedLine}}}
 use Rattle.journal.specs.declared.{Next.{Next, the-variants.{Opening, Step, End, Refused}}, Read.Read, Reader.Reader, Step.Step as Reading}
 
 -- a line's answer, where the line is at an offset of the journal and the next one at `next`

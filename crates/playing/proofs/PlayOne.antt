@@ -4,11 +4,10 @@ use Prim.Native.Nat.{ℕ, _+_, _≤_, _<_}
 use mathlib.Core.{Path.{_≡_, refl, sym, _∙_, ap}, List.{List, [], _∷_, _++_}}
 use native.Mathlib.Omega.{arith}
 use lib.{ListN.{length, length-append}, Seq.append-snoc}
-use Rattle.protocol.specs.{Buffers.Bytes, Machine.{Machine, machine}, Run.{Entry, Record, run}, Counts.{sum, total}}
-use Rattle.protocol.proofs.Tests.{never}
-use Rattle.driver.specs.Listing.{Ending, Between, aLine, EndsAt, lines, lastLines}
-use Rattle.driver.specs.{Play.{runFrom, Leads, Piece, aStep, theEnd, Tells, finished, more, unfit}, declared.Checkpoint.Checkpoint}
-use Rattle.driver.{specs.declared.Progress.{Progress, the-variants.{Finished, More}}, proofs.Running.{given, lines-append, run-records, lines-more}}
+use Rattle.protocol.{specs.{Buffers.Bytes, Machine.{Machine, machine}, Run.{Entry, Record, run}, Counts.{sum, total}}, proofs.Tests.never}
+use Rattle.driver.proofs.Running.{entryOf, lines-append, run-records, lines-more}
+use Rattle.driver.specs.{Listing.{Ending, Between, aLine, EndsAt, lines, lastLines}, Play.{runFrom, Leads, Piece, aStep, theEnd, Tells, finished, more, unfit}}
+use Rattle.driver.specs.declared.{Checkpoint.Checkpoint, Progress.{Progress, the-variants.{Finished, More}}}
 use Rattle.playing.specs.Theorems.{PlayOneTheorem}
 use Rattle.playing.proofs.OneReading.{step-same, ends-same, no-end, Compared, alike, fewer, further, compare, none-after}
 use Rattle.playing.proofs.Writing.{room-same, written-same, output-same}
@@ -34,8 +33,8 @@ passed :
 passed {a = a} {p = p} {q = q} {gs = gs} {ks = ks} l (aStep {call = c} {bs = bs} x d) (aLine y f r) =
     let s = step-same (rw (l .form) at x) d y f in
     let e = ap length (lines-more l c bs) ∙ length-append (linesFrom a p q gs) _ in
-    let i = lines-grow (gs ++ (given c bs ∷ [])) ks (a .counts .steps + 1) (machine (a .state) p q) in
-    rw (s .call, s .bytes, ← append-snoc gs (given c bs) ks) (omega arith)
+    let i = lines-grow (gs ++ (entryOf c bs ∷ [])) ks (a .counts .steps + 1) (machine (a .state) p q) in
+    rw (s .call, s .bytes, ← append-snoc gs (entryOf c bs) ks) (omega arith)
 passed l (theEnd x) (aLine y f r) = absurd (no-end y (rw (l .form) at x))
 
 -- a piece where the journal ends is the last lines

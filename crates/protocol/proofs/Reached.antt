@@ -6,7 +6,7 @@ use Rattle.protocol.specs.{Buffers.Bytes, Machine.Machine, Step.step, Ru
 
 -- the record of a call at place p
 abbrev pub recorded : ℕ → Machine → Entry → Record
-recorded p m g = record { place = place p; given = g; reply = step m (g .call) (g .bytes) .reply }
+recorded p m g = record { place = place p; entry = g; reply = step m (g .call) (g .bytes) .reply }
 
 -- records made after others, newest first
 unfoldable pub onto : List Record → List Record → List Record
@@ -37,7 +37,7 @@ in-append (x ∷ xs) (here q) = inl (here q)
 in-append (x ∷ xs) (there i) = ⊎-elim (λ j. inl (there j)) (λ j. inr j) (in-append xs i)
 
 made : Record → List (Commit Bytes)
-made r = commitOf (r .place) (r .given) (r .reply)
+made r = commitOf (r .place) (r .entry) (r .reply)
 
 pub from-onto : (xs rs : List Record) {a : Commit Bytes} → In a (commits (onto xs rs)) → In a (commits xs) ⊎ In a (commits rs)
 unfolding onto commits made

@@ -22,4 +22,4 @@ sum a b = counts (a .steps + b .steps) (a .commits + b .commits) (a .refusals + 
 -- the counts of a list of records
 unfoldable pub total : List Record → Counts
 total [] = nothingMet
-total (r ∷ rs) = sum (countsOf (r .given .call) (r .reply)) (total rs)
+total (r ∷ rs) = sum (countsOf (r .entry .call) (r .reply)) (total rs)

@@ -2,8 +2,8 @@
 use Prim.Native.Nat.{ℕ, suc}
 use mathlib.Core.List.{List, [], _∷_, _++_}
 use Rattle.protocol.specs.{Buffers.Bytes, About.{about, namedCore, namedLine}, Machine.Machine}
-use Rattle.protocol.specs.{Step.{Op, load, store, fence, Reply, refused, done, commit, step}, declared.{Stamp.Stamp, Place.Place, Call.Call}}
-use Rattle.protocol.specs.declared.Act.{Act, the-variants.{Load as Loads, Store as Stores, Fence as Fences, Advance as Advances, Transfer}}
+use Rattle.protocol.specs.Step.{Op, load, store, fence, Reply, refused, done, commit, step}
+use Rattle.protocol.specs.Words.{Stamp, Place, Call, Act, Loads, Stores, Fences, Advances, Transfer}
 
 -- a call of a list, with the bytes given to it (a store's; any other call passes over them)
 pub record Entry : Type 0 where
@@ -13,7 +13,7 @@ pub record Entry : Type 0 where
 -- what is known of a call after it was made: its place in the list, the call, its answer
 pub record Record : Type 0 where
   pub place : Place
-  pub given : Entry
+  pub entry : Entry
   pub reply : Reply
 
 -- the records of a list of calls, in the list's order, and the last machine
@@ -32,7 +32,7 @@ run [] p m = record { records = []; last = m }
 run (g ∷ gs) p m =
     record {
       records =
-          record { place = place p; given = g; reply = step m (g .call) (g .bytes) .reply }
+          record { place = place p; entry = g; reply = step m (g .call) (g .bytes) .reply }
           ∷ run gs (suc p) (step m (g .call) (g .bytes) .machine) .records;
       last = run gs (suc p) (step m (g .call) (g .bytes) .machine) .last;
     }
@@ -72,4 +72,4 @@ commitOf p g (commit c t o) = commitAt p (g .call) (g .bytes) t o
 -- the commits of a list of records
 unfoldable pub commits : List Record → List (Commit Bytes)
 commits [] = []
-commits (r ∷ rs) = commitOf (r .place) (r .given) (r .reply) ++ commits rs
+commits (r ∷ rs) = commitOf (r .place) (r .entry) (r .reply) ++ commits rs

@@ -3,9 +3,7 @@
 use Prim.Native.Nat.{ℕ}
 use mathlib.Core.{Path._≡_, List.{List, [], _∷_}}
 use Rattle.protocol.specs.{Stamps.stamp, Fresh.smallest, Buffers.Bytes, Machine.{Machine, freshMachine}, Step.{fence, step}, Run.Commit}
-use Rattle.protocol.specs.declared.Call.{Call, the-variants.{Load, Fence, Take}}
-use Rattle.protocol.specs.declared.{Answer.{Answer, the-variants.{Refused, Done, Commit as Committed}}, Kind.the-variants.Fence as OfFence}
-use Rattle.protocol.specs.declared.Name.the-variants.{Ask}
+use Rattle.protocol.specs.{Words.{Call, Load, Fence, Take, Answer, Refused, Done, OfFence, Ask}, declared.Answer.the-variants.Commit as Committed}
 use Rattle.engine.specs.History.{Made, MadeFrom, history}
 use Rattle.reference_points.specs.Commits.{made}
 
@@ -19,7 +17,7 @@ chain m [] = []
 chain m (expected call bs a start count ∷ ks) =
     let after = step m call bs .machine in
     record {
-      given = record { call = call; bytes = bs };
+      entry = record { call = call; bytes = bs };
       returned = record { answer = a; start = start; count = count; state = after .state };
       private = after .private;
       shared = after .shared;

@@ -3,13 +3,10 @@ use Prim.Native.Nat.{ℕ}
 use mathlib.Core.{Path.{_≡_, refl, sym, _∙_, ap, ap₂}, List.List, Logic.⊎-elim}
 use native.Mathlib.Omega.{arith}
 use lib.ListN.{length, take}
-use Rattle.spelling.specs.{Decimal.{decimal, NumberOf}, Hex.{hex, Spells}}
-use Rattle.spelling.specs.Over.{over, DecodedOf, decoded, noRoom, noData}
+use Rattle.spelling.specs.{Decimal.{decimal, NumberOf}, Hex.{hex, Spells}, Over.{over, DecodedOf, decoded, noRoom, noData}}
 use Rattle.spelling.specs.Theorems.{NumberOneTheorem, DecodedOneTheorem, DecimalRoundTripTheorem, HexPrinted, HexDecoded, HexRoundTripTheorem}
-use Rattle.spelling.specs.declared.Number.{Number, the-variants.{Value, Wrong}}
-use Rattle.spelling.specs.declared.Decoded.{Decoded, the-variants.{Bytes, NoRoom, Wrong as NoData}}
-use Rattle.spelling.proofs.{Lists.le-or-lt, Decide.{number-told, data-told}, DecimalLaws.decimal-injective, HexLaws.hex-injective}
-use Rattle.spelling.proofs.OverLaws.{over-part}
+use Rattle.spelling.specs.declared.{Number.{Number, the-variants.{Value, Wrong}}, Decoded.{Decoded, the-variants.{Bytes, NoRoom, Wrong as NoData}}}
+use Rattle.spelling.proofs.{Lists.le-or-lt, Decide.{number-told, data-told}, DecimalLaws.decimal-injective, HexLaws.hex-injective, OverLaws.over-part}
 
 -- ---- numbers
 

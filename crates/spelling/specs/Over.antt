@@ -2,8 +2,7 @@
 use Prim.Native.Nat.{ℕ, _+_, _-_, _≤_, _<_}
 use mathlib.Core.{Path._≡_, Bool.{Bool, false, cond}, List.{List, _++_}}
 use lib.{Dec.leb, ListN.{length, take, drop}}
-use Rattle.spelling.specs.{Hex.{Spells, IsData}, declared.Put.{Put, the-variants.{End, Short}}}
-use Rattle.spelling.specs.declared.Decoded.{Decoded, the-variants.{Bytes, Wrong, NoRoom}}
+use Rattle.spelling.specs.{Hex.{Spells, IsData}, declared.{Put.{Put, the-variants.{End, Short}}, Decoded.{Decoded, the-variants.{Bytes, Wrong, NoRoom}}}}
 
 -- whether n bytes fit at an offset of a buffer of this size
 abbrev pub hasRoom : ℕ → ℕ → ℕ → Bool

@@ -1,8 +1,7 @@
 -- 27, or the clocks after an advance.
 use mathlib.Core.Path.{sym, _∙_}
 use borrow.Author.Needs.{needs}
-use Rattle.protocol.specs.{Pick.first, Refusals.{stateRules, stateRefusal}, Tables.{advanceTable, tableOf, effectOf}}
-use Rattle.protocol.proofs.Stamps.{sum-at, sum-passes}
+use Rattle.protocol.{specs.{Pick.first, Refusals.{stateRules, stateRefusal}, Tables.{advanceTable, tableOf, effectOf}}, proofs.Stamps.{sum-at, sum-passes}}
 use Rattle.core_rows.proofs.advance.Statement.{statement}
 use Rattle.core_rows.proofs.advance.Tie as tie
 

@@ -22,14 +22,14 @@ rest xs a n h =
 inside :
     {s r : RefT Bytes} {start count : ℕ}
     → start ≤ length (now s) → ptr r ≡ (ptr s .0, start + ptr s .1) → now r ≡ part (now s) start count → PartOf s start count r
-inside {s} {r} {start} {count} h p b = let e : min start (length (now s)) ≡ start = omega arith in record { place = rw e p; bytes = b }
+inside {s} {r} {start} {count} h p b = let e : min start (length (now s)) ≡ start = omega arith in record { pointer = rw e p; bytes = b }
 
 returns : tie.Need-returns
 returns c =
     let a = c .before .before .args in
     let xs = a .bytes .now in
     let e : min (a .start) (length xs) ≡ length xs = omega arith in
-    record { place = rw e; bytes = past xs (length xs) (length xs - length xs) (omega arith) ∙ sym (past xs (a .start) (a .count) (omega arith)) }
+    record { pointer = rw e; bytes = past xs (length xs) (length xs - length xs) (omega arith) ∙ sym (past xs (a .start) (a .count) (omega arith)) }
 
 returns-2 : tie.Need-returns-2
 returns-2 c =

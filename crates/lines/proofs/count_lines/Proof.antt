@@ -1,4 +1,4 @@
--- `lines::count_lines` meets its contract: a walk of its MIR, by hand. A reader is made at the journal's start, and each turn of the loop takes the step of the reader that the
+-- `lines::count_lines` meets its contract: a walk of its MIR, by hand. A reader is made at the journal's start, and each round of the loop takes the step of the reader that the
 -- step before handed out. All that the proof knows of `Reader::new`, `Reader::next` and `goes_on` is that they meet their contracts. Assumes nothing.
 use mathlib.Core.{Path.{_≡_, refl, sym, _∙_, ap, subst}, Bool.{Bool, true, false, not}, WellFounded.{WellFounded, InvImage·wf}, List.{List, [], _∷_}}
 use Prim.Native.Nat.{ℕ, _+_, _-_, _<_, _^_}
@@ -42,7 +42,7 @@ use Rattle.lines.specs.declared.LineCount.{LineCount}
 use Rattle.lines.proofs.LineCount as Y
 use Rattle.lines.proofs.LineCount.Laws as Y′
 use Rattle.lines.proofs.{Walking.{onward, few-lines}, goes_on.Symbol.name as #lines·goes-on, count_lines.Key.name as #lines·count-lines}
-use Rattle.lines.proofs.count_lines.Code.Mir.{turn-1 as turn, t-3 as from-start, t-4 as looping, t-5 as rest}
+use Rattle.lines.proofs.count_lines.Code.Mir.{turn-1 as round, t-3 as from-start, t-4 as looping, t-5 as rest}
 use Rattle.lines.proofs.goes_on as test
 use Rattle.lines.proofs.goes_on.Symbol as test-def
 use Rattle.lines.proofs.goes_on.Met as test-thm
@@ -53,7 +53,7 @@ use Rattle.lines.proofs.count_lines.Code as code
 abbrev stayed : Stays (this.ended .signature .params) (this.ended .kept)
 stayed = (stay-none-slice (0 ∷ []) tt (plain (λ _. u8)) yes, tt)
 
--- what a turn does once reading goes on: one line more, and the next step
+-- what a round does once reading goes on: one line more, and the next step
 abbrev more : Body
 more = seq (assign (place 2 []) (op2 (add unsigned) (copy (place 2 [])) (int w64 1)))
     (seq (assign (place 7 []) (rvOpd (copy (place 3 (field 0 ∷ []))))) (call #journal·next (copy (place 7 []) ∷ []) (place 3 [])))
@@ -244,16 +244,16 @@ module _ {M : Type 1} (𝓤 : URA M) (H : Heap 𝓤) (A : Atoms 𝓤) (W : Given
         ∷ ‵ (froom (T′.mir erased) l₄ 0) ∷ ‵ (fdies (T′.mir erased) l₄) ∷ ‵ (fat fullShare (P′.mir erased) l₃ 0 (handed-val (i .at) (i .form) (i .n))) ∷ ‵ (fdies (P′.mir erased) l₃)
         ∷ ‵ (fat fullShare (tyInt w64) l₂ 0 (vint w64 (i .k))) ∷ ‵ (fdies (tyInt w64) l₂) ∷ ‵ (fat fullShare slice l₁ 0 v) ∷ ‵ (fdies slice l₁) ∷ ‵ (froom Y′.mir l₀ 0) ∷ ‵ (fdies Y′.mir l₀) ∷ Token ∷ ‵ Own ∷ []
 
-    -- a turn's postcondition: it ends nearer to the journal's end, or the loop is left and the rest of the body runs
-    abbrev Turned : Stand → Out → SProp 𝓤
-    Turned i = afterTurn 𝓤 H (Below 𝓤 H A Nearer At i) (afterBlock 𝓤 H (afterSeq 𝓤 H (Wp 𝓤 H C Λ En rest (atReturn 𝓤 H En Post)) (atReturn 𝓤 H En Post)))
+    -- a round's postcondition: it ends nearer to the journal's end, or the loop is left and the rest of the body runs
+    abbrev AfterRound : Stand → Out → SProp 𝓤
+    AfterRound i = afterTurn 𝓤 H (Below 𝓤 H A Nearer At i) (afterBlock 𝓤 H (afterSeq 𝓤 H (Wp 𝓤 H C Λ En rest (atReturn 𝓤 H En Post)) (atReturn 𝓤 H En Post)))
 
     -- reading goes on: one line more, and the step of the reader that was handed out
     goes : (i : Stand) → goesOn (i .n) ≡ true → Sq W
         (‵ (froom S′.mir l₈ 0) ∷ ‵ (fdies S′.mir l₈) ∷ ‵ (froom (T′.mir erased) l₇ 0) ∷ ‵ (fdies (T′.mir erased) l₇) ∷ ‵ (fat fullShare S′.mir l₆ 0 (next-val (i .n))) ∷ ‵ (fdies S′.mir l₆) ∷ ‵ (fat fullShare tyBool l₅ 0 (vbool true)) ∷ ‵ (fdies tyBool l₅)
         ∷ ‵ (froom (T′.mir erased) l₄ 0) ∷ ‵ (fdies (T′.mir erased) l₄) ∷ ‵ (fat fullShare (P′.mir erased) l₃ 0 (handed-val (i .at) (i .form) (i .n))) ∷ ‵ (fdies (P′.mir erased) l₃)
         ∷ ‵ (fat fullShare (tyInt w64) l₂ 0 (vint w64 (i .k))) ∷ ‵ (fdies (tyInt w64) l₂) ∷ ‵ (fat fullShare slice l₁ 0 v) ∷ ‵ (fdies slice l₁) ∷ ‵ (froom Y′.mir l₀ 0) ∷ ‵ (fdies Y′.mir l₀) ∷ Token ∷ ‵ Own ∷ [])
-        (runs C Λ En more (anyQ (Turned i)))
+        (runs C Λ En more (anyQ (AfterRound i)))
     unfolding afterTurn
     goes i g =
         let a = offsetAfter (i .at) (i .n) in
@@ -285,9 +285,9 @@ module _ {M : Type 1} (𝓤 : URA M) (H : Heap 𝓤) (A : Atoms 𝓤) (W : Given
         move ! (16 ∷ 17 ∷ []) $ free1 ! $ move ! (14 ∷ 15 ∷ []) $ free1 ! $ move ! (12 ∷ 13 ∷ []) $ free1 ! $ move ! (10 ∷ 11 ∷ []) $ free1 ! $ move ! (8 ∷ 9 ∷ []) $ free1 ! $ move ! (6 ∷ 7 ∷ []) $ free1 ! $ move ! (4 ∷ 5 ∷ []) $ free1 ! $ move ! (2 ∷ 3 ∷ []) $ free1 ! $ free1 ! $ free0 ! $
         by ! (exits i isy g)
 
-    turns : (i : Stand) → Sq W (At i) (runs C Λ En turn (anyQ (Turned i)))
+    rounds : (i : Stand) → Sq W (At i) (runs C Λ En round (anyQ (AfterRound i)))
     unfolding afterTurn
-    turns i =
+    rounds i =
         assigns ! (of-opd ! (load ! (from ! (fld ! refl (stop !))) (look-in ! 10 (sub ! 1 refl (whole !))))) (from ! (stop !)) (init ! 4 refl (EL.lawful S.the-type S′.the-laws 𝓤 H A W tt .typed (i .n) _ (fields i .1) .0)) $
         nothing ! $ owned ! S.the-row (Is S.the-row) (EL.makes S.the-type S′.the-plain 𝓤 H A) (i .n) _ (fields i .1) $ fjoin ! $ nothing ! $
         use2 W (raw (TestC 𝓤 H A mem run .pre (to-test (i .n)))) (goes-test (i .n)) $
@@ -297,11 +297,11 @@ module _ {M : Type 1} (𝓤 : URA M) (H : Heap 𝓤) (A : Atoms 𝓤) (W : Given
         peeks ! bool (Is bool) (shows 𝓤 H A bool) b (w ∷ []) (λ is.
         land ! (from ! (stop !)) (init ! 7 refl (bool-lawful 𝓤 H A W .typed b _ is .0)) $ rewrite ! 7 (λ (x : Val). ‵ (fat fullShare tyBool l₅ 0 x)) (ap only is) refl $ drop ! $
         first ! $ branches ! (load ! (from ! (stop !)) (look ! 6 refl))
-        (λ is-b. skips ! $ exec ! C Λ En more (anyQ (Turned i)) $ rewrite ! 6 (λ (x : Bool). ‵ (fat fullShare tyBool l₅ 0 (vbool x))) (holds b is-b) refl $ goes i (sym e ∙ holds b is-b))
+        (λ is-b. skips ! $ exec ! C Λ En more (anyQ (AfterRound i)) $ rewrite ! 6 (λ (x : Bool). ‵ (fat fullShare tyBool l₅ 0 (vbool x))) (holds b is-b) refl $ goes i (sym e ∙ holds b is-b))
         (λ not-b. jumps ! $ exec ! C Λ En rest (atRet En Post) $ rewrite ! 6 (λ (x : Bool). ‵ (fat fullShare tyBool l₅ 0 (vbool x))) (fails b not-b) refl $ stops i (sym e ∙ fails b not-b))))))
 
     loops-from : (i : Stand) → Sq W (At i) (runs C Λ En looping (atRet En Post))
-    loops-from i = first ! $ blocks ! $ loops ! 𝓣 Nearer Nearer-wf At turns i
+    loops-from i = first ! $ blocks ! $ loops ! 𝓣 Nearer Nearer-wf At rounds i
 
     -- the first step, of the reader at the start
     first-step : Sq W

@@ -5,8 +5,7 @@ use native.Mathlib.Omega.{arith}
 use borrow.Author.Needs.{needs}
 use lib.{ListN.{length, length-set}, Seq.{paste, paste-zero}}
 use Rattle.spelling.specs.{Hex.hex, declared.Put.the-variants.End}
-use Rattle.spelling.proofs.{HexLaws.hex-length, OverLaws.{pasted, hex-more, put-done, put-short, room-yes, room-no}}
-use Rattle.spelling.proofs.put_hex.Statement.{statement}
+use Rattle.spelling.proofs.{HexLaws.hex-length, OverLaws.{pasted, hex-more, put-done, put-short, room-yes, room-no}, put_hex.Statement.statement}
 use Rattle.spelling.proofs.put_hex.Tie as tie
 
 abbrev Inv-loop : tie.InvT-loop

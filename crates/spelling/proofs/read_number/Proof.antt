@@ -6,8 +6,7 @@ use borrow.Author.Needs.{needs}
 use lib.ListN.{length, take}
 use denote.Ref.{now}
 use Rattle.spelling.specs.Decimal.{decimal}
-use Rattle.spelling.proofs.DecimalLaws.{not-empty, not-digit, not-lead, not-over, first-digit, next-digit, whole}
-use Rattle.spelling.proofs.read_number.Statement.{statement}
+use Rattle.spelling.proofs.{DecimalLaws.{not-empty, not-digit, not-lead, not-over, first-digit, next-digit, whole}, read_number.Statement.statement}
 use Rattle.spelling.proofs.read_number.Tie as tie
 
 abbrev Inv-loop : tie.InvT-loop

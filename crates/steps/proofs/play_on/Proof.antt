@@ -6,8 +6,7 @@ use lib.ListN.{length}
 use borrow.Author.Needs.{needs}
 use Rattle.protocol.proofs.Tests.{was-true, was-false}
 use Rattle.steps.specs.Listed.{stopped}
-use Rattle.steps.proofs.Calling.{Called, called-start, call-over, call-further, call-more}
-use Rattle.steps.proofs.play_on.Statement.{statement}
+use Rattle.steps.proofs.{Calling.{Called, called-start, call-over, call-further, call-more}, play_on.Statement.statement}
 use Rattle.steps.proofs.play_on.Tie as tie
 
 abbrev Inv-loop : tie.InvT-loop

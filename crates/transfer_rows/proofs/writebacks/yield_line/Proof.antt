@@ -1,7 +1,6 @@
 -- By the recall and the owner's copy: 23, 24, or the row.
 use borrow.Author.Needs.{needs}
-use Rattle.protocol.specs.{Pick.first, Refusals.{stateRules, stateRefusal}, Tables.{yieldTable, tableOf, effectOf}}
-use Rattle.protocol.proofs.Tests.{was-false, was-true}
+use Rattle.protocol.{specs.{Pick.first, Refusals.{stateRules, stateRefusal}, Tables.{yieldTable, tableOf, effectOf}}, proofs.Tests.{was-false, was-true}}
 use Rattle.transfer_rows.proofs.writebacks.yield_line.Statement.{statement}
 use Rattle.transfer_rows.proofs.writebacks.yield_line.Tie as tie
 
