@@ -4,7 +4,8 @@ use mathlib.Core.{Path._≡_, Bool.true}
 use native.Mathlib.Nat.{add-sub-cancel-left}
 use lib.{Dec.ltb, ListN.{take, drop}}
 use borrow.Author.Tests.{lt-ltb, ltb-true}
-use Rattle.protocol.{specs.{Pick.pick, Limits.openingFits, Buffers.{Bytes, part, There}, Words.Opening}, proofs.{Tests.both-true, Extents.{inside, there-at}}}
+use Rattle.protocol.{specs.{Pick.pick, Limits.openingFits, Buffers.{Bytes, part, There}, declared.Opening.Opening}, proofs.Tests.both-true}
+use Rattle.protocol.proofs.Extents.{inside, there-at}
 use Rattle.buffers.specs.Moves.{isThere}
 
 -- a part from a start to an end is the one from the start with the difference as its count

@@ -3,7 +3,7 @@ use Prim.Native.Nat.{ℕ}
 use mathlib.Core.{Path._≡_, Bool.Bool}
 use lib.{Dec.ltb, ListN.length}
 use denote.Ref.{RefT, now}
-use Rattle.protocol.specs.{Pick.{pick, both}, Limits.openingFits, Buffers.{Bytes, givenFits, movedPrivate, movedShared}, Words.{Opening, Move}}
+use Rattle.protocol.specs.{Pick.{pick, both}, Limits.openingFits, Buffers.{Bytes, givenFits, movedPrivate, movedShared}, declared.{Opening.Opening, Move.Move}}
 use Rattle.refusals.specs.Input.{lengthsFit}
 
 -- the opening lies inside the limits, and core c and line l are there

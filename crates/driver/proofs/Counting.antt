@@ -5,7 +5,7 @@ use native.Mathlib.{Nat.{add-assoc, add-zero, zero-add}, Omega.arith}
 use lib.{Dec.leb, ListN.length}
 use borrow.Author.Tests.{leb-true, le-leb}
 use Rattle.protocol.specs.{Buffers.Bytes, Step.{Reply, refused, done, commit, meaning}, Run.Record, Counts.{nothingMet, countsOf, sum, total}}
-use Rattle.protocol.{specs.Words.{Call, Answer, Refused, Done, Commit, Counts}, proofs.Tests.both-true}
+use Rattle.protocol.{specs.declared.{Call.Call, Answer.{Answer, the-variants.{Refused, Done, Commit}}, Counts.Counts}, proofs.Tests.both-true}
 use Rattle.driver.specs.Play.{few}
 
 -- ---- sums

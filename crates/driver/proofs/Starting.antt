@@ -3,7 +3,7 @@ use Prim.Native.Nat.{ℕ}
 use mathlib.Core.{Path.{_≡_, refl, subst}, Bool.{true, false}}
 use native.Mathlib.Omega.{arith}
 use Rattle.protocol.specs.{Pick.first, Limits.openingFits, Buffers.Bytes, Refusals.openRefusal, Step.{done, openReply}, Run.place}
-use Rattle.protocol.{specs.{declared.Opening.Opening as Sizes, Words.Open}, proofs.Refusals.opening-fit}
+use Rattle.protocol.{specs.declared.{Opening.Opening as Sizes, Name.the-variants.Open}, proofs.Refusals.opening-fit}
 use Rattle.spelling.specs.{Over.PutAt, declared.Put.{Put, the-variants.{End, Short}}}
 use Rattle.journal.specs.{Journal.NextOf, declared.Next.the-variants.Opening}
 use Rattle.listing.specs.Record.{recordText}

@@ -3,7 +3,7 @@
 use Prim.Native.Nat.{ℕ, _-_}
 use mathlib.Core.{Path._≡_, List.{List, [], _∷_, _++_}}
 use Rattle.protocol.specs.{Buffers.{Bytes, part}, Refusals.openRefusal, Step.refused, Run.{Entry, Record, place}, Counts.{counts, sum}}
-use Rattle.protocol.specs.{declared.Opening.Opening as Sizes, Words.{Call, Counts}}
+use Rattle.protocol.specs.declared.{Opening.Opening as Sizes, Call.Call, Counts.Counts}
 use Rattle.spelling.specs.Hex.{Spells}
 use Rattle.journal.specs.{Journal.NextOf, declared.Next.the-variants.{Opening, Step, End, Refused}}
 use Rattle.listing.specs.Record.{recordText, endText}

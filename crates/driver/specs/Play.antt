@@ -6,11 +6,11 @@ use lib.{Dec.{leb, eqb}, ListN.{length, take, drop}}
 use denote.Ref.{RefT, now}
 use Rattle.protocol.specs.{Pick.{both, fails as untrue}, Fresh.{freshState, smallest}, Buffers.{Bytes, part}, Machine.machine, Refusals.openRefusal}
 use Rattle.protocol.specs.{Step.{openReply, step}, Run.{Entry, Run, place, run}, Counts.{nothingMet, sum, total}, declared.Opening.Opening as Sizes}
-use Rattle.protocol.specs.Words.{Call, Counts}
+use Rattle.protocol.specs.declared.{Call.Call, Counts.Counts}
 use Rattle.journal.specs.{Journal.NextOf, declared.Next.the-variants.{Opening, Step}}
 use Rattle.listing.specs.Record.{recordText}
-use Rattle.driver.specs.Listing.{Ending, Data, Between, EndsAt, lines, lastLines, NotOpened, notOpened}
-use Rattle.driver.specs.declared.{Checkpoint.Checkpoint, Progress.{Progress, the-variants.{Finished, More, Short, Unfit}}, Played.Played}
+use Rattle.driver.specs.{Listing.{Ending, Data, Between, EndsAt, lines, lastLines, NotOpened, notOpened}, declared.Checkpoint.Checkpoint}
+use Rattle.driver.specs.declared.{Progress.{Progress, the-variants.{Finished, More, Short, Unfit}}, Played.Played}
 
 -- ---- the checkpoints of a run
 

@@ -4,8 +4,8 @@ use mathlib.Core.{Path.{_≡_, refl, sym, _∙_, ap, ap₂}, Bool.{Bool, true, f
 use native.Mathlib.Omega.{arith}
 use lib.Dec.{eqb}
 use borrow.Author.Tests.{eqb-true}
-use Rattle.protocol.specs.{Pick.pick, Machine.{Machine, freshMachine}, Refusals.openRefusal, Step.{Reply, refused, done, meaning}, Words.Open}
-use Rattle.protocol.{specs.Run.{Entry, Record, place, run}, proofs.Order.Theorem.{open-theorem, order-theorem, sort-theorem}}
+use Rattle.protocol.specs.{Pick.pick, Machine.{Machine, freshMachine}, Refusals.openRefusal, Step.{Reply, refused, done, meaning}}
+use Rattle.protocol.{specs.{declared.Name.the-variants.Open, Run.{Entry, Record, place, run}}, proofs.Order.Theorem.{open-theorem, order-theorem, sort-theorem}}
 use Rattle.engine.specs.History.{Made, MadeFrom, none, next, recordsOf, HistoryTheorem}
 
 -- what the calls were given

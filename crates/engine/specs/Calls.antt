@@ -4,7 +4,8 @@ use mathlib.Core.{Path._≡_, List.[]}
 use lib.ListN.{length}
 use denote.Ref.{RefT, ptr, now}
 use Rattle.protocol.specs.{Buffers.{Bytes, part, copyStart}, Machine.{Machine, machine, coreOf, lineOf}}
-use Rattle.protocol.specs.{Step.{meaning, openReply, opened, step, Buffer, inPrivate, inShared, Shown, shown}, Words.{Opening, State, Call}}
+use Rattle.protocol.specs.{Step.{meaning, openReply, opened, step, Buffer, inPrivate, inShared, Shown, shown}, declared.Opening.Opening}
+use Rattle.protocol.specs.declared.{State.State, Call.Call}
 use Rattle.tables.specs.Spans.{spanOf}
 use Rattle.engine.specs.declared.{Opened.Opened, Returned.Returned}
 

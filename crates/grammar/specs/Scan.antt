@@ -6,7 +6,7 @@ use lib.{Dec.eqb, ListN.{length, drop, getD, set, replicate}}
 use Rattle.spelling.specs.{Bytes.{upTo, Below}, Text.text, Decimal.{decimal, greatest, IsNumber}, Hex.IsData}
 use Rattle.grammar.specs.{Form.{Part, fixed, value, Value, number, pairs, Has}, Line.said, Table.{calls, Row, rowAt, table, numberCount, rowCount}}
 use Rattle.grammar.specs.declared.{Line.{Line, the-variants.Refused}, Values.Values, Found.Found}
-use Rattle.protocol.specs.Words.{Call}
+use Rattle.protocol.specs.declared.Call.{Call}
 
 -- the value that starts at an offset of a line: up to the next blank or the end
 abbrev pub valueAt : List ℕ → ℕ → List ℕ

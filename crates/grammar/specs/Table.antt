@@ -1,10 +1,10 @@
 -- The grammar of 01, "Journal and driver": the first line, and the nine step lines. Assumes nothing.
-use Prim.Native.Nat.{ℕ, zero, suc, _+_}
-use Prim.Native.String.{String}
+use Prim.Native.{Nat.{ℕ, zero, suc, _+_}, String.String}
 use mathlib.Core.List.{List, [], _∷_, _++_}
 use lib.ListN.{getD}
 use Rattle.spelling.specs.Text.{text}
-use Rattle.protocol.specs.{declared.Opening.Opening as Sizes, Words.{Call, Load, Store, Fence, Evict, Advance, Serve, Receive, Yield, Take}}
+use Rattle.protocol.specs.declared.Opening.{Opening as Sizes}
+use Rattle.protocol.specs.declared.Call.{Call, the-variants.{Load, Store, Fence, Evict, Advance, Serve, Receive, Yield, Take}}
 use Rattle.grammar.specs.Form.{Part, parts}
 
 -- the numbers of a line, in their order: n 0 is the first

@@ -3,8 +3,9 @@ use Prim.Native.Nat.{ℕ, _+_, _*_, _≤_}
 use mathlib.Core.List.{List}
 use native.Mathlib.Omega.{arith}
 use lib.ListN.{length, length-append}
-use Rattle.protocol.specs.Words.{Place, Name, Open, Ask, Share, Renew, Own, Drop, Counts, Answer, Refused, Done, Commit}
-use Rattle.protocol.specs.{declared.{Name.the-variants.{Recall, Evict, Advance, Yield, Take}, Kind.the-variants.{Load, Store, Fence}}, Step.meaning}
+use Rattle.protocol.specs.declared.{Place.Place, Name.{Name, the-variants.{Open, Ask, Recall, Share, Renew, Own, Drop, Evict, Advance, Yield, Take}}}
+use Rattle.protocol.specs.declared.{Counts.Counts, Answer.{Answer, the-variants.{Refused, Done, Commit}}, Kind.the-variants.{Load, Store, Fence}}
+use Rattle.protocol.specs.Step.{meaning}
 use Rattle.spelling.proofs.{DecimalLaws.decimal-short, HexLaws.hex-length}
 use Rattle.listing.specs.{Record.{nameText, recordText, endText}, Back.doneEnd}
 

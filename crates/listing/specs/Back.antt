@@ -3,7 +3,7 @@ use Prim.Native.Nat.{ℕ, _+_, _≤_}
 use mathlib.Core.{Path._≡_, List.{List, _++_}}
 use lib.ListN.{length, drop}
 use Rattle.spelling.specs.{Text.text, Decimal.decimal, Hex.hex}
-use Rattle.protocol.specs.Words.{Name}
+use Rattle.protocol.specs.declared.Name.{Name}
 use Rattle.listing.specs.Record.{nameText}
 
 -- a key and a number of twenty digits have room before a place

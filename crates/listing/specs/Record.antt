@@ -2,8 +2,8 @@
 use Prim.Native.Nat.{ℕ}
 use mathlib.Core.List.{List, [], _++_}
 use Rattle.spelling.specs.{Text.text, Decimal.decimal, Hex.hex}
-use Rattle.protocol.specs.{Words.{Place, Name, Open, Ask, Share, Renew, Own, Drop, Counts}, declared.Name.the-variants.{Recall, Evict, Advance, Yield, Take}}
-use Rattle.protocol.specs.Step.{Op, load, store, fence, Reply, refused, done, commit}
+use Rattle.protocol.specs.declared.{Place.Place, Name.{Name, the-variants.{Open, Ask, Recall, Share, Renew, Own, Drop, Evict, Advance, Yield, Take}}}
+use Rattle.protocol.specs.{declared.Counts.Counts, Step.{Op, load, store, fence, Reply, refused, done, commit}}
 
 -- "done is open, ask, recall, share, renew, own, drop, evict, advance, yield or take"
 abbrev pub nameText : Name → List ℕ

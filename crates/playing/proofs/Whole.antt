@@ -4,11 +4,11 @@ use mathlib.Core.{Path.{_≡_, sym, _∙_, ap, ap₂, subst}, List.{List, [], _+
 use native.Mathlib.Omega.{arith}
 use lib.ListN.{length, replicate}
 use Rattle.protocol.specs.{Buffers.{Bytes, privateLength, sharedLength}, Machine.{Machine, machine}, Counts.{sum, total}, Run.{Entry, Record, run}}
-use Rattle.protocol.specs.Words.{Counts}
-use Rattle.driver.proofs.{Running.{steps-append, lines-append, run-records, run-length}, Counting.{plus-assoc, plus-none, total-append, total-steps}}
-use Rattle.driver.specs.Listing.{Ending, noLine, EndsAt, lines, lastLines}
-use Rattle.driver.specs.declared.{Checkpoint.Checkpoint, Progress.{Progress, the-variants.{Finished, More}}}
+use Rattle.protocol.specs.declared.Counts.{Counts}
+use Rattle.driver.specs.{Listing.{Ending, noLine, EndsAt, lines, lastLines}, declared.Checkpoint.Checkpoint}
+use Rattle.driver.specs.declared.Progress.{Progress, the-variants.{Finished, More}}
 use Rattle.driver.specs.Play.{runFrom, Leads, Tells, finished, more, unfit, firstCheckpoint, Begins, opens, fails, noRoom, noRoomToEnd}
+use Rattle.driver.proofs.{Running.{steps-append, lines-append, run-records, run-length}, Counting.{plus-assoc, plus-none, total-append, total-steps}}
 use Rattle.playing.specs.Listing.{ReadAs, listingFrom, Listing, opens as opensListing, fails as failsListing}
 use Rattle.playing.specs.{Calls.{joined, Plays-on, last, next, over, begun}, Theorems.WholeTheorem}
 

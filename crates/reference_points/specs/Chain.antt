@@ -3,7 +3,8 @@
 use Prim.Native.Nat.{ℕ}
 use mathlib.Core.{Path._≡_, List.{List, [], _∷_}}
 use Rattle.protocol.specs.{Stamps.stamp, Fresh.smallest, Buffers.Bytes, Machine.{Machine, freshMachine}, Step.{fence, step}, Run.Commit}
-use Rattle.protocol.specs.{Words.{Call, Load, Fence, Take, Answer, Refused, Done, OfFence, Ask}, declared.Answer.the-variants.Commit as Committed}
+use Rattle.protocol.specs.declared.{Call.{Call, the-variants.{Load, Fence, Take}}, Answer.{Answer, the-variants.{Refused, Done, Commit as Committed}}}
+use Rattle.protocol.specs.declared.{Kind.the-variants.Fence as OfFence, Name.the-variants.Ask}
 use Rattle.engine.specs.History.{Made, MadeFrom, history}
 use Rattle.reference_points.specs.Commits.{made}
 

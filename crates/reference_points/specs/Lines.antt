@@ -2,7 +2,7 @@
 use Prim.Native.Nat.{ℕ}
 use mathlib.Core.List.{List, [], _∷_}
 use lib.ListN.{replicate}
-use Rattle.protocol.specs.Words.{Load, Store, Fence, Evict, Advance, Serve, Receive, Yield, Take}
+use Rattle.protocol.specs.declared.Call.the-variants.{Load, Store, Fence, Evict, Advance, Serve, Receive, Yield, Take}
 use Rattle.spelling.specs.Text.{text}
 use Rattle.grammar.specs.{Table.rowsOf, Line.LineOf, declared.Line.{Line, the-variants.{Opening, Step, Refused}}}
 use Rattle.reference_points.specs.{Rows.Each, Numbers.opening}

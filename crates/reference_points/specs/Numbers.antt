@@ -6,9 +6,11 @@ use Prim.Native.Nat.{ℕ}
 use mathlib.Core.List.{List, [], _∷_, _++_, map}
 use lib.ListN.{drop, replicate}
 use Rattle.protocol.specs.{Stamps.stamp, Buffers.Bytes, Machine.{Machine, machine, freshMachine, Pieces}}
-use Rattle.protocol.specs.Step.{Reply, refused, done, Outcome, step, openReply, opened}
-use Rattle.protocol.specs.Words.{Call, Load, Store, Fence, Evict, Advance, Serve, Receive, Yield, Take, Opening, Open, NoCopy, State, WantLoad, WantStore}
-use Rattle.protocol.specs.Words.{NothingHeld, Version, GrantShare, GrantOwn, Empty, Asked, Answered, NoRecall, Downgrade, Flush}
+use Rattle.protocol.specs.declared.{Call.{Call, the-variants.{Load, Store, Fence, Evict, Advance, Serve, Receive, Yield, Take}}, Opening.Opening}
+use Rattle.protocol.specs.declared.{Name.the-variants.Open, Copy.the-variants.None as NoCopy, State.State}
+use Rattle.protocol.specs.declared.{Want.the-variants.{Load as WantLoad, Store as WantStore}, Held.the-variants.{None as NothingHeld, Version}}
+use Rattle.protocol.specs.declared.{Grant.the-variants.{Share as GrantShare, Own as GrantOwn}, Slot.the-variants.{Empty, Asked, Answered}}
+use Rattle.protocol.specs.{declared.Recall.the-variants.{None as NoRecall, Downgrade, Flush}, Step.{Reply, refused, done, Outcome, step, openReply, opened}}
 use Rattle.reference_points.specs.Rows.{core, asked, answered, askedElsewhere, answeredElsewhere, sharedCopy, cleanCopy, dirtyCopy, pieces, sharedLine}
 use Rattle.reference_points.specs.Rows.{ownedLine, withWriteback, busy, unmoved, counting, given, private, shared, greatest, cell, machineOf, withCore}
 use Rattle.reference_points.specs.Rows.{withLine, Agree}

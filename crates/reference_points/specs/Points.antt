@@ -4,11 +4,12 @@
 -- line, and the manager's line has a recall and a writeback; a load finds sts later than all the rest.
 use Prim.Native.Nat.{ℕ}
 use mathlib.Core.List.{List, [], _∷_}
-use Rattle.protocol.specs.{Stamps.stamp, Machine.Pieces, Step.{refused, done}}
-use Rattle.protocol.specs.Words.{Copy, NoCopy, ManagerLine, WantLoad, GrantShare, NothingHeld, Version, NoRecall, Load, Serve}
-use Rattle.protocol.specs.declared.Name.the-variants.{Share as share}
-use Rattle.reference_points.specs.Rows.{core, asked, answered, askedElsewhere, sharedCopy, cleanCopy, dirtyCopy, sharedLine, ownedLine, pieces, busy}
-use Rattle.reference_points.specs.{Rows.{greatest, unmoved, Row, row, AllHold}, Steps.{asking, loading, storing, fencingOver, withBytes}}
+use Rattle.protocol.specs.{Stamps.stamp, Machine.Pieces, Step.{refused, done}, declared.{Copy.{Copy, the-variants.None as NoCopy}, ManagerLine.ManagerLine}}
+use Rattle.protocol.specs.declared.{Name.the-variants.Share as share, Want.the-variants.Load as WantLoad, Grant.the-variants.Share as GrantShare}
+use Rattle.protocol.specs.declared.{Held.the-variants.{None as NothingHeld, Version}, Recall.the-variants.None as NoRecall}
+use Rattle.protocol.specs.declared.Call.the-variants.{Load, Serve}
+use Rattle.reference_points.specs.Rows.{core, asked, answered, askedElsewhere, sharedCopy, cleanCopy, dirtyCopy, sharedLine, ownedLine, pieces}
+use Rattle.reference_points.specs.{Rows.{busy, greatest, unmoved, Row, row, AllHold}, Steps.{asking, loading, storing, fencingOver, withBytes}}
 
 -- a store to an owned line, not dirty: lts, sts and rts before it, and its ts
 abbrev pub storeRow : ℕ → ℕ → ℕ → ℕ → Row

@@ -2,7 +2,7 @@
 use Prim.Native.Nat.{ℕ}
 use mathlib.Core.{Path._≡_, List.{List, [], _∷_, _++_}}
 use Rattle.protocol.specs.{Stamps.stamp, Buffers.Bytes, Step.{load, store, fence, Reply, refused, done, commit}, Run.place, Counts.counts}
-use Rattle.protocol.specs.{Words.{Counts, Open, Ask, Share, Renew, Own, Drop}, declared.Name.the-variants.{Recall, Evict, Advance, Yield, Take}}
+use Rattle.protocol.specs.declared.{Counts.Counts, Name.the-variants.{Open, Ask, Recall, Share, Renew, Own, Drop, Evict, Advance, Yield, Take}}
 use Rattle.spelling.specs.Text.{text}
 use Rattle.listing.specs.Record.{recordText, endText}
 use Rattle.driver.specs.Listing.{ended, stopped, lastLines, notOpened}

@@ -7,8 +7,11 @@ use mathlib.Core.{Path._≡_, Bool.{true, false}, List.{List, [], _∷_, _++_}}
 use lib.ListN.{set, replicate}
 use Rattle.protocol.specs.{Stamps.stamp, Fresh.{freshCore, freshCell, freshLine}, Buffers.Bytes, Step.{Reply, Outcome, step}}
 use Rattle.protocol.specs.Machine.{Machine, machine, Pieces}
-use Rattle.protocol.specs.Words.{Copy, NoCopy, CopyShared, CopyOwned, Want, WantLoad, WantStore, Held, NothingHeld, Version, Grant, GrantShare, Slot, Asked}
-use Rattle.protocol.specs.Words.{Answered, Core, Cell, Shared, Owned, Recall, NoRecall, Downgrade, Flush, NoWriteback, Flight, ManagerLine, State, Call}
+use Rattle.protocol.specs.declared.Copy.{Copy, the-variants.{None as NoCopy, Shared as CopyShared, Owned as CopyOwned}}
+use Rattle.protocol.specs.declared.{Want.{Want, the-variants.{Load as WantLoad, Store as WantStore}}, Held.{Held, the-variants.{None as NothingHeld, Version}}}
+use Rattle.protocol.specs.declared.{Grant.{Grant, the-variants.Share as GrantShare}, Slot.{Slot, the-variants.{Asked, Answered}}, Core.Core, Cell.Cell}
+use Rattle.protocol.specs.declared.{Manager.the-variants.{Shared, Owned}, Recall.{Recall, the-variants.{None as NoRecall, Downgrade, Flush}}}
+use Rattle.protocol.specs.declared.{Writeback.the-variants.{None as NoWriteback, Flight}, ManagerLine.ManagerLine, State.State, Call.Call}
 
 -- ---- parts of a machine
 

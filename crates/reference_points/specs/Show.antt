@@ -3,7 +3,8 @@
 use Prim.Native.Nat.{ℕ}
 use mathlib.Core.List.{List, [], _∷_}
 use lib.ListN.{drop}
-use Rattle.protocol.specs.{Machine.{Machine, machine}, Step.{Buffer, inPrivate, inShared, Shown, shown}, Words.{Copy, NoCopy, Empty}}
+use Rattle.protocol.specs.{Machine.{Machine, machine}, Step.{Buffer, inPrivate, inShared, Shown, shown}}
+use Rattle.protocol.specs.declared.{Copy.{Copy, the-variants.None as NoCopy}, Slot.the-variants.Empty}
 use Rattle.reference_points.specs.Rows.{core, sharedCopy, cleanCopy, dirtyCopy, sharedLine, pieces, unmoved, private, shared, Agree}
 use Rattle.reference_points.specs.Numbers.{usual, idle, shortened, misowned}
 

@@ -3,11 +3,13 @@
 use Prim.Native.Nat.{ℕ}
 use mathlib.Core.{Path._≡_, List.{List, [], _∷_, _++_, map}}
 use Rattle.protocol.specs.{Stamps.stamp, Machine.{machine, Pieces}, Step.{done, commit, load, store, fence, Outcome, step}}
-use Rattle.protocol.specs.Words.{Name, Copy, NoCopy, Want, WantLoad, WantStore, Held, NothingHeld, Version, GrantShare, GrantRenew, GrantOwn, Slot, Empty}
-use Rattle.protocol.specs.Words.{Answered, Recall, NoRecall, Downgrade, Flush, ManagerLine, State, Call, Load, Store, Fence, Evict, Advance, Serve, Receive}
-use Rattle.protocol.specs.Words.{Yield, Take}
-use Rattle.protocol.specs.declared.Name.the-variants.{Ask as ask, Recall as recall, Share as share, Renew as renew, Own as own, Drop as dropped, Evict as evict}
-use Rattle.protocol.specs.declared.Name.the-variants.{Advance as advance, Yield as yield, Take as taken}
+use Rattle.protocol.specs.declared.Name.{Name}
+use Rattle.protocol.specs.declared.Name.the-variants.{Ask as ask, Recall as recall, Share as share, Renew as renew, Own as own, Drop as dropped, Evict as evict, Advance as advance, Yield as yield, Take as taken}
+use Rattle.protocol.specs.declared.{Copy.{Copy, the-variants.None as NoCopy}, Want.{Want, the-variants.{Load as WantLoad, Store as WantStore}}}
+use Rattle.protocol.specs.declared.Held.{Held, the-variants.{None as NothingHeld, Version}}
+use Rattle.protocol.specs.declared.{Grant.the-variants.{Share as GrantShare, Renew as GrantRenew, Own as GrantOwn}, Slot.{Slot, the-variants.{Empty, Answered}}}
+use Rattle.protocol.specs.declared.{Recall.{Recall, the-variants.{None as NoRecall, Downgrade, Flush}}, ManagerLine.ManagerLine, State.State}
+use Rattle.protocol.specs.declared.Call.{Call, the-variants.{Load, Store, Fence, Evict, Advance, Serve, Receive, Yield, Take}}
 use Rattle.reference_points.specs.Rows.{core, asked, answered, askedElsewhere, answeredElsewhere, sharedCopy, cleanCopy, dirtyCopy, pieces, sharedLine}
 use Rattle.reference_points.specs.Rows.{ownedLine, withRecall, withWriteback, busy, greatest, Row, row, AllHold, Places, places, copyBytes, managerBytes}
 use Rattle.reference_points.specs.Rows.{writebackBytes, answerBytes, unmoved, given, counting, private, shared, stateOf, withCore, withLine}

@@ -3,7 +3,7 @@ use Prim.Native.Nat.{ℕ}
 use mathlib.Core.{Bool.Bool, List.{List, []}}
 use lib.ListN.{replicate}
 use Rattle.protocol.specs.{Pick.both, Limits.openingFits, Machine.{Machine, machine}, Refusals.{buffersFit, machineRefusal, callRefusal, orElse}}
-use Rattle.protocol.specs.Words.{Core, ManagerLine, Opening, Call}
+use Rattle.protocol.specs.declared.{Core.Core, ManagerLine.ManagerLine, Opening.Opening, Call.Call}
 
 -- a machine with this opening, these cores and manager lines, and buffers of np and nq bytes. No refusal of 1 and 2 looks at a copy or at a
 -- byte, so no copies are given, and the bytes are 0

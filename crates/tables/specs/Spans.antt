@@ -1,6 +1,6 @@
 -- Where the bytes of a commit lie.
 use Prim.Native.Nat.{ℕ}
-use Rattle.protocol.specs.{Words.{Answer, Refused, Done, Commit, Kind}, declared.Kind.the-variants.{Load, Store, Fence}}
+use Rattle.protocol.specs.declared.{Answer.{Answer, the-variants.{Refused, Done, Commit}}, Kind.{Kind, the-variants.{Load, Store, Fence}}}
 use Rattle.tables.specs.declared.Span.{Span}
 
 abbrev pub nowhere : Span

@@ -2,8 +2,9 @@
 use Prim.Native.Nat.{ℕ}
 use mathlib.Core.{Path.{_≡_, refl}, Bool.false}
 use Rattle.protocol.specs.{Pick.first, Machine.pieces, Refusals.{servePasses, stateRules, stateRefusal}, Tables.{evictTable, tableOf, effectOf}}
-use Rattle.protocol.specs.Words.{Stamp, Want, WantLoad, WantStore, Held, Opening, Core, Asked, Owned, ManagerLine, Evict, Evicted, Copy, NoCopy, CopyShared}
-use Rattle.protocol.specs.Words.{CopyOwned}
+use Rattle.protocol.specs.declared.{Stamp.Stamp, Want.{Want, the-variants.{Load as WantLoad, Store as WantStore}}, Held.Held, Opening.Opening, Core.Core}
+use Rattle.protocol.specs.declared.{Slot.the-variants.Asked, Manager.the-variants.Owned, ManagerLine.ManagerLine, Call.the-variants.Evict}
+use Rattle.protocol.specs.declared.{Name.the-variants.Evict as Evicted, Copy.{Copy, the-variants.{None as NoCopy, Shared as CopyShared, Owned as CopyOwned}}}
 
 pub owned-passes : (a : Want) (l : ℕ) (t : Stamp) (h : Held) (k : ℕ) (o : Opening) → servePasses (Asked a l t h) (Owned k) o ≡ false
 owned-passes WantLoad l t h k o = refl

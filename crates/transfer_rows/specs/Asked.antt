@@ -1,6 +1,7 @@
 -- Serving a request: the table's row, or 27.
 use Prim.Native.Nat.{ℕ}
-use Rattle.protocol.specs.{Pick.pick, Machine.Pieces, Refusals.servePasses, Tables.{refusedRow, serveAsked}, Words.{Stamp, Want, Held, Opening, Effect, Asked}}
+use Rattle.protocol.specs.{Pick.pick, Machine.Pieces, Refusals.servePasses, Tables.{refusedRow, serveAsked}, declared.{Stamp.Stamp, Want.Want}}
+use Rattle.protocol.specs.declared.{Held.Held, Opening.Opening, Effect.Effect, Slot.the-variants.Asked}
 
 -- the request of core c for line l, asked at t
 abbrev pub askedEffect : Want → ℕ → ℕ → Stamp → Held → Pieces → Opening → Effect

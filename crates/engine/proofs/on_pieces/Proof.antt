@@ -1,6 +1,6 @@
 -- The effect, the place of its bytes, and its move.
 use mathlib.Core.Path.{ap}
-use Rattle.protocol.specs.Words.{Effect}
+use Rattle.protocol.specs.declared.Effect.{Effect}
 use borrow.Author.Needs.{needs}
 use Rattle.engine.proofs.on_pieces.Statement.{statement}
 use Rattle.engine.proofs.on_pieces.Tie as tie

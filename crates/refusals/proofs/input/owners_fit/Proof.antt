@@ -2,7 +2,8 @@
 use Prim.Native.Nat.{_≤_, _-_}
 use borrow.Author.Needs.{needs}
 use lib.ListN.{length}
-use Rattle.protocol.{specs.{Fresh.freshLine, Refusals.{ownerFits, ownersFit}, Words.ManagerLine}, proofs.Scan.{Scanned, scan-on, scan-fails, scan-ends}}
+use Rattle.protocol.specs.{Fresh.freshLine, Refusals.{ownerFits, ownersFit}, declared.ManagerLine.ManagerLine}
+use Rattle.protocol.proofs.Scan.{Scanned, scan-on, scan-fails, scan-ends}
 use Rattle.refusals.proofs.input.owners_fit.Statement.{statement}
 use Rattle.refusals.proofs.input.owners_fit.Tie as tie
 

@@ -2,7 +2,7 @@
 use Prim.Native.Nat.{_≤_, _-_}
 use borrow.Author.Needs.{needs}
 use lib.ListN.{length}
-use Rattle.protocol.{specs.{Fresh.freshCore, Refusals.{slotFits, slotsFit}, Words.Core}, proofs.Scan.{Scanned, scan-on, scan-fails, scan-ends}}
+use Rattle.protocol.{specs.{Fresh.freshCore, Refusals.{slotFits, slotsFit}, declared.Core.Core}, proofs.Scan.{Scanned, scan-on, scan-fails, scan-ends}}
 use Rattle.refusals.proofs.input.slots_fit.Statement.{statement}
 use Rattle.refusals.proofs.input.slots_fit.Tie as tie
 

@@ -1,8 +1,8 @@
 -- By the slot: 21, or the request in it.
 use mathlib.Core.Path.{refl}
 use borrow.Author.Needs.{needs}
-use Rattle.protocol.specs.{Machine.pieces, Pick.first, Refusals.{servePasses, stateRules, stateRefusal}, Tables.{serveTable, tableOf, effectOf}, Words.Asked}
-use Rattle.protocol.proofs.Refusals.{ruled}
+use Rattle.protocol.specs.{Machine.pieces, Pick.first, Refusals.{servePasses, stateRules, stateRefusal}, Tables.{serveTable, tableOf, effectOf}}
+use Rattle.protocol.{specs.declared.Slot.the-variants.Asked, proofs.Refusals.ruled}
 use Rattle.transfer_rows.proofs.requests.serve.Statement.{statement}
 use Rattle.transfer_rows.proofs.requests.serve.Tie as tie
 
