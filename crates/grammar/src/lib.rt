@@ -121,26 +121,41 @@ fn with_value(v: Values, line: &[u8], key: u32, start: usize, end: usize) -> Val
     requires { ⌜ (start ≤ end) × (end ≤ length (now line)) × (v .count < numberCount) ⌝ }
     ensures { λ r. ⌜ ValueRead (keyValue key) v (take (end - start) (drop start (now (line .entry)))) start r ⌝ }
 {
-    let mut next = v;
+    let fault = v.fault;
+    let count = v.count;
+    let mut number = v.number;
     if key == 3 {
         if spelling::is_data(&line[start..end]) {
-            next.start = start;
-            return next;
+            return Values {
+                fault,
+                count,
+                number,
+                start,
+            };
         }
-        next.fault = wrong_data(v.fault);
-        return next;
+        return Values {
+            fault: wrong_data(fault),
+            count,
+            number,
+            start: v.start,
+        };
     }
     match spelling::read_number(&line[start..end]) {
         Number::Value(n) => {
-            let count = v.count;
-            next.number[count] = n;
-            next.count = count + 1;
-            next
+            number[count] = n;
+            Values {
+                fault,
+                count: count + 1,
+                number,
+                start: v.start,
+            }
         }
-        Number::Wrong => {
-            next.fault = 12;
-            next
-        }
+        Number::Wrong => Values {
+            fault: 12,
+            count,
+            number,
+            start: v.start,
+        },
     }
 }
 
