@@ -121,7 +121,7 @@ end-due (isStep x) e = absurd (let z : _≡_ {A = ℕ} 0 1 = cc in omega arith)
 end-due {j} {at} {form} {w = w} (isEnd {w = w'} x h) e = let ew : w' ≡ w = cc in rw (← ew) (x, h)
 
 -- a step that is due: the indices v, c and l where the call finds its core and its line, its effect d there, and the counts k with its answer
-pub record Made (j : Bytes) (from : Checkpoint) (p₀ q₀ old : Bytes) : Type 0 where
+pub record StepInPlace (j : Bytes) (from : Checkpoint) (p₀ q₀ old : Bytes) : Type 0 where
   pub o : Sizes
   pub base : ℕ
   pub p : Bytes
@@ -149,7 +149,7 @@ pub record Made (j : Bytes) (from : Checkpoint) (p₀ q₀ old : Bytes) : Type 0
   pub effect : d ≡ effectWith n call (piecesAt (there .state) c l) o
   pub counts : k ≡ sum (there .counts) (countsOf call (meaning (d .answer) []))
 
-module _ {j : Bytes} {from : Checkpoint} {p₀ q₀ old : Bytes} (s : Made j from p₀ q₀ old) where
+module _ {j : Bytes} {from : Checkpoint} {p₀ q₀ old : Bytes} (s : StepInPlace j from p₀ q₀ old) where
   abbrev given-bytes : Bytes
   given-bytes = take (s .count) (s .buf)
 

@@ -82,8 +82,8 @@ module _ {old : Bytes} (k : Counts) (n : ℕ) (size : length old ≡ 256) where
     pub second-fits : {new : Bytes} {q : Put} → PutAt mid e (endText k) new q → q ≡ Short → ⊥
     second-fits v x = let s = put-short v x in omega (arith, s .0, refused-length (place (k .steps)) n, end-length k, one .end, one .size)
 
-    pub last-place : {new : Bytes} {q : Put} {f : ℕ} → PutAt mid e (endText k) new q → q ≡ End f → f ≤ length new
-    last-place v x = let s = put-written v x in omega (arith, s .room, s .end, s .size)
+    pub last-within : {new : Bytes} {q : Put} {f : ℕ} → PutAt mid e (endText k) new q → q ≡ End f → f ≤ length new
+    last-within v x = let s = put-written v x in omega (arith, s .room, s .end, s .size)
 
     -- the text up to the offset after both
     pub last-text : {new : Bytes} {q : Put} {f : ℕ} → PutAt mid e (endText k) new q → q ≡ End f → take (f - 0) new ≡ stopLines k n

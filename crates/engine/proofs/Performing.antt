@@ -8,7 +8,7 @@ use Rattle.protocol.specs.{Step.accepted, declared.{State.State, Call.Call}}
 use Rattle.refusals.specs.Input.{machineWith, inputRefusal}
 use Rattle.buffers.specs.Moves.{isThere}
 use Rattle.tables.{specs.{declared.Span.Span, Found.effectWith}, proofs.Making.{Finds, is-step, is-moved, is-reply, is-span}}
-use Rattle.engine.specs.{declared.Made.Made, Pieces.MadeBy, Calls.Performs}
+use Rattle.engine.specs.{declared.NewPieces.NewPieces, Pieces.MadeBy, Calls.Performs}
 
 module _ (s : State) (p q : Bytes) (call : Call) (given : Bytes) (n : ℕ) (e : n ≡ inputRefusal (machineWith (s .opening) (s .core) (s .line) (length p) (length q)) call (length given)) where
   here : n ≡ inputRefusal (machine s p q) call (length given)
@@ -16,7 +16,7 @@ module _ (s : State) (p q : Bytes) (call : Call) (given : Bytes) (n : ℕ) (e : 
   here = rw (length-replicate, length-replicate) at e
 
   pub performs :
-      (v c l : ℕ) → Finds (machine s p q) call v c l → (t : Made) (p' q' : Bytes)
+      (v c l : ℕ) → Finds (machine s p q) call v c l → (t : NewPieces) (p' q' : Bytes)
       → MadeBy (effectWith n call (piecesAt s c l) (s .opening)) (s .opening) c l given p q t p' q'
       → Performs (machine s p q) call given
       (record {

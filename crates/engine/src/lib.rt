@@ -2,7 +2,7 @@
 // bytes of a line or of a commit.
 //
 // Every function takes any values at all and has no `requires`. What each promises is an equation with
-// `opened`, `step`, `shown` or `part` of crate `protocol`; of a part that is returned, its place too.
+// `opened`, `step`, `shown` or `part` of crate `protocol`; of a part that is returned, where it points too.
 // Callers write `d = load(d.state, ..)`, which saves a copy of the state against one by way of a local.
 // `step` saves another copy against the nine.
 ghost use mathlib.Core.{Path._≡_, List.[]};
@@ -20,7 +20,7 @@ use protocol::State;
 
 // What a call makes of the pieces that it looks at: one core, its copy of one line, the manager's
 // line. `start` and `count` are those of `Returned`.
-struct Made {
+struct NewPieces {
     answer: Answer,
     start: usize,
     count: usize,
@@ -53,7 +53,7 @@ fn on_pieces(
     c: usize,
     l: usize,
     given: &[u8],
-) -> Made
+) -> NewPieces
     ensures { λ r. ⌜ OnPieces n call opening (pieces l k copy m) c l (given .entry) («private» .entry) (shared .entry) r («private» .exit) (shared .exit) ⌝ }
 {
     let d = tables::effect(n, call, l, k, copy, m, opening);
@@ -65,7 +65,7 @@ fn on_pieces(
     let start = buffers::copy_start(opening, c, l);
     let b = tables::span_of(answer, start, opening.width);
     buffers::move_bytes(moves, opening, private, shared, c, l, given);
-    Made {
+    NewPieces {
         answer,
         start: b.start,
         count: b.count,

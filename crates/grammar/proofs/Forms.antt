@@ -25,8 +25,8 @@ ranged (suc (suc form)) = record { order = lit≤ tt; high = lit≤ tt; count = 
 
 -- the row at an index of a form's rows, as a row of the table
 module _ (form k : ℕ) (h : k < length (rowsOf form)) where
-  pub row-place : fromOf form + k < toOf form
-  row-place = let r = ranged form in omega (arith, r .count, r .order)
+  pub row-listed : fromOf form + k < toOf form
+  row-listed = let r = ranged form in omega (arith, r .count, r .order)
 
   pub row-in : rowAt (rowsOf form) k ≡ rowAt table (fromOf form + k)
   row-in =
@@ -34,7 +34,7 @@ module _ (form k : ℕ) (h : k < length (rowsOf form)) where
       ap (λ (l : List Row). rowAt l k) (r .same) ∙ getD-take (toOf form - fromOf form) (drop (fromOf form) table) k noRow (omega arith) ∙ getD-drop (fromOf form) table k noRow
 
   pub row-shape : Shaped (rowAt (rowsOf form) k .form)
-  row-shape = rw row-in (entry-at (fromOf form + k) (omega (arith, row-place, ranged form .high)) .shape)
+  row-shape = rw row-in (entry-at (fromOf form + k) (omega (arith, row-listed, ranged form .high)) .shape)
 
 -- a line that has the form of one of them has it as a row of the table
 pub in-table : (form : ℕ) {s : List ℕ} {k : ℕ} {vs : List (List ℕ)} → Matches (rowsOf form) s k vs → Has s (formOf (fromOf form + k)) vs

@@ -8,7 +8,7 @@ use Rattle.grammar.specs.{Form.{Part, fixed, value, number, pairs, Has, 
 use Rattle.grammar.specs.Line.{said, Matches, LineOf, noForm, wrongNumber, wrongData, spelt}
 use Rattle.grammar.specs.{Scan.{RowAt, Scans, formOf, valuesIn, nothingRead, Fails, FoundIn, nowhere, here, answerOf, RowFound}, declared.Found.Found}
 use Rattle.grammar.proofs.{Outcome.{Outcome, fails, badNumber, badData, fine, outcome-of, fails-of}, Rows.{lineTag, entry-at, same-tag}}
-use Rattle.grammar.proofs.Forms.{ranged, row-place, row-in, in-table}
+use Rattle.grammar.proofs.Forms.{ranged, row-listed, row-in, in-table}
 
 -- ---- the numbers that were read, as the row's numbers
 
@@ -51,7 +51,7 @@ numbers-read m ns h =
 
 module _ (form : ℕ) (s : List ℕ) (short : length s ≤ 200) where
   none-listed : ((k : ℕ) → fromOf form ≤ k → k < toOf form → Fails s (formOf k)) → (k : ℕ) (vs : List (List ℕ)) → Matches (rowsOf form) s k vs → ⊥
-  none-listed n k vs f = n (fromOf form + k) (omega arith) (row-place form k (f .listed)) vs (in-table form f)
+  none-listed n k vs f = n (fromOf form + k) (omega arith) (row-listed form k (f .listed)) vs (in-table form f)
 
   -- the row at an index of the table, as a row of the form
   module _ (f : Found) (a : fromOf form ≤ f .row) (b : f .row < toOf form) where

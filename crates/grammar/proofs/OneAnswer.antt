@@ -9,7 +9,7 @@ use Rattle.grammar.specs.{Theorems.OneAnswerTheorem, declared.{Line.Line
 use Rattle.grammar.specs.Scan.{valueAt, valueEnd, formOf, ValueRead, Scans, right, wrong, ended, longer, same, other, aValue, nothingRead, withNumber}
 use Rattle.grammar.specs.Scan.{withoutNumber, withData, withoutData, FoundIn, nowhere}
 use Rattle.grammar.proofs.{Walk.byte-told, Rows.{letters, lineTag, same-tag, row-by-tag}, Judge.{answer-line, none-there, found-by}}
-use Rattle.grammar.proofs.{Forms.{ranged, row-place, row-shape, in-table}, Unique.same-answer}
+use Rattle.grammar.proofs.{Forms.{ranged, row-listed, row-shape, in-table}, Unique.same-answer}
 
 -- ---- a line is read in some way by each form
 
@@ -57,7 +57,7 @@ some-answer form s =
 -- the row of a line is the only one with the line's tag
 told : (form : ℕ) (s : List ℕ) (k : ℕ) (vs : List (List ℕ)) → Matches (rowsOf form) s k vs → fromOf form + k ≡ getD letters (lineTag s) 0 - 97
 told form s k vs f =
-    let h : fromOf form + k < rowCount = omega (arith, row-place form k (f .listed), ranged form .high) in
+    let h : fromOf form + k < rowCount = omega (arith, row-listed form k (f .listed), ranged form .high) in
     row-by-tag (lineTag s) (fromOf form + k) h (same-tag (fromOf form + k) s vs h (in-table form f) .1)
 
 -- the one answer of a line; unfolded, it computes where the line's bytes are known

@@ -2,8 +2,8 @@
 //
 // A form is a kind (`op=load`) and then keys, each with its value. Two bytes of a line, its tag, tell the only row of the table that it
 // may have; one function, `fill`, reads the keys of any row. A new first line or step is a new row: here in `ROWS_BY_TAG`, `fill_row`
-// and, for a step, `call_of`; and in specs/Table.antt with its counts. The rows that a journal of some form has are
-// one part of the table, from one row up to another. Texts are named where they are compared, and not in a table of texts, since a
+// and, for a step, `call_of`; and in specs/Table.antt; with the counts in both. The rows that a journal of some form has are one part
+// of the table, from one row up to another. Texts are named where they are compared, and not in a table of texts, since a
 // constant array is made anew at each use.
 ghost use mathlib.Core.{Path._≡_, Bool.cond};
 ghost use Prim.Native.Nat.{_≤_, _<_, _-_};

@@ -57,7 +57,7 @@ formAfter form (Refused n) = form
 -- one reading at an offset: the answer, and the offset and the form after it
 pub record ReadOf (journal : List ℕ) (at form : ℕ) (r : Read) : Type 0 where
   pub found : NextOf journal at form (r .next)
-  pub place : r .at ≡ offsetAfter at (r .next)
+  pub offset : r .at ≡ offsetAfter at (r .next)
   pub formed : r .form ≡ formAfter form (r .next)
 
 -- the reader after an answer: the same bytes at the same address in memory, and the offset and the form after it

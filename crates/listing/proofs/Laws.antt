@@ -5,7 +5,7 @@ use native.Mathlib.Omega.{arith}
 use lib.{ListN.{length, take, drop, length-append, length-drop, drop-of-length-le}, Seq.take-all}
 use borrow.Author.Tests.{le-leb}
 use Rattle.spelling.specs.{Over.{over, PutAt, PutBefore}, Decimal.decimal, Hex.hex, Text.text, declared.Put.{Put, the-variants.{End, Short}}}
-use Rattle.spelling.proofs.OverLaws.{over-from, over-length, over-append, before-place, before-laid, before-from, put-done, put-short}
+use Rattle.spelling.proofs.OverLaws.{over-from, over-length, over-append, before-end, before-laid, before-from, put-done, put-short}
 use Rattle.spelling.proofs.{DecimalLaws.decimal-short, HexLaws.hex-length}
 use Rattle.protocol.specs.{declared.Name.Name, Step.fence}
 use Rattle.listing.specs.{Record.{doneText, commitText}, Back.{Room, Field, Tail, three, access, doneEnd}}
@@ -55,11 +55,11 @@ module _ (old : List ℕ) (at : ℕ) (head bytes : List ℕ) where
 
 -- ---- a line from its end
 
--- the digits of a number before a place, and its key before them
+-- the digits of a number before an offset, and its key before them
 pub field-put : (old : List ℕ) (end : ℕ) (key : List ℕ) (n : ℕ) (mid : List ℕ) (d : ℕ) (new : List ℕ) (q : Put) → length old ≡ 128 → Room end key
     → PutBefore old end (decimal n) mid d → PutAt mid (d - length key) key new q → Field old end key n new (d - length key)
 field-put old end key n mid d new q size room p s =
-    let place : d + length (decimal n) ≡ end = before-place old end n mid d p (omega arith) (omega arith) in
+    let place : d + length (decimal n) ≡ end = before-end old end n mid d p (omega arith) (omega arith) in
     let short = decimal-short n in
     let same : length mid ≡ length old = ap length (before-laid old end n mid d p (omega arith) (omega arith)) ∙ over-length old d (decimal n) (omega arith) in
     let start : d - length key + length key ≡ d = omega arith in
@@ -72,7 +72,7 @@ field-put old end key n mid d new q size room p s =
 
 -- the digits leave room for the key
 pub digits-far : (old : List ℕ) (end n : ℕ) (key : List ℕ) (mid : List ℕ) (d : ℕ) → length old ≡ 128 → Room end key → PutBefore old end (decimal n) mid d → length key ≤ d
-digits-far old end n key mid d size room p = omega (arith, before-place old end n mid d p (omega arith) (omega arith), decimal-short n)
+digits-far old end n key mid d size room p = omega (arith, before-end old end n mid d p (omega arith) (omega arith), decimal-short n)
 
 -- a text put where it ends the line
 pub tail-put : (old t new : List ℕ) (q : Put) → length old ≡ 128 → length t ≤ 128 → PutAt old (128 - length t) t new q → Tail t new (128 - length t)

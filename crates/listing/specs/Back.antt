@@ -6,11 +6,11 @@ use Rattle.spelling.specs.{Text.text, Decimal.decimal, Hex.hex}
 use Rattle.protocol.specs.declared.Name.{Name}
 use Rattle.listing.specs.Record.{nameText}
 
--- a key and a number of twenty digits have room before a place
+-- a key and a number of twenty digits have room before an offset
 abbrev pub Room : ℕ → List ℕ → Type 0
 Room end key = (length key + 20 ≤ end) × (end ≤ 128)
 
--- the key and the number n were put before a place: from r on the buffer holds them, and then what it held from the place on.
+-- the key and the number n were put before an offset: from r on the buffer holds them, and then what it held from the offset on.
 -- They are no longer than the key and twenty digits.
 pub record Field (old : List ℕ) (end : ℕ) (key : List ℕ) (n : ℕ) (new : List ℕ) (r : ℕ) : Type 0 where
   pub text : drop r new ≡ key ++ (decimal n ++ drop end old)

@@ -17,7 +17,7 @@ use protocol::Name;
 use protocol::Place;
 use spelling::Put;
 
-// A key and its number, just before a place of a line; the answer is where the key starts.
+// A key and its number, just before an offset of a line; the answer is where the key starts.
 fn field(line: &mut [u8; 128], end: usize, key: &[u8], n: u64) -> usize
     requires { ⌜ Room end (now key) ⌝ }
     ensures { λ r. ⌜ Field (now (line .entry)) end (now (key .entry)) n (now (line .exit)) r ⌝ }

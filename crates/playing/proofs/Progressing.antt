@@ -5,11 +5,13 @@ use mathlib.Core.{Path.{_≡_, refl, sym, _∙_, ap}, Bool.{Bool, true, false}, 
 use native.Mathlib.Omega.{arith}
 use lib.{Dec.eqb, ListN.{length, drop, length-append, length-take}}
 use borrow.Author.Tests.{eqb-true, le-leb}
+use Rattle.protocol.proofs.{Tests.never, Extents.inside, Refusals.{machine-fit, named, store-width, not-refused}}
 use Rattle.protocol.specs.{Pick.pick, Buffers.{Bytes, copyStart, copyBytes}, About.about, Machine.{Machine, machine}}
 use Rattle.protocol.specs.{Refusals.{openRefusal, wrongCount, refusal}, Run.{Entry, place, run}}
 use Rattle.protocol.specs.{Step.{refused, done as reply, meaning, actBytes, commitBytes, openReply, accepted, step}, Counts.{counts, sum}}
-use Rattle.protocol.specs.declared.{Place.Place, Counts.Counts, Opening.Opening as Sizes, Call.Call, Act.{Act, the-variants.{Load, Store, Fence, Advance, Transfer}}, Answer.the-variants.Done, Name.the-variants.Open, Effect.Effect}
-use Rattle.protocol.proofs.{Tests.never, Extents.inside, Refusals.{machine-fit, named, store-width, not-refused}}
+use Rattle.protocol.specs.declared.{Place.Place, Counts.Counts, Opening.Opening as Sizes, Call.Call}
+use Rattle.protocol.specs.declared.{Act.{Act, the-variants.{Load, Store, Fence, Advance, Transfer}}, Answer.the-variants.Done, Name.the-variants.Open}
+use Rattle.protocol.specs.declared.Effect.{Effect}
 use Rattle.journal.proofs.Lines.{line-read, line-inside}
 use Rattle.listing.{specs.Record.recordText, proofs.Lengths.{record-length, end-length}}
 use Rattle.driver.proofs.{Reading.known, Resuming.{resumes-again, steps-long, leads-on}, Putting.refused-length}

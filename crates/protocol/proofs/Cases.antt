@@ -13,9 +13,13 @@ use Rattle.protocol.specs.Refusals.{stateRules, stateRefusal, refusal}
 use Rattle.protocol.specs.Tables.{refusedRow, asking, loadOwned, loadShared, loadTable, storeTable, fenceTable, advanceTable, evictTable, sameVersion}
 use Rattle.protocol.specs.Tables.{leasedTo, serveLoad, serveAsked, serveTable, receiveRenew, receiveGrant, receiveTable, yieldTable, takeTable, tableOf}
 use Rattle.protocol.specs.{Tables.effectOf, Step.{refused, Outcome, accepted, step}}
-use Rattle.protocol.specs.Words.{Stamp, Copy, NoCopy, CopyShared, CopyOwned, Want, WantLoad, WantStore, Held, Slot, Empty, Asked, Answered, Manager}
-use Rattle.protocol.specs.Words.{Shared, Owned, Writeback, NoWriteback, Flight, Opening, State, Call, Load, Store, Fence, Evict, Advance, Serve, Receive}
-use Rattle.protocol.specs.Words.{Yield, Take, Effect, Name, Evicted, GrantShare, GrantRenew, GrantOwn}
+use Rattle.protocol.specs.declared.{Stamp.Stamp, Copy.{Copy, the-variants.{None as NoCopy, Shared as CopyShared, Owned as CopyOwned}}}
+use Rattle.protocol.specs.declared.{Want.{Want, the-variants.{Load as WantLoad, Store as WantStore}}, Held.Held}
+use Rattle.protocol.specs.declared.{Slot.{Slot, the-variants.{Empty, Asked, Answered}}, Manager.{Manager, the-variants.{Shared, Owned}}}
+use Rattle.protocol.specs.declared.{Writeback.{Writeback, the-variants.{None as NoWriteback, Flight}}, Opening.Opening, State.State}
+use Rattle.protocol.specs.declared.{Call.{Call, the-variants.{Load, Store, Fence, Evict, Advance, Serve, Receive, Yield, Take}}, Effect.Effect}
+use Rattle.protocol.specs.declared.Name.{Name, the-variants.Evict as Evicted}
+use Rattle.protocol.specs.declared.Grant.the-variants.{Share as GrantShare, Renew as GrantRenew, Own as GrantOwn}
 use Rattle.protocol.proofs.{Tests.{never, both-true, both-false}, Refusals.{not-true, passed, machine-fit, call-there, NotRefused, not-refused}}
 
 -- the calls that give up a shared copy, and an owned one, each with the name that it answers

@@ -5,7 +5,7 @@ use native.Mathlib.{Omega.arith, Nat.mul-le-mul}
 use lib.Dec.{leb}
 use borrow.Author.Tests.{leb-true}
 use Rattle.protocol.specs.Limits.{within, openingFits}
-use Rattle.protocol.specs.{Buffers.{privateLength, sharedLength, copyStart, managerStart, writebackStart, answerStart, There}, Words.Opening}
+use Rattle.protocol.specs.{Buffers.{privateLength, sharedLength, copyStart, managerStart, writebackStart, answerStart, There}, declared.Opening.Opening}
 use Rattle.protocol.proofs.{Tests.both-true, Bytes.row-le}
 
 -- ---- the opening

@@ -5,9 +5,10 @@ use mathlib.Core.{Path.{_≡_, refl, sym, _∙_}, Bool.{true, false}}
 use lib.ListN.{length}
 use borrow.Author.Tests.{lt-ltb, eq-eqb}
 use Rattle.protocol.specs.{Pick.first, Buffers.{Bytes, There, givenFits}, About.about, Machine.{Machine, Pieces, coreOf, lineOf, applied}}
-use Rattle.protocol.specs.Refusals.{ownerFits, slotFits, ownersFit, slotsFit, stateFits, buffersFit, machineRefusal, wrongCount}
+use Rattle.protocol.specs.{Refusals.{ownerFits, slotFits, ownersFit, slotsFit, stateFits, buffersFit, machineRefusal, wrongCount}, Step.step}
+use Rattle.protocol.specs.declared.{Core.Core, ManagerLine.ManagerLine, Opening.Opening, Call.Call, Effect.Effect}
 use Rattle.protocol.specs.Tables.{loadOwned, storeTable, fenceTable, advanceTable, evictTable, serveAsked, serveLoad, receiveGrant, receiveRenew}
-use Rattle.protocol.specs.{Tables.{yieldTable, takeTable}, Step.step, Words.{Core, ManagerLine, Opening, Call, Effect}}
+use Rattle.protocol.specs.Tables.{yieldTable, takeTable}
 use Rattle.protocol.proofs.{Scan.every-set, Moves.{length-movedPrivate, length-movedShared}}
 use Rattle.protocol.proofs.Refusals.{Fit, machine-fit, slot-inside, owner-inside, store-width, named, NotRefused}
 use Rattle.protocol.proofs.Cases.{Row, asks-load, reads-shared, reads-dirty, reads-clean, asks-store, writes, fences, advances, evicts-shared}

@@ -6,7 +6,11 @@ use lib.ListN.{length}
 use borrow.Author.Tests.{eqb-true}
 use Rattle.spelling.{specs.Over.over, proofs.OverLaws.{over-length, over-part}}
 use Rattle.protocol.specs.Buffers.{Bytes, There, part, copyBytes, managerBytes, writebackBytes, answerBytes, givenFits, movedPrivate, movedShared}
-use Rattle.protocol.specs.{Words.{Opening, Move, Still, MoveStore, MoveAnswer, MoveReceive, MoveWriteback, MoveTake}, Machine.Machine}
+use Rattle.protocol.specs.Machine.{Machine}
+use Rattle.protocol.specs.declared.Opening.{Opening}
+use Rattle.protocol.specs.declared.Move.{Move}
+use Rattle.protocol.specs.declared.Move.the-variants.{Still, Store as MoveStore, Answer as MoveAnswer, Receive as MoveReceive, Writeback as MoveWriteback}
+use Rattle.protocol.specs.declared.Move.the-variants.{Take as MoveTake}
 use Rattle.protocol.proofs.{Refusals.Fit, Bytes.{row-le, row-other, length-part, grid-row, grid-column}}
 
 -- the move leaves the answer to the core

@@ -9,8 +9,10 @@ use Rattle.protocol.specs.{Buffers.{privateLength, sharedLength, There},
 use Rattle.protocol.specs.{Machine.{Machine, Pieces, coreAt, lineAt, theCore, theLine, coreOf, lineOf, piecesAt}, Tables.refusedRow}
 use Rattle.protocol.specs.Refusals.{openRefusal, ownerFits, slotFits, ownersFit, slotsFit, stateFits, buffersFit, machineRefusal, noCore, noLine}
 use Rattle.protocol.specs.Refusals.{wrongCount, byNothing, callRules, callRefusal, stateRefusal, orElse, refusal}
-use Rattle.protocol.specs.Words.{Slot, Empty, Asked, Answered, Core, Manager, Shared, Owned, ManagerLine, Opening, Call, Who, NamedCore, Owner, Nobody}
-use Rattle.protocol.specs.Words.{Which, NamedLine, InSlot, Nothing, About, Effect, Stores}
+use Rattle.protocol.specs.declared.{Slot.{Slot, the-variants.{Empty, Asked, Answered}}, Core.Core, Manager.{Manager, the-variants.{Shared, Owned}}}
+use Rattle.protocol.specs.declared.{ManagerLine.ManagerLine, Opening.Opening, Call.Call, Who.{Who, the-variants.{Named as NamedCore, Owner, Nobody}}}
+use Rattle.protocol.specs.declared.{Which.{Which, the-variants.{Named as NamedLine, InSlot, Nothing}}, About.About, Effect.Effect}
+use Rattle.protocol.specs.declared.Act.the-variants.{Store as Stores}
 use Rattle.protocol.proofs.{Tests.{never, both-true}, Scan.every-at, Extents.{Inside, inside, there-at}}
 
 -- ---- tests and rules

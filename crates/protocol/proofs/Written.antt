@@ -4,7 +4,7 @@ use mathlib.Core.Path.{_≡_, refl, _∙_, ap}
 use native.Mathlib.Omega.{arith}
 use lib.{ListN.{length, getD, length-set, replicate, length-replicate}, Seq.{getD-set-same, getD-set-other}}
 use Rattle.protocol.specs.{Fresh.{freshCore, freshCell, freshLine, freshState}, Buffers.There, Machine.{coreAt, copyAt, lineAt, written}}
-use Rattle.protocol.specs.Words.{Cell, Opening, State, Effect, NoCopy}
+use Rattle.protocol.specs.declared.{Cell.Cell, Opening.Opening, State.State, Effect.Effect, Copy.the-variants.None as NoCopy}
 use Rattle.protocol.proofs.Bytes.{grid-row, grid-column}
 
 -- the lists are as long as the code's arrays

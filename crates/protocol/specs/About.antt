@@ -1,8 +1,11 @@
 -- What a call is about: the core, the line, and what it does to the core's clocks, read off the headings of 01's "Steps". Everything that asks
 -- which core or line a call looks at, what 3 to 6 refuse of it, or what it commits goes by this one definition.
 use Prim.Native.Nat.{ℕ}
-use Rattle.protocol.specs.Words.{Call, Load, Store, Fence, Evict, Advance, Serve, Receive, Yield, Take, Who, NamedCore, Owner, Nobody, Which, NamedLine}
-use Rattle.protocol.specs.Words.{InSlot, Nothing, Act, Loads, Stores, Fences, Advances, Transfer, About}
+use Rattle.protocol.specs.declared.Call.{Call, the-variants.{Load, Store, Fence, Evict, Advance, Serve, Receive, Yield, Take}}
+use Rattle.protocol.specs.declared.Who.{Who, the-variants.{Named as NamedCore, Owner, Nobody}}
+use Rattle.protocol.specs.declared.Which.{Which, the-variants.{Named as NamedLine, InSlot, Nothing}}
+use Rattle.protocol.specs.declared.Act.{Act, the-variants.{Load as Loads, Store as Stores, Fence as Fences, Advance as Advances, Transfer}}
+use Rattle.protocol.specs.declared.About.{About}
 
 abbrev pub concerns : Who → Which → Act → About
 concerns c l a = record { core = c; line = l; act = a }

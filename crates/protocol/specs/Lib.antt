@@ -1,4 +1,3 @@
-pub mod Words
 pub mod Pick
 pub mod Stamps
 pub mod Clock

@@ -2,9 +2,11 @@
 use Prim.Native.Nat.{ℕ, _+_, _*_}
 use lib.ListN.{getD, set, replicate}
 use Rattle.protocol.specs.{Buffers.{Bytes, privateLength, sharedLength, movedPrivate, movedShared}, Limits.mostLines, About.{about, namedLine}}
-use Rattle.protocol.specs.Fresh.{freshCore, freshCell, freshLine, freshState}
-use Rattle.protocol.specs.Words.{Copy, Slot, Empty, Asked, Answered, Core, Manager, Shared, Owned, ManagerLine, Opening, State, Call, Who, NamedCore}
-use Rattle.protocol.specs.Words.{Owner, Nobody, Which, NamedLine, InSlot, Nothing, Effect}
+use Rattle.protocol.specs.{Fresh.{freshCore, freshCell, freshLine, freshState}, declared.Copy.Copy}
+use Rattle.protocol.specs.declared.{Slot.{Slot, the-variants.{Empty, Asked, Answered}}, Core.Core}
+use Rattle.protocol.specs.declared.{Manager.{Manager, the-variants.{Shared, Owned}}, ManagerLine.ManagerLine, Opening.Opening, State.State}
+use Rattle.protocol.specs.declared.{Call.Call, Who.{Who, the-variants.{Named as NamedCore, Owner, Nobody}}}
+use Rattle.protocol.specs.declared.{Which.{Which, the-variants.{Named as NamedLine, InSlot, Nothing}}, Effect.Effect}
 
 -- a state and the two buffers
 pub record Machine : Type 0 where

@@ -4,10 +4,18 @@ use mathlib.Core.{Bool.{Bool, true, false}, List.{List, [], _∷_}}
 use lib.{Dec.{ltb, leb, eqb}, ListN.{length, take}}
 use Rattle.protocol.specs.{Pick.{pick, both, fails, every, Rule, first, _gives_}, Stamps.{earlier, canAdd}, Limits.openingFits}
 use Rattle.protocol.specs.{Buffers.{privateLength, sharedLength}, About.about, Machine.{Machine, Pieces, piecesAt, coreOf, lineOf}}
-use Rattle.protocol.specs.Words.{Stamp, Copy, NoCopy, CopyShared, CopyOwned, WantLoad, WantStore, Slot, Empty, Asked, Answered, Core, Manager, Shared}
-use Rattle.protocol.specs.Words.{Owned, Recall, NoRecall, Downgrade, Flush, Writeback, NoWriteback, Flight, ManagerLine, Opening, State, Call, Load}
-use Rattle.protocol.specs.Words.{Store, Fence, Evict, Advance, Serve, Receive, Yield, Take, Who, NamedCore, Owner, Nobody, Which, NamedLine, InSlot}
-use Rattle.protocol.specs.Words.{Nothing, Act, Loads, Stores, Fences, Advances, Transfer, About}
+use Rattle.protocol.specs.declared.{Stamp.Stamp, Copy.{Copy, the-variants.{None as NoCopy, Shared as CopyShared, Owned as CopyOwned}}}
+use Rattle.protocol.specs.declared.Want.the-variants.{Load as WantLoad, Store as WantStore}
+use Rattle.protocol.specs.declared.{Slot.{Slot, the-variants.{Empty, Asked, Answered}}, Core.Core}
+use Rattle.protocol.specs.declared.Manager.{Manager, the-variants.{Shared, Owned}}
+use Rattle.protocol.specs.declared.Recall.{Recall, the-variants.{None as NoRecall, Downgrade, Flush}}
+use Rattle.protocol.specs.declared.{Writeback.{Writeback, the-variants.{None as NoWriteback, Flight}}, ManagerLine.ManagerLine}
+use Rattle.protocol.specs.declared.{Opening.Opening, State.State}
+use Rattle.protocol.specs.declared.Call.{Call, the-variants.{Load, Store, Fence, Evict, Advance, Serve, Receive, Yield, Take}}
+use Rattle.protocol.specs.declared.Who.{Who, the-variants.{Named as NamedCore, Owner, Nobody}}
+use Rattle.protocol.specs.declared.Which.{Which, the-variants.{Named as NamedLine, InSlot, Nothing}}
+use Rattle.protocol.specs.declared.Act.{Act, the-variants.{Load as Loads, Store as Stores, Fence as Fences, Advance as Advances, Transfer}}
+use Rattle.protocol.specs.declared.About.{About}
 
 -- ---- Refused because of the input
 

@@ -2,8 +2,8 @@
 use Prim.Native.Nat.{ℕ, suc}
 use mathlib.Core.List.{List, [], _∷_, _++_}
 use Rattle.protocol.specs.{Buffers.Bytes, About.{about, namedCore, namedLine}, Machine.Machine}
-use Rattle.protocol.specs.Step.{Op, load, store, fence, Reply, refused, done, commit, step}
-use Rattle.protocol.specs.Words.{Stamp, Place, Call, Act, Loads, Stores, Fences, Advances, Transfer}
+use Rattle.protocol.specs.{Step.{Op, load, store, fence, Reply, refused, done, commit, step}, declared.{Stamp.Stamp, Place.Place, Call.Call}}
+use Rattle.protocol.specs.declared.Act.{Act, the-variants.{Load as Loads, Store as Stores, Fence as Fences, Advance as Advances, Transfer}}
 
 -- a call of a list, with the bytes given to it (a store's; any other call passes over them)
 pub record Entry : Type 0 where

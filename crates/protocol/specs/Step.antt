@@ -4,9 +4,12 @@ use Prim.Native.Nat.{ℕ, _+_}
 use lib.{Dec.eqb, ListN.length}
 use Rattle.protocol.specs.{Pick.pick, Fresh.{freshState, smallest}, Buffers.{Bytes, copyStart, managerStart, copyBytes}, About.about}
 use Rattle.protocol.specs.Machine.{Machine, piecesAt, copyAt, coreOf, lineOf, applied}
-use Rattle.protocol.specs.{Refusals.{openRefusal, machineRefusal, callRefusal, refusal, orElse, isHeld}, Tables.tableOf}
-use Rattle.protocol.specs.Words.{Stamp, Opening, State, Call, Load, Act, Loads, Stores, Fences, Advances, Transfer, Name, Open, Kind, OfLoad, OfStore}
-use Rattle.protocol.specs.Words.{OfFence, Answer, Refused, Done, Commit, Effect}
+use Rattle.protocol.specs.{Refusals.{openRefusal, machineRefusal, callRefusal, refusal, orElse, isHeld}, Tables.tableOf, declared.Stamp.Stamp}
+use Rattle.protocol.specs.declared.{Opening.Opening, State.State, Call.{Call, the-variants.Load}}
+use Rattle.protocol.specs.declared.Act.{Act, the-variants.{Load as Loads, Store as Stores, Fence as Fences, Advance as Advances, Transfer}}
+use Rattle.protocol.specs.declared.Name.{Name, the-variants.Open}
+use Rattle.protocol.specs.declared.Kind.{Kind, the-variants.{Load as OfLoad, Store as OfStore, Fence as OfFence}}
+use Rattle.protocol.specs.declared.{Answer.{Answer, the-variants.{Refused, Done, Commit}}, Effect.Effect}
 
 -- ---- answers
 

@@ -4,13 +4,23 @@ use Prim.Native.Nat.{ℕ, _+_}
 use mathlib.Core.Bool.{Bool, true, false}
 use lib.Dec.{eqb}
 use Rattle.protocol.specs.{Pick.pick, Stamps.{plus, atMost, same, later}, Clock.{loaded, storeTime, stored, fenced, advanced}, Machine.Pieces}
-use Rattle.protocol.specs.Refusals.{stateRefusal}
-use Rattle.protocol.specs.Words.{Stamp, Clocks, Copy, NoCopy, CopyShared, CopyOwned, Want, WantLoad, WantStore, Held, NothingHeld, Version, Grant}
-use Rattle.protocol.specs.Words.{GrantShare, GrantRenew, GrantOwn, Slot, Empty, Asked, Answered, Core, Manager, Shared, Owned, Recall, NoRecall}
-use Rattle.protocol.specs.Words.{Downgrade, Flush, Writeback, NoWriteback, Flight, ManagerLine, Opening, Call, Load, Store, Fence, Evict, Advance, Serve}
-use Rattle.protocol.specs.Words.{Receive, Yield, Take, Answer, Refused, Done, Commit, Name, Ask, RecallSent, Share, Renew, Own, Drop, Evicted, Advanced}
-use Rattle.protocol.specs.Words.{Yielded, Taken, OfLoad, OfStore, OfFence, Move, Still, MoveStore, MoveAnswer, MoveReceive, MoveWriteback, MoveTake}
-use Rattle.protocol.specs.Words.{Effect}
+use Rattle.protocol.specs.{Refusals.stateRefusal, declared.{Stamp.Stamp, Clocks.Clocks}}
+use Rattle.protocol.specs.declared.Copy.{Copy, the-variants.{None as NoCopy, Shared as CopyShared, Owned as CopyOwned}}
+use Rattle.protocol.specs.declared.Want.{Want, the-variants.{Load as WantLoad, Store as WantStore}}
+use Rattle.protocol.specs.declared.Held.{Held, the-variants.{None as NothingHeld, Version}}
+use Rattle.protocol.specs.declared.Grant.{Grant, the-variants.{Share as GrantShare, Renew as GrantRenew, Own as GrantOwn}}
+use Rattle.protocol.specs.declared.{Slot.{Slot, the-variants.{Empty, Asked, Answered}}, Core.Core}
+use Rattle.protocol.specs.declared.Manager.{Manager, the-variants.{Shared, Owned}}
+use Rattle.protocol.specs.declared.Recall.{Recall, the-variants.{None as NoRecall, Downgrade, Flush}}
+use Rattle.protocol.specs.declared.{Writeback.{Writeback, the-variants.{None as NoWriteback, Flight}}, ManagerLine.ManagerLine}
+use Rattle.protocol.specs.declared.Opening.{Opening}
+use Rattle.protocol.specs.declared.Call.{Call, the-variants.{Load, Store, Fence, Evict, Advance, Serve, Receive, Yield, Take}}
+use Rattle.protocol.specs.declared.Answer.{Answer, the-variants.{Refused, Done, Commit}}
+use Rattle.protocol.specs.declared.Name.{Name, the-variants.{Ask, Recall as RecallSent, Share, Renew, Own, Drop, Evict as Evicted}}
+use Rattle.protocol.specs.declared.Name.the-variants.{Advance as Advanced, Yield as Yielded, Take as Taken}
+use Rattle.protocol.specs.declared.Kind.the-variants.{Load as OfLoad, Store as OfStore, Fence as OfFence}
+use Rattle.protocol.specs.declared.Move.{Move, the-variants.{Still, Store as MoveStore, Answer as MoveAnswer, Receive as MoveReceive}}
+use Rattle.protocol.specs.declared.{Move.the-variants.{Writeback as MoveWriteback, Take as MoveTake}, Effect.Effect}
 
 -- an answer, the bytes that move, and the pieces after the step
 abbrev pub row : Answer → Move → Core → Copy → ManagerLine → Effect

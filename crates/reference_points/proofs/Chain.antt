@@ -1,4 +1,4 @@
--- The chain is there: each call returns what its entry says, by computing `step`.
+-- The chain is there: each call returns what is expected of it, by computing `step`.
 use mathlib.Core.Path.{refl}
 use Rattle.protocol.specs.Run.{commits}
 use Rattle.engine.specs.History.{none, next, recordsOf}

@@ -3,7 +3,7 @@ use Prim.Native.Nat.{ℕ}
 use mathlib.Core.{Path.{_≡_, refl, subst}, List.List}
 use Rattle.spelling.{specs.{Bytes.upTo, Decimal.{decimal, decimalUpTo}, Hex.hex}, proofs.{DecimalLaws.value, HexLaws.unhex}}
 use Rattle.grammar.{specs.{Table.rowsOf, Line.LineOf, declared.Line.Line}, proofs.OneAnswer.one-answer}
-use Rattle.reference_points.specs.Lines.{Spoken, spoken, Says, lines, LinesTheorem}
+use Rattle.reference_points.specs.Lines.{Spoken, spoken, Says, spokenLines, LinesTheorem}
 use Rattle.reference_points.proofs.Each.{each}
 
 -- the answer of a line
@@ -27,4 +27,4 @@ holds (spoken form s a) e = says form s e
 
 pub lines-theorem : LinesTheorem
 unfolding answer
-lines-theorem = each found told holds lines refl
+lines-theorem = each found told holds spokenLines refl

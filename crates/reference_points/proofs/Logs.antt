@@ -3,7 +3,7 @@ use Prim.Native.Nat.{ℕ}
 use mathlib.Core.{Path.{_≡_, refl, subst, ap, ap₂}, Bool.{true, false}, Logic.{_⊎_, Dec·and, Dec·not}}
 use native.Mathlib.{Omega.arith, Decide.{ℕ-discrete, decLt}}
 use Rattle.protocol.specs.{Step.{Op, load, store, fence}, Run.Commit, Order.{In, Before, Earlier, TsoKeeps, Stores, MaySee, LastWrite, TSO}}
-use Rattle.reference_points.specs.{Commits.made as at, Logs.{Log, obeying, disobeying, TsoTheorem, NotTsoTheorem}}
+use Rattle.reference_points.specs.{Commits.aCommit as at, Logs.{Log, obeying, disobeying, TsoTheorem, NotTsoTheorem}}
 use Rattle.reference_points.proofs.{Each.each, Decides.{holds, from-yes, from-no, reworded, dec-or, dec-if, dec-every, dec-some}}
 
 -- ---- commits

@@ -6,7 +6,7 @@ use Rattle.protocol.specs.{Stamps.stamp, Fresh.smallest, Buffers.Bytes, Machine
 use Rattle.protocol.specs.declared.{Call.{Call, the-variants.{Load, Fence, Take}}, Answer.{Answer, the-variants.{Refused, Done, Commit as Committed}}}
 use Rattle.protocol.specs.declared.{Kind.the-variants.Fence as OfFence, Name.the-variants.Ask}
 use Rattle.engine.specs.History.{Made, MadeFrom, history}
-use Rattle.reference_points.specs.Commits.{made}
+use Rattle.reference_points.specs.Commits.{aCommit}
 
 -- a call, the bytes given to it, what it answers, and where the bytes of its commit lie: so many from a start in the private buffer
 pub data Expected : Type 0 where
@@ -31,7 +31,7 @@ calls = expected (Fence 0) [] (Committed 0 (stamp 0) OfFence) 0 0 ∷ expected (
 
 -- "Commits come from load, store and fence only."
 abbrev pub callCommits : List (Commit Bytes)
-callCommits = made 1 0 0 fence ∷ []
+callCommits = aCommit 1 0 0 fence ∷ []
 
 -- these calls make a chain, from the fresh engine on, and these are its commits
 pub record ChainTheorem : Type 0 where

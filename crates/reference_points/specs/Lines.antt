@@ -16,8 +16,8 @@ pub data Spoken : Type 0 where
 abbrev pub Says : Spoken → Type 0
 Says (spoken form s a) = LineOf (rowsOf form) s a
 
-abbrev pub lines : List Spoken
-lines =
+abbrev pub spokenLines : List Spoken
+spokenLines =
     -- "First line `fabric=1 cores=N lines=N width=N lease=N`, then one step a line, single blanks: `op=` load, evict: `core=N line=N`; store:
     -- `core=N line=N data=H`; fence, serve, receive: `core=N`; advance: `core=N by=N`; yield, take: `line=N`."
     spoken 0 (text "fabric=1 cores=2 lines=3 width=4 lease=5") (Opening 1 (opening 2 3 4 5))
@@ -65,4 +65,4 @@ lines =
     ∷ []
 
 abbrev pub LinesTheorem : Type 0
-LinesTheorem = Each Says lines
+LinesTheorem = Each Says spokenLines

@@ -4,7 +4,7 @@
 use Prim.Native.Nat.{ℕ}
 use mathlib.Core.List.{List, [], _∷_}
 use Rattle.protocol.specs.{Step.{Op, load, store, fence}, Run.Commit, Order.TSO}
-use Rattle.reference_points.specs.{Rows.Each, Commits.made as at}
+use Rattle.reference_points.specs.{Rows.Each, Commits.aCommit as at}
 
 abbrev pub Log : Type 0
 Log = List (Commit ℕ)
@@ -37,7 +37,7 @@ disobeying =
     -- a read that misses its own core's store, which is sorted after it; and one that takes an earlier store for it
     ∷ (at 1 0 5 (store 0 1) ∷ at 2 0 3 (load 0 0) ∷ [])
     ∷ (at 1 1 1 (store 0 1) ∷ at 2 0 5 (store 0 2) ∷ at 3 0 3 (load 0 1) ∷ [])
-    -- zeros where a store stands; another value than zeros where none stands
+    -- zeros where there is a store; another value than zeros where there is none
     ∷ (at 1 0 1 (store 0 1) ∷ at 2 1 2 (load 0 0) ∷ [])
     ∷ (at 1 0 1 (load 0 1) ∷ [])
     -- ties by place: at one timestamp the store made earlier precedes, whatever the cores are, and the store made later does not

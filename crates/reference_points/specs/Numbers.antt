@@ -36,8 +36,8 @@ abbrev pub cause : ℕ → Pieces → Call → Refusal
 cause n p call = refusal n (usual p) call given
 
 -- a store of too few or too many bytes
-abbrev pub storing : ℕ → Pieces → ℕ → ℕ → Bytes → Refusal
-storing n p c l bs = refusal n (usual p) (Store c l) bs
+abbrev pub storeOf : ℕ → Pieces → ℕ → ℕ → Bytes → Refusal
+storeOf n p c l bs = refusal n (usual p) (Store c l) bs
 
 -- nothing asked and no copy; a request under way, asked or answered, and no copy
 abbrev pub idle : Pieces
@@ -69,7 +69,7 @@ causes =
     ∷ cause 3 idle (Load 3 4)
     ∷ cause 3 idle (Store 3 4)
     ∷ cause 3 idle (Evict 3 4)
-    ∷ storing 3 idle 3 2 (counting 4 200)
+    ∷ storeOf 3 idle 3 2 (counting 4 200)
     ∷ cause 3 idle (Advance 3 0)
     -- 4 line ≥ lines. Lines 4 and 5 would be refused for what they hold too: with 20, 20, 26, 23, 24, 25
     ∷ cause 4 waiting (Load 1 5)
@@ -80,13 +80,13 @@ causes =
     ∷ cause 4 idle (Take 4)
     -- 4 and 27 of a store; 4 and 5
     ∷ cause 4 idle (Store 1 4)
-    ∷ storing 4 idle 1 4 (counting 4 200)
+    ∷ storeOf 4 idle 1 4 (counting 4 200)
     -- 5 store bytes not width in count; 5 and 20; 5 and 27
-    ∷ storing 5 idle 1 2 []
-    ∷ storing 5 idle 1 2 (counting 4 200)
-    ∷ storing 5 idle 1 2 (counting 6 200)
-    ∷ storing 5 waiting 1 2 (counting 4 200)
-    ∷ storing 5 full 1 2 (counting 6 200)
+    ∷ storeOf 5 idle 1 2 []
+    ∷ storeOf 5 idle 1 2 (counting 4 200)
+    ∷ storeOf 5 idle 1 2 (counting 6 200)
+    ∷ storeOf 5 waiting 1 2 (counting 4 200)
+    ∷ storeOf 5 full 1 2 (counting 6 200)
     -- 6 advance by 0
     ∷ cause 6 idle (Advance 1 0)
     ∷ cause 6 (pieces (core greatest 9 Empty) NoCopy (sharedLine 4 9)) (Advance 1 0)
@@ -145,15 +145,15 @@ sooner n change (refusal k m call bs) = refusal n (change m) call bs
 -- ---- 1 and 2
 
 -- a fence of core 0, which nothing but 1 and 2 refuses here
-abbrev pub fencing : ℕ → Machine → Refusal
-fencing n m = refusal n m (Fence 0) []
+abbrev pub fenceOn : ℕ → Machine → Refusal
+fenceOn n m = refusal n m (Fence 0) []
 
 -- on the machine of the rows with another state, or with other buffers
 abbrev pub unfit : State → Refusal
-unfit s = fencing 1 (machine s (private unmoved) (shared unmoved))
+unfit s = fenceOn 1 (machine s (private unmoved) (shared unmoved))
 
 abbrev pub mislaid : Bytes → Bytes → Refusal
-mislaid p q = fencing 2 (machine (usual idle .state) p q)
+mislaid p q = fenceOn 2 (machine (usual idle .state) p q)
 
 -- openings with one value outside the limits
 abbrev pub opening : ℕ → ℕ → ℕ → ℕ → Opening
@@ -166,7 +166,7 @@ outside =
 abbrev pub machineRows : List Refusal
 machineRows =
     -- 1 "state .. with an owner ≥ cores, or a slot's line ≥ lines"
-    fencing 1 (misowned (usual idle))
+    fenceOn 1 (misowned (usual idle))
     ∷ unfit (withLine 0 (ownedLine 3 NoRecall) (usual idle .state))
     ∷ unfit (withCore 2 (core 7 9 (Asked WantLoad 4 (stamp 7) NothingHeld)) (usual idle .state))
     ∷ unfit (withCore 0 (core 7 9 (Answered GrantShare 4 (stamp 4) (stamp 9))) (usual idle .state))
@@ -180,7 +180,7 @@ machineRows =
     ∷ sooner 1 misowned (mislaid (drop 1 (private unmoved)) (shared unmoved))
     ∷ sooner 1 misowned (mislaid (private unmoved) (9 ∷ shared unmoved))
     -- 1 "state whose sizes or lease lie outside the limits"
-    ∷ map (λ o. fencing 1 (freshMachine o)) outside
+    ∷ map (λ o. fenceOn 1 (freshMachine o)) outside
 
 -- ---- the theorems
 

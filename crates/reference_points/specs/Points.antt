@@ -9,7 +9,7 @@ use Rattle.protocol.specs.declared.{Name.the-variants.Share as share, Want.the-
 use Rattle.protocol.specs.declared.{Held.the-variants.{None as NothingHeld, Version}, Recall.the-variants.None as NoRecall}
 use Rattle.protocol.specs.declared.Call.the-variants.{Load, Serve}
 use Rattle.reference_points.specs.Rows.{core, asked, answered, askedElsewhere, sharedCopy, cleanCopy, dirtyCopy, sharedLine, ownedLine, pieces}
-use Rattle.reference_points.specs.{Rows.{busy, greatest, unmoved, Row, row, AllHold}, Steps.{asking, loading, storing, fencingOver, withBytes}}
+use Rattle.reference_points.specs.{Rows.{busy, greatest, unmoved, Row, row, AllHold}, Steps.{asking, loadingOver, storing, fencingOver, withBytes}}
 
 -- a store to an owned line, not dirty: lts, sts and rts before it, and its ts
 abbrev pub storeRow : ℕ → ℕ → ℕ → ℕ → Row
@@ -17,7 +17,7 @@ storeRow lts sts rts ts = storing askedElsewhere (busy (ownedLine 1 NoRecall)) l
 
 -- a load that commits: the line at the manager, lts and the copy before it, its ts, and the copy after it
 abbrev pub loadRow : ManagerLine → ℕ → Copy → ℕ → Copy → Row
-loadRow m lts x ts y = loading askedElsewhere (busy m) lts 40 x ts y
+loadRow m lts x ts y = loadingOver 40 askedElsewhere (busy m) lts x ts y
 
 -- a load asked at `lts` by a core that holds nothing, of a shared line with wts 0 and this rts; and the same when it is served
 abbrev pub loadAsked : ℕ → ℕ → Pieces

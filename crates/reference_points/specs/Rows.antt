@@ -152,10 +152,10 @@ pub data Row : Type 0 where
 
 -- what `step` gives on a row's machine, and what the row says: the answer, the whole state and both buffers
 abbrev pub got : Row → Outcome
-got (row lease p call a q b) = step (machineOf lease p unmoved) call given
+got (row lease before call reply after bytes) = step (machineOf lease before unmoved) call given
 
 abbrev pub told : Row → Outcome
-told (row lease p call a q b) = record { reply = a; machine = machineOf lease q b }
+told (row lease before call reply after bytes) = record { reply = reply; machine = machineOf lease after bytes }
 
 -- P holds of each entry of a list
 abbrev pub Each : {A : Type 0} → (A → Type 0) → List A → Type 0

@@ -3,13 +3,14 @@
 use Prim.Native.Nat.{ℕ}
 use mathlib.Core.{Path._≡_, List.{List, [], _∷_, _++_, map}}
 use Rattle.protocol.specs.{Stamps.stamp, Machine.{machine, Pieces}, Step.{done, commit, load, store, fence, Outcome, step}}
-use Rattle.protocol.specs.declared.Name.{Name}
-use Rattle.protocol.specs.declared.Name.the-variants.{Ask as ask, Recall as recall, Share as share, Renew as renew, Own as own, Drop as dropped, Evict as evict, Advance as advance, Yield as yield, Take as taken}
 use Rattle.protocol.specs.declared.{Copy.{Copy, the-variants.None as NoCopy}, Want.{Want, the-variants.{Load as WantLoad, Store as WantStore}}}
 use Rattle.protocol.specs.declared.Held.{Held, the-variants.{None as NothingHeld, Version}}
 use Rattle.protocol.specs.declared.{Grant.the-variants.{Share as GrantShare, Renew as GrantRenew, Own as GrantOwn}, Slot.{Slot, the-variants.{Empty, Answered}}}
 use Rattle.protocol.specs.declared.{Recall.{Recall, the-variants.{None as NoRecall, Downgrade, Flush}}, ManagerLine.ManagerLine, State.State}
 use Rattle.protocol.specs.declared.Call.{Call, the-variants.{Load, Store, Fence, Evict, Advance, Serve, Receive, Yield, Take}}
+use Rattle.protocol.specs.declared.Name.{Name}
+use Rattle.protocol.specs.declared.Name.the-variants.{Ask as ask, Recall as recall, Share as share, Renew as renew, Own as own, Drop as dropped, Evict as evict}
+use Rattle.protocol.specs.declared.Name.the-variants.{Advance as advance, Yield as yield, Take as taken}
 use Rattle.reference_points.specs.Rows.{core, asked, answered, askedElsewhere, answeredElsewhere, sharedCopy, cleanCopy, dirtyCopy, pieces, sharedLine}
 use Rattle.reference_points.specs.Rows.{ownedLine, withRecall, withWriteback, busy, greatest, Row, row, AllHold, Places, places, copyBytes, managerBytes}
 use Rattle.reference_points.specs.Rows.{writebackBytes, answerBytes, unmoved, given, counting, private, shared, stateOf, withCore, withLine}
@@ -18,7 +19,7 @@ use Rattle.reference_points.specs.Rows.{writebackBytes, answerBytes, unm
 abbrev pub doing : Pieces → Call → Name → Pieces → Places → Row
 doing p call d q b = row 10 p call (done d) q b
 
--- rows of a step that leaves the clocks, as they stand and with other clocks
+-- rows of a step that leaves the clocks, as they are and with other clocks
 abbrev pub withClocks : ℕ → ℕ → Pieces → Pieces
 withClocks lts sts p = pieces (core lts sts (p .core .slot)) (p .copy) (p .line)
 
@@ -48,25 +49,28 @@ askRows =
     ∷ asking 12 (Store 1 2) WantStore (sharedCopy 4 greatest) (Version (stamp 4)) (sharedLine 4 greatest)
     ∷ []
 
--- a load that commits: the slot and the manager's line, which stay; lts, sts and the copy before it, its ts, and the copy after it
-abbrev pub loading : Slot → ManagerLine → ℕ → ℕ → Copy → ℕ → Copy → Row
-loading s m lts sts x ts y =
+-- a load that commits: sts, the slot and the manager's line, which stay; lts and the copy before it, its ts, and the copy after it
+abbrev pub loadingOver : ℕ → Slot → ManagerLine → ℕ → Copy → ℕ → Copy → Row
+loadingOver sts s m lts x ts y =
     row 10 (pieces (core lts sts s) x m) (Load 1 2) (commit 1 (stamp ts) (load 2 copyBytes)) (pieces (core ts sts s) y m) unmoved
+
+abbrev pub loading : Slot → ManagerLine → ℕ → Copy → ℕ → Copy → Row
+loading = loadingOver 1
 
 abbrev pub loadRows : List Row
 loadRows =
     -- "owned, dirty: commit at lts; copy's rts becomes max(rts, lts)"
-    loading Empty (ownedLine 1 NoRecall) 15 1 (dirtyCopy 11 11) 15 (dirtyCopy 11 15)
-    ∷ loading answeredElsewhere (busy (ownedLine 1 NoRecall)) 12 1 (dirtyCopy 11 13) 12 (dirtyCopy 11 13)
-    ∷ loading askedElsewhere (ownedLine 1 Flush) 7 1 (dirtyCopy 6 greatest) 7 (dirtyCopy 6 greatest)
+    loading Empty (ownedLine 1 NoRecall) 15 (dirtyCopy 11 11) 15 (dirtyCopy 11 15)
+    ∷ loading answeredElsewhere (busy (ownedLine 1 NoRecall)) 12 (dirtyCopy 11 13) 12 (dirtyCopy 11 13)
+    ∷ loading askedElsewhere (ownedLine 1 Flush) 7 (dirtyCopy 6 greatest) 7 (dirtyCopy 6 greatest)
     -- "owned, not dirty: lts becomes max(lts, wts), commit there; rts becomes max(rts, lts)"
-    ∷ loading Empty (ownedLine 1 NoRecall) 2 1 (cleanCopy 3 7) 3 (cleanCopy 3 7)
-    ∷ loading answeredElsewhere (busy (ownedLine 1 NoRecall)) 2 1 (cleanCopy 8 7) 8 (cleanCopy 8 8)
-    ∷ loading askedElsewhere (ownedLine 1 Flush) greatest 1 (cleanCopy 3 7) greatest (cleanCopy 3 greatest)
+    ∷ loading Empty (ownedLine 1 NoRecall) 2 (cleanCopy 3 7) 3 (cleanCopy 3 7)
+    ∷ loading answeredElsewhere (busy (ownedLine 1 NoRecall)) 2 (cleanCopy 8 7) 8 (cleanCopy 8 8)
+    ∷ loading askedElsewhere (ownedLine 1 Flush) greatest (cleanCopy 3 7) greatest (cleanCopy 3 greatest)
     -- "shared, lts ≤ rts: lts becomes max(lts, wts), commit there"; this line asked for to store to it, or answered
-    ∷ loading Empty (sharedLine 4 9) 7 1 (sharedCopy 4 9) 7 (sharedCopy 4 9)
-    ∷ loading (asked WantStore 3 (Version (stamp 4))) (busy (ownedLine 0 NoRecall)) 9 1 (sharedCopy 4 9) 9 (sharedCopy 4 9)
-    ∷ loading (answered GrantOwn 4 20) (ownedLine 1 Flush) 3 1 (sharedCopy 4 9) 4 (sharedCopy 4 9)
+    ∷ loading Empty (sharedLine 4 9) 7 (sharedCopy 4 9) 7 (sharedCopy 4 9)
+    ∷ loading (asked WantStore 3 (Version (stamp 4))) (busy (ownedLine 0 NoRecall)) 9 (sharedCopy 4 9) 9 (sharedCopy 4 9)
+    ∷ loading (answered GrantOwn 4 20) (ownedLine 1 Flush) 3 (sharedCopy 4 9) 4 (sharedCopy 4 9)
     ∷ []
 
 -- a store that commits: the slot and the manager's line, which stay; lts, sts and the copy before it, and its ts
@@ -82,7 +86,7 @@ storeRows =
     ∷ storing askedElsewhere (ownedLine 1 Flush) 7 9 (dirtyCopy 6 6) 9
     ∷ storing answeredElsewhere (busy (ownedLine 1 NoRecall)) 12 9 (cleanCopy 6 8) 12
     ∷ storing (answered GrantRenew 4 15) (busy (ownedLine 1 NoRecall)) 7 9 (cleanCopy 6 20) 21
-    -- up to the greatest timestamp: rts + 1 reaches it; lts stands there; sts does
+    -- up to the greatest timestamp: rts + 1 reaches it; lts is there; sts is
     ∷ storing Empty (ownedLine 1 NoRecall) 7 9 (cleanCopy 6 4294967294) greatest
     ∷ storing Empty (ownedLine 1 NoRecall) greatest 9 (dirtyCopy 6 8) greatest
     ∷ storing Empty (ownedLine 1 NoRecall) 7 greatest (dirtyCopy 6 8) greatest

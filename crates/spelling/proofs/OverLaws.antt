@@ -3,12 +3,12 @@ use Prim.Native.Nat.{ℕ, suc, _+_, _*_, _/_, _%_, _≤_, _<_, _-_}
 use mathlib.Core.{Path.{_≡_, refl, sym, _∙_, ap, ap₂, subst}, Bool.{Bool, true, false, cond, not}, List.{List, [], _∷_, _++_, append-assoc, append-nil}}
 use native.Mathlib.{Omega.arith, Nat.add-zero, Numerals.add-one}
 use lib.ListN.{length, getD, take, drop, set, length-append, length-take, length-drop, take-append-drop}
-use lib.Seq.{set-split, take-at, drop-at, take-length, length-take-le, take-append-le, drop-append-le, drop-append-seam, paste, paste-suc}
-use lib.{Seq.drop-drop, Dec.leb}
-use Rattle.spelling.specs.{Over.{hasRoom, over, twentyBefore, PutAt, PutBefore}, Decimal.decimal}
-use Rattle.spelling.specs.{declared.Put.{Put, the-variants.{End, Short}}, Hex.{hex, digit, nibble}}
+use lib.{Seq.{set-split, take-at, drop-at, take-length, length-take-le, take-append-le, drop-append-le, drop-append-seam, paste, paste-suc, drop-drop}, Dec.leb}
+use Rattle.spelling.specs.{Over.{hasRoom, over, twentyBefore, PutAt, PutBefore}, Decimal.decimal, declared.Put.{Put, the-variants.{End, Short}}}
+use Rattle.spelling.specs.Hex.{hex, digit, nibble}
 use borrow.Author.Tests.{le-leb, lt-leb, leb-true, leb-false, not-true, not-false}
-use Rattle.spelling.proofs.{DecimalLaws.{widest, decimal-step, decimal-digit, decimal-nonempty, decimal-short}, HexLaws.{unhex, unhex-at, hex-at, hex-length}}
+use Rattle.spelling.proofs.DecimalLaws.{widest, decimal-step, decimal-digit, decimal-nonempty, decimal-short}
+use Rattle.spelling.proofs.HexLaws.{unhex, unhex-at, hex-at, hex-length}
 
 pub over-none : (old : List ℕ) (at : ℕ) → old ≡ over old at []
 over-none old at = sym (take-append-drop at old) ∙ ap (λ (k : ℕ). take at old ++ drop k old) (sym (add-zero at))
@@ -135,24 +135,24 @@ pub record Digits (old : List ℕ) (end n : ℕ) (l : List ℕ) (k m : ℕ) : Ty
   pub twenty : 20 ≤ end
   pub within : end ≤ length old
   pub small : m ≤ widest
-  pub place : k + length digits ≡ end
+  pub ends : k + length digits ≡ end
   pub all : decimal n ≡ decimal m ++ digits
   pub laid : l ≡ over old k digits
 
 pub digits-start : (old : List ℕ) (end n : ℕ) → 20 ≤ end → end ≤ length old → n ≤ widest → Digits old end n old end n
 digits-start old end n t w h =
-    record { digits = []; twenty = t; within = w; small = h; place = omega arith; all = sym (append-nil (decimal n)); laid = over-none old end }
+    record { digits = []; twenty = t; within = w; small = h; ends = omega arith; all = sym (append-nil (decimal n)); laid = over-none old end }
 
 module _ (old : List ℕ) (end n : ℕ) (l : List ℕ) (k m : ℕ) (d : Digits old end n l k m) where
   -- there is room for one digit more
   pub digits-room : (0 < k) × (k ≤ end) × (length l ≡ length old)
   digits-room =
       let w : length (decimal n) ≡ length (decimal m) + length (d .digits) = ap length (d .all) ∙ length-append (decimal m) (d .digits) in
-      (omega (arith, d .twenty, d .place, decimal-short n, decimal-nonempty m (d .small)), omega (arith, d .place), ap length (d .laid) ∙ over-length old k (d .digits) (omega (arith, d .place, d .within)))
+      (omega (arith, d .twenty, d .ends, decimal-short n, decimal-nonempty m (d .small)), omega (arith, d .ends), ap length (d .laid) ∙ over-length old k (d .digits) (omega (arith, d .ends, d .within)))
 
   put-digit : set l (k - 1) (48 + m % 10) ≡ over old (k - 1) ((48 + m % 10) ∷ d .digits)
   put-digit =
-      ap (λ (x : List ℕ). set x (k - 1) (48 + m % 10)) (d .laid) ∙ over-before old k (d .digits) (48 + m % 10) (digits-room .0) (omega (arith, d .place, d .within))
+      ap (λ (x : List ℕ). set x (k - 1) (48 + m % 10)) (d .laid) ∙ over-before old k (d .digits) (48 + m % 10) (digits-room .0) (omega (arith, d .ends, d .within))
 
   pub digits-next : 10 ≤ m → Digits old end n (set l (k - 1) (48 + m % 10)) (k - 1) (m / 10)
   digits-next h =
@@ -161,7 +161,7 @@ module _ (old : List ℕ) (end n : ℕ) (l : List ℕ) (k m : ℕ) (d : Digits o
         twenty = d .twenty;
         within = d .within;
         small = omega (arith, d .small);
-        place = omega (arith, d .place, digits-room .0);
+        ends = omega (arith, d .ends, digits-room .0);
         all = d .all ∙ ap (λ (x : List ℕ). x ++ d .digits) (decimal-step m h (d .small)) ∙ append-assoc (decimal (m / 10)) ((48 + m % 10) ∷ []) (d .digits);
         laid = put-digit;
       }
@@ -170,14 +170,14 @@ module _ (old : List ℕ) (end n : ℕ) (l : List ℕ) (k m : ℕ) (d : Digits o
   digits-last h =
       let e : m % 10 ≡ m = omega arith in
       let whole : (48 + m % 10) ∷ d .digits ≡ decimal n = ap (λ (j : ℕ). (48 + j) ∷ d .digits) e ∙ ap (λ (x : List ℕ). x ++ d .digits) (sym (decimal-digit m h)) ∙ sym (d .all) in
-      let start : k - 1 ≡ end - length (decimal n) = omega (arith, d .place, digits-room .0, ap length whole) in
+      let start : k - 1 ≡ end - length (decimal n) = omega (arith, d .ends, digits-room .0, ap length whole) in
       let room = twenty-yes (length old) end (d .twenty) (d .within) in
       record { answer = rw room start; bytes = rw room (put-digit ∙ ap₂ (over old) start whole) }
 
 -- what a number that was put before an offset leaves
 module _ (old : List ℕ) (end n : ℕ) (new : List ℕ) (r : ℕ) (p : PutBefore old end (decimal n) new r) (t : 20 ≤ end) (w : end ≤ length old) where
-  pub before-place : r + length (decimal n) ≡ end
-  before-place = omega (arith, decimal-short n, rw (twenty-yes (length old) end t w) at (p .answer))
+  pub before-end : r + length (decimal n) ≡ end
+  before-end = omega (arith, decimal-short n, rw (twenty-yes (length old) end t w) at (p .answer))
 
   pub before-laid : new ≡ over old r (decimal n)
   before-laid =
@@ -187,4 +187,4 @@ module _ (old : List ℕ) (end n : ℕ) (new : List ℕ) (r : ℕ) (p : PutBefor
   -- what is there from the number on
   pub before-from : drop r new ≡ decimal n ++ drop end old
   before-from =
-      ap (drop r) before-laid ∙ over-from old r (decimal n) (omega (arith, before-place)) ∙ ap (λ (k : ℕ). decimal n ++ drop k old) before-place
+      ap (drop r) before-laid ∙ over-from old r (decimal n) (omega (arith, before-end)) ∙ ap (λ (k : ℕ). decimal n ++ drop k old) before-end

@@ -8,7 +8,7 @@ use Rattle.driver.specs.{Play.{resumable, Plays, Starts}, declared.Checkpoint.C
 use Rattle.driver.{specs.declared.{Progress.{Progress, the-variants.{Finished, More}}, Played.Played}, proofs.Resuming.resumes}
 use Rattle.playing.specs.{Calls.{Plays-on, last, next, Playing, over, begun}, Theorems.{Begun, listed, running, Onward, ends, further}}
 use Rattle.playing.proofs.{Whole.whole-theorem, Progressing.{start-advances-theorem, play-advances-theorem}}
-use Rattle.steps.specs.Listed.{goesOn, Ended, ended, stopped, Listed, whole, part}
+use Rattle.steps.specs.Listed.{moreToPlay, Ended, ended, stopped, Listed, whole, part}
 
 -- calls of `play` lead from a checkpoint with the buffers p₀ and q₀ to another with p and q, from where `play` goes on
 pub record Called (j : Bytes) (from : Checkpoint) (p₀ q₀ : Bytes) (there : Checkpoint) (p q out : Bytes) : Type 0 where
@@ -20,11 +20,11 @@ pub called-start : {j : Bytes} {from : Checkpoint} {p q out : Bytes} → resumab
 called-start s h = record { resumable = s; room = h; onward = λ ts x. ended x }
 
 -- with room, a call of `play` that does not go on is finished, and one that goes on is further on in the journal
-on-over : {j : Bytes} {from there : Checkpoint} {g : Progress} → Onward j from there g → goesOn g ≡ false → g ≡ Finished
+on-over : {j : Bytes} {from there : Checkpoint} {g : Progress} → Onward j from there g → moreToPlay g ≡ false → g ≡ Finished
 on-over ends e = refl
 on-over (further a s) e = never e
 
-on-more : {j : Bytes} {from there : Checkpoint} {g : Progress} → Onward j from there g → goesOn g ≡ true → (g ≡ More) × (from .at < there .at) × (resumable (length j) there ≡ true)
+on-more : {j : Bytes} {from there : Checkpoint} {g : Progress} → Onward j from there g → moreToPlay g ≡ true → (g ≡ More) × (from .at < there .at) × (resumable (length j) there ≡ true)
 on-more ends e = never (sym e)
 on-more (further a s) e = (refl, a, s)
 
@@ -33,25 +33,25 @@ module _ {j : Bytes} {from : Checkpoint} {p₀ q₀ : Bytes} {there : Checkpoint
   on = play-advances-theorem j there p q old p' q' new r x (c .resumable) (c .room)
 
   -- the call was the last
-  pub call-over : goesOn (r .progress) ≡ false → Ended j from p₀ q₀ true
+  pub call-over : moreToPlay (r .progress) ≡ false → Ended j from p₀ q₀ true
   call-over e = c .onward _ (last x (on-over on e))
 
   -- it goes on, further on in the journal
-  pub call-further : goesOn (r .progress) ≡ true → (there .at < r .checkpoint .at) × (r .checkpoint .at ≤ length j)
+  pub call-further : moreToPlay (r .progress) ≡ true → (there .at < r .checkpoint .at) × (r .checkpoint .at ≤ length j)
   call-further e = let o = on-more on e in (o .1, resumes (length j) (r .checkpoint) (o .2) .inside)
 
-  pub call-more : goesOn (r .progress) ≡ true → Called j from p₀ q₀ (r .checkpoint) p' q' new
+  pub call-more : moreToPlay (r .progress) ≡ true → Called j from p₀ q₀ (r .checkpoint) p' q' new
   call-more e =
       let o = on-more on e in
       record { resumable = o .2; room = omega (arith, x .fills .size, c .room); onward = λ ts y. c .onward _ (next x (o .0) y) }
 
 -- ---- the first call
 
-begun-over : {j : Bytes} {there : Checkpoint} {g : Progress} → Begun j there g → goesOn g ≡ false → g ≡ Finished
+begun-over : {j : Bytes} {there : Checkpoint} {g : Progress} → Begun j there g → moreToPlay g ≡ false → g ≡ Finished
 begun-over listed e = refl
 begun-over (running s) e = never e
 
-begun-more : {j : Bytes} {there : Checkpoint} {g : Progress} → Begun j there g → goesOn g ≡ true → (g ≡ More) × (resumable (length j) there ≡ true)
+begun-more : {j : Bytes} {there : Checkpoint} {g : Progress} → Begun j there g → moreToPlay g ≡ true → (g ≡ More) × (resumable (length j) there ≡ true)
 begun-more listed e = never (sym e)
 begun-more (running s) e = (refl, s)
 
@@ -72,10 +72,10 @@ module _ {j old new : Bytes} {r : Played} (x : Starts j old new r) where
     begins = start-advances-theorem j old new r x (omega (arith, h, x .fills .size))
 
     -- the listing is out whole, or `play` goes on from the checkpoint
-    pub list-over : goesOn (r .progress) ≡ false → Listed j true
+    pub list-over : moreToPlay (r .progress) ≡ false → Listed j true
     list-over e = listed-whole (over x (begun-over begins e))
 
-    pub list-more : goesOn (r .progress) ≡ true → (r .progress ≡ More) × (resumable (length j) (r .checkpoint) ≡ true)
+    pub list-more : moreToPlay (r .progress) ≡ true → (r .progress ≡ More) × (resumable (length j) (r .checkpoint) ≡ true)
     list-more e = begun-more begins e
 
 -- the first of many zeros

@@ -4,12 +4,12 @@ use Rattle.protocol.specs.Buffers.{Bytes}
 use Rattle.driver.specs.declared.{Checkpoint.Checkpoint, Progress.{Progress, the-variants.{Finished, More, Short, Unfit}}}
 use Rattle.playing.specs.{Listing.Listing, Calls.{joined, Plays-on, Playing}}
 
--- whether a run goes on after a call
-abbrev pub goesOn : Progress → Bool
-goesOn Finished = false
-goesOn More = true
-goesOn Short = false
-goesOn Unfit = false
+-- whether there is more to play after a call
+abbrev pub moreToPlay : Progress → Bool
+moreToPlay Finished = false
+moreToPlay More = true
+moreToPlay Short = false
+moreToPlay Unfit = false
 
 -- from a checkpoint on, with the buffers p and q: true, and calls of `play` lead from there to the listing's end
 pub data Ended (journal : Bytes) (from : Checkpoint) (p q : Bytes) : Bool → Type 0 where

@@ -10,7 +10,7 @@ ghost use Prim.Native.Nat.{_≤_};
 ghost use mathlib.Core.{Path._≡_, Bool.true};
 ghost use lib.ListN.{length};
 ghost use Rattle.driver.specs.Play.{resumable};
-ghost use Rattle.steps.specs.{Listed.{goesOn, Ended, Listed}, Input.ReadInto};
+ghost use Rattle.steps.specs.{Listed.{moreToPlay, Ended, Listed}, Input.ReadInto};
 use driver::Checkpoint;
 use driver::Progress;
 use libc::EINTR;
@@ -54,10 +54,10 @@ fn read_input(buf: &mut [u8]) -> Input
     Input::Read(done)
 }
 
-// Whether a run goes on after a call. From a checkpoint of a run, and with room, no call answers `Short` or `Unfit`: then
-// the listing is out whole.
-fn goes_on(progress: Progress) -> bool
-    ensures { λ r. ⌜ r ≡ goesOn progress ⌝ }
+// Whether there is more to play after a call. Neither `start` with room for its text nor `play` from a checkpoint that it
+// returned answers `Short` or `Unfit`, so where there is no more the listing is whole.
+fn more_to_play(progress: Progress) -> bool
+    ensures { λ r. ⌜ r ≡ moreToPlay progress ⌝ }
 {
     match progress {
         Progress::Finished => false,
@@ -86,7 +86,7 @@ fn play_on(
         if !io::write_all(STDOUT_FILENO, &out[0..written]) {
             return false;
         }
-        if !goes_on(progress) {
+        if !more_to_play(progress) {
             return true;
         }
         there = played.checkpoint;
@@ -107,7 +107,7 @@ fn list(journal: &[u8]) -> bool
     if !io::write_all(STDOUT_FILENO, &out[0..written]) {
         return false;
     }
-    if !goes_on(progress) {
+    if !more_to_play(progress) {
         return true;
     }
     let checkpoint = played.checkpoint;

@@ -8,11 +8,14 @@ use Rattle.protocol.specs.{Pick.pick, Fresh.{freshCore, freshCell, freshLine}}
 use Rattle.protocol.specs.Buffers.{Bytes, part, copyStart, copyBytes, There, givenFits, movedPrivate, movedShared}
 use Rattle.protocol.specs.Machine.{Machine, machine, coreAt, copyAt, lineAt, Pieces, piecesAt, coreOf, lineOf, applied}
 use Rattle.protocol.specs.Refusals.{wrongCount, buffersFit, machineRefusal, callRefusal, stateRefusal, refusal, orElse}
-use Rattle.protocol.specs.Tables.{row, loadOwned, storeTable, fenceTable, advanceTable, evictTable, serveLoad, serveAsked, receiveRenew, receiveGrant, yieldTable, takeTable, effectOf}
 use Rattle.protocol.specs.Step.{refused, meaning, Outcome, commitBytes, accepted, step}
 use Rattle.protocol.specs.{declared.{Opening.Opening, Call.Call, Effect.Effect, Answer.the-variants.Refused, Move.the-variants.Still}, About.about}
+use Rattle.protocol.specs.Tables.{row, loadOwned, storeTable, fenceTable, advanceTable, evictTable, serveLoad, serveAsked, receiveRenew, receiveGrant}
+use Rattle.protocol.specs.Tables.{yieldTable, takeTable, effectOf}
 use Rattle.protocol.proofs.{Extents.copy-ends, Refusals.{or-none, Fit, named, store-width, call-there}}
-use Rattle.protocol.proofs.Cases.{Row, asks-load, reads-shared, reads-dirty, reads-clean, asks-store, writes, fences, advances, evicts-shared, evicts-owned, recalls, renews, shares, grants, gets-share, gets-own, gets-renewal, drops-none, drops-owned, yields, takes, piecesOf, effect-case}
+use Rattle.protocol.proofs.Cases.{Row, asks-load, reads-shared, reads-dirty, reads-clean, asks-store, writes, fences, advances, evicts-shared, evicts-owned}
+use Rattle.protocol.proofs.Cases.{recalls, renews, shares, grants, gets-share, gets-own, gets-renewal, drops-none, drops-owned, yields, takes, piecesOf}
+use Rattle.protocol.proofs.Cases.{effect-case}
 use Rattle.spelling.proofs.OverLaws.{over-part}
 use Rattle.refusals.specs.Input.{inputRefusal}
 use Rattle.buffers.specs.Moves.{moveFits}

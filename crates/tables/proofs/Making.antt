@@ -5,11 +5,12 @@ use mathlib.Core.{Path.{_≡_, refl, sym, _∙_, ap₂}, Bool.{Bool, true, false
 use lib.ListN.{length}
 use native.Mathlib.{Omega.arith, Decide.ℕ-discrete}
 use borrow.Author.Tests.{le-leb, lt-ltb, ne-eqb}
+use Rattle.protocol.proofs.{Extents.{copy-ends, inside}, Refusals.{or-none, Fit, machine-fit, named, named-inside, call-there}}
 use Rattle.protocol.specs.{Pick.pick, Limits.{mostCores, mostLines}, Buffers.{Bytes, part, copyStart, copyBytes, There, movedPrivate, movedShared}}
 use Rattle.protocol.specs.{About.{about, namedLine}, Machine.{Machine, coreAt, lineAt, piecesAt, theCore, theLine, coreOf, lineOf}}
 use Rattle.protocol.specs.{Refusals.{machineRefusal, callRefusal}, Tables.{refusedRow, effectOf}, Step.{meaning, accepted, step}}
-use Rattle.protocol.specs.declared.{Opening.Opening, Call.Call, Answer.{Answer, the-variants.{Refused, Done, Commit}}, Effect.Effect, Move.the-variants.Still, Kind.the-variants.{Load, Store, Fence}}
-use Rattle.protocol.proofs.{Extents.{copy-ends, inside}, Refusals.{or-none, Fit, machine-fit, named, named-inside, call-there}}
+use Rattle.protocol.specs.declared.{Opening.Opening, Call.Call, Answer.{Answer, the-variants.{Refused, Done, Commit}}, Effect.Effect, Move.the-variants.Still}
+use Rattle.protocol.specs.declared.Kind.the-variants.{Load, Store, Fence}
 use Rattle.refusals.specs.Input.{inputRefusal}
 use Rattle.buffers.{specs.Moves.{isThere, moveFits, Moves}, proofs.Laws.{from-there, start-there}}
 use Rattle.tables.specs.{Found.{foundAt, effectWith}, Spans.spanOf}

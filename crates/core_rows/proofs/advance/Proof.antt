@@ -11,6 +11,7 @@ returns c k n o =
     let b = c .before .before .before in
     rw (c .refused .ensures, sum-passes _ (b .before .before .args .by) (sym (b .after .ensures) ∙ c .before .enum-told .given .1))
 
+-- the clocks that the code set, beside the table's: the equation is between the two new values of lts
 returns-2 : tie.Need-returns-2
 unfolding effectOf tableOf advanceTable stateRefusal stateRules first
 returns-2 c k n o =

@@ -7,7 +7,7 @@ use lib.ListN.{length}
 use borrow.Author.{Needs.needs, Tests.{not-true, not-false}}
 use Rattle.driver.specs.{Play.unfit, Pieces.checkpointAt}
 use Rattle.driver.proofs.{Stepping.looked-over, Putting.fills-none, play.Statement.statement}
-use Rattle.driver.proofs.Loop.{Reached, reached-start, at-checkpoint, room-for, finish, step-due, end-due, Made, shows, step-short, step-made}
+use Rattle.driver.proofs.Loop.{Reached, reached-start, at-checkpoint, room-for, finish, step-due, end-due, StepInPlace, shows, step-short, step-made}
 use Rattle.driver.proofs.play.Tie as tie
 
 abbrev Inv-loop : tie.InvT-loop
@@ -19,7 +19,7 @@ Inv-loop journal private₀ shared₀ out₀ form at₀ counts₀ s₀ used₀ o
 abbrev μ-loop : tie.MeasureT-loop
 μ-loop journal private₀ shared₀ out₀ form at₀ counts₀ s₀ used₀ opening base private shared out at counts s used = length journal - at
 
--- ---- the places of the loop, each from a later one
+-- ---- the points of the loop, each from a later one
 
 abbrev at-start : tie.At-loop Inv-loop μ-loop → tie.Start Inv-loop μ-loop
 at-start c =
@@ -63,7 +63,7 @@ short c = omega (arith, at-start c .good .0 .1)
 low : (c : tie.After-line-of Inv-loop μ-loop) → (c .before .before .core-of .result < 16) × (c .line-of .result < 64)
 low c = (c .before .before .core-of .ensures .low, c .line-of .ensures .low)
 
-abbrev made : (c : tie.After-met Inv-loop μ-loop) → let a = at-start (at-head (at-step (at-about (at-line c)))) .args in Made (a .journal .now) (a .from) (a .private .now) (a .shared .now) (a .out .now)
+abbrev made : (c : tie.After-met Inv-loop μ-loop) → let a = at-start (at-head (at-step (at-about (at-line c)))) .args in StepInPlace (a .journal .now) (a .from) (a .private .now) (a .shared .now) (a .out .now)
 made c =
     let l = at-line c in
     let k = l .before .before in

@@ -6,13 +6,16 @@ use native.Mathlib.{Omega.arith, Decide.ℕ-discrete}
 use lib.ListN.{length}
 use Rattle.protocol.specs.{Buffers.{Bytes, There, givenFits}, Machine.{Machine, coreAt, copyAt, applied}, Step.{Op, load, store, fence}, Run.Commit}
 use Rattle.protocol.specs.Order.{Stores}
-use Rattle.protocol.specs.Words.{Stamp, Clocks, Copy, NoCopy, CopyShared, CopyOwned, Slot, Empty, Asked, Answered, Opening, Effect, Version, GrantShare}
-use Rattle.protocol.specs.Words.{GrantRenew, GrantOwn}
+use Rattle.protocol.specs.declared.{Stamp.Stamp, Clocks.Clocks, Copy.{Copy, the-variants.{None as NoCopy, Shared as CopyShared, Owned as CopyOwned}}}
+use Rattle.protocol.specs.declared.{Slot.{Slot, the-variants.{Empty, Asked, Answered}}, Opening.Opening, Effect.Effect, Held.the-variants.Version}
+use Rattle.protocol.specs.declared.Grant.the-variants.{Share as GrantShare, Renew as GrantRenew, Own as GrantOwn}
 use Rattle.protocol.proofs.{Moves.{managerAfter, writebackAfter, copyAfter, answerAfter}, Refusals.Fit}
 use Rattle.protocol.proofs.Written.{Arrays, core-at, core-off, copy-at, copy-off, arrays-written}
 use Rattle.protocol.proofs.Order.Log.{All, all-map, Touches}
-use Rattle.protocol.proofs.Order.Versions.{Spot, atManager, atWriteback, atCopy, atSlot, Elsewhere, Content, Newest, ContentAgrees, VersionAgrees, LineAgrees, thin}
-use Rattle.protocol.proofs.Order.Look.{LineCell, Value, viewManager, viewWriteback, viewCopy, viewSlot, look, SpeaksOf, SlotStep, look-manager, look-writeback, look-copy, look-slot, copy-spot-off, slot-spot-off, line-spots-off}
+use Rattle.protocol.proofs.Order.Versions.{Spot, atManager, atWriteback, atCopy, atSlot, Elsewhere, Content, Newest, ContentAgrees, VersionAgrees}
+use Rattle.protocol.proofs.Order.Versions.{LineAgrees, thin}
+use Rattle.protocol.proofs.Order.Look.{LineCell, Value, viewManager, viewWriteback, viewCopy, viewSlot, look, SpeaksOf, SlotStep, look-manager}
+use Rattle.protocol.proofs.Order.Look.{look-writeback, look-copy, look-slot, copy-spot-off, slot-spot-off, line-spots-off}
 
 -- the commit stores x to the cell i of line l
 abbrev pub Writes : ℕ → LineCell → Commit Bytes → Value → Type 0

@@ -5,8 +5,11 @@ use native.Mathlib.Decide.{ℕ-discrete}
 use lib.ListN.{length}
 use Rattle.protocol.specs.Buffers.{Bytes, There, copyBytes, managerBytes, writebackBytes, answerBytes, givenFits, movedShared}
 use Rattle.protocol.specs.Machine.{Machine, coreAt, copyAt, lineAt, applied}
-use Rattle.protocol.specs.Words.{Stamp, Copy, NoCopy, CopyShared, CopyOwned, Grant, GrantShare, GrantRenew, GrantOwn, Slot, Empty, Asked, Answered, Core}
-use Rattle.protocol.specs.Words.{Manager, Shared, Owned, Writeback, NoWriteback, Flight, ManagerLine, Opening, Effect}
+use Rattle.protocol.specs.declared.{Stamp.Stamp, Copy.{Copy, the-variants.{None as NoCopy, Shared as CopyShared, Owned as CopyOwned}}}
+use Rattle.protocol.specs.declared.Grant.{Grant, the-variants.{Share as GrantShare, Renew as GrantRenew, Own as GrantOwn}}
+use Rattle.protocol.specs.declared.{Slot.{Slot, the-variants.{Empty, Asked, Answered}}, Core.Core, Manager.{Manager, the-variants.{Shared, Owned}}}
+use Rattle.protocol.specs.declared.{Writeback.{Writeback, the-variants.{None as NoWriteback, Flight}}, ManagerLine.ManagerLine, Opening.Opening}
+use Rattle.protocol.specs.declared.Effect.{Effect}
 use Rattle.protocol.proofs.{Refusals.Fit, Written.{Arrays, core-at, core-off, line-at, line-off, copy-at, copy-off}}
 use Rattle.protocol.proofs.Moves.{managerAfter, writebackAfter, copyAfter, answerAfter, AnswerStays, manager-after, writeback-after, copy-after}
 use Rattle.protocol.proofs.Moves.{answer-after, manager-other, writeback-other, answer-other, private-other}

@@ -5,8 +5,10 @@ use native.Mathlib.Omega.{arith}
 use borrow.Author.Tests.{eqb-true}
 use Rattle.protocol.specs.{Stamps.stamp, Machine.Pieces}
 use Rattle.protocol.specs.Tables.{loadOwned, loadShared, storeTable, evictTable, sameVersion, leasedTo, serveLoad, yieldTable}
-use Rattle.protocol.specs.Words.{Name, Stamp, Copy, NoCopy, CopyShared, CopyOwned, Held, NothingHeld, Version, Slot, Empty, Asked, Answered, Manager}
-use Rattle.protocol.specs.Words.{Shared, Owned, Writeback, NoWriteback, Flight, Answer, Refused, Done, Commit, MoveWriteback}
+use Rattle.protocol.specs.declared.{Name.Name, Stamp.Stamp, Copy.{Copy, the-variants.{None as NoCopy, Shared as CopyShared, Owned as CopyOwned}}}
+use Rattle.protocol.specs.declared.{Held.{Held, the-variants.{None as NothingHeld, Version}}, Slot.{Slot, the-variants.{Empty, Asked, Answered}}}
+use Rattle.protocol.specs.declared.{Manager.{Manager, the-variants.{Shared, Owned}}, Writeback.{Writeback, the-variants.{None as NoWriteback, Flight}}}
+use Rattle.protocol.specs.declared.{Answer.{Answer, the-variants.{Refused, Done, Commit}}, Move.the-variants.Writeback as MoveWriteback}
 use Rattle.protocol.proofs.Tests.{never}
 
 -- ---- the timestamps in a row

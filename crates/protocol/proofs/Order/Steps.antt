@@ -10,18 +10,28 @@ use Rattle.protocol.specs.{Step.{Op, load, store, fence, Reply, refused,
 use Rattle.protocol.specs.Order.{TsoKeeps, Loads, Stores}
 use Rattle.protocol.specs.Tables.{row, heldOf, loadOwned, earliest, storeTable, fenceTable, advanceTable, evictTable, leasedTo, serveLoad, serveAsked}
 use Rattle.protocol.specs.Tables.{receiveRenew, receiveGrant, yielded, yieldTable, takeTable, writtenBack}
-use Rattle.protocol.specs.Words.{Stamp, Clocks, Copy, NoCopy, CopyShared, CopyOwned, Want, WantLoad, WantStore, Held, Version, Grant, GrantShare}
-use Rattle.protocol.specs.Words.{GrantRenew, GrantOwn, Core, Manager, Shared, Recall, NoRecall, Downgrade, Flush, Writeback, Flight, Opening, Call, Load}
-use Rattle.protocol.specs.Words.{Answer, Done, Move, MoveWriteback, Effect, Asked, Answered, Yielded}
-use Rattle.protocol.proofs.{Tests.never, Refusals.{Fit, machine-fit}, Written.core-at}
+use Rattle.protocol.specs.declared.{Stamp.Stamp, Clocks.Clocks, Copy.{Copy, the-variants.{None as NoCopy, Shared as CopyShared, Owned as CopyOwned}}}
+use Rattle.protocol.specs.declared.{Want.{Want, the-variants.{Load as WantLoad, Store as WantStore}}, Held.{Held, the-variants.Version}}
+use Rattle.protocol.specs.declared.{Grant.{Grant, the-variants.{Share as GrantShare, Renew as GrantRenew, Own as GrantOwn}}, Core.Core}
+use Rattle.protocol.specs.declared.{Manager.{Manager, the-variants.Shared}, Recall.{Recall, the-variants.{None as NoRecall, Downgrade, Flush}}}
+use Rattle.protocol.specs.declared.{Writeback.{Writeback, the-variants.Flight}, Opening.Opening, Call.{Call, the-variants.Load}}
+use Rattle.protocol.specs.declared.{Answer.{Answer, the-variants.Done}, Move.{Move, the-variants.Writeback as MoveWriteback}, Effect.Effect}
+use Rattle.protocol.specs.declared.{Slot.the-variants.{Asked, Answered}, Name.the-variants.Yield as Yielded}
+use Rattle.protocol.proofs.{Tests.never, Refusals.{Fit, machine-fit}, Written.core-at, Keep.{EffectFits, made-fits}}
 use Rattle.protocol.proofs.Cases.{Row, asks-load, reads-shared, reads-dirty, reads-clean, asks-store, writes, fences, advances, evicts-shared}
 use Rattle.protocol.proofs.Cases.{evicts-owned, recalls, renews, shares, grants, gets-share, gets-own, gets-renewal, drops-none, drops-owned, yields}
-use Rattle.protocol.proofs.{Cases.{takes, Case, refuses, makes, case-of}, Keep.{EffectFits, made-fits}}
+use Rattle.protocol.proofs.Cases.{takes, Case, refuses, makes, case-of}
 use Rattle.protocol.proofs.Order.Log.{more, all-map, Touches, Reading, Extends}
-use Rattle.protocol.proofs.Order.Versions.{Spot, atManager, atWriteback, atCopy, atSlot, kind, HeldBy, Elsewhere, not-here, mine, newest, Newest, version, IsAt, here, carry, goes-to, quiet, write-version, write-marks, write-past, Written, marks-stay, MarksAgree, lease-of, lease-renewed, reads-snapshot, reads-newest, reads-mine}
-use Rattle.protocol.proofs.Order.Look.{LineCell, Value, cells, marks, look, viewCopy, viewManager, viewWriteback, granted, view-at, view-none, SpeaksOf, SlotStep}
-use Rattle.protocol.proofs.Order.Rows.{read-within, lease-grows, read-after, read-clocked, read-version, shared-version, shared-within, store-past, store-after-loads, store-after-stores, same-version, grant-within, manager-grows, evict-lease, yield-lease, evict-moves, yield-moves}
-use Rattle.protocol.proofs.Order.Invariant.{Onward, Writes, On, Passed, Allowed, Beside, VersionOf, SpotOf, LineInv, Inv, clocks-applied, inv-applied, Leaves, line-applied}
+use Rattle.protocol.proofs.Order.Versions.{Spot, atManager, atWriteback, atCopy, atSlot, kind, HeldBy, Elsewhere, not-here, mine, newest, Newest}
+use Rattle.protocol.proofs.Order.Versions.{version, IsAt, here, carry, goes-to, quiet, write-version, write-marks, write-past, Written, marks-stay}
+use Rattle.protocol.proofs.Order.Versions.{MarksAgree, lease-of, lease-renewed, reads-snapshot, reads-newest, reads-mine}
+use Rattle.protocol.proofs.Order.Look.{LineCell, Value, cells, marks, look, viewCopy, viewManager, viewWriteback, granted, view-at, view-none, SpeaksOf}
+use Rattle.protocol.proofs.Order.Look.{SlotStep}
+use Rattle.protocol.proofs.Order.Rows.{read-within, lease-grows, read-after, read-clocked, read-version, shared-version, shared-within, store-past}
+use Rattle.protocol.proofs.Order.Rows.{store-after-loads, store-after-stores, same-version, grant-within, manager-grows, evict-lease, yield-lease}
+use Rattle.protocol.proofs.Order.Rows.{evict-moves, yield-moves}
+use Rattle.protocol.proofs.Order.Invariant.{Onward, Writes, On, Passed, Allowed, Beside, VersionOf, SpotOf, LineInv, Inv, clocks-applied, inv-applied}
+use Rattle.protocol.proofs.Order.Invariant.{Leaves, line-applied}
 
 -- the commit of core c at t
 abbrev pub commitBy : ℕ → ℕ → Stamp → Op Bytes → Commit Bytes

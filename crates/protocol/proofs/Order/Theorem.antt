@@ -9,7 +9,7 @@ use Rattle.protocol.specs.{Pick.pick, Stamps.{Precedes, precedes}, Limit
 use Rattle.protocol.specs.{About.{about, namedCore, namedLine}, Machine.{Machine, freshMachine}, Step.{Op, Reply, refused, done, commit, step}}
 use Rattle.protocol.specs.Run.{Entry, Record, place, run, Commit, actCommit, commitOf, commits}
 use Rattle.protocol.specs.Order.{In, here, there, Before, Earlier, TsoKeeps, Loads, Stores, LastWrite, Obeys, OpenTheorem, OrderTheorem, SortTheorem}
-use Rattle.protocol.specs.{Order.KeyTheorem, Words.{Opening, Act, Transfer}, declared.Act.the-variants.{Load, Store, Fence, Advance}}
+use Rattle.protocol.specs.{Order.KeyTheorem, declared.{Opening.Opening, Act.{Act, the-variants.{Transfer, Load, Store, Fence, Advance}}}}
 use Rattle.protocol.proofs.{Tests.never, Bytes.{row-le, zeros, zeros-part}, Extents.inside, Refusals.opening-fit}
 use Rattle.protocol.proofs.{Written.{arrays-fresh, core-fresh, line-fresh, copy-fresh}, Reached.{onto, reached, from-onto, to-onto}}
 use Rattle.protocol.proofs.Order.Log.{All, none, more, all-map, all-at, in-nil, fresh, Lawful, start, log-obeys, step as log-step}

@@ -10,41 +10,41 @@ use Rattle.steps.specs.Listed.{part}
 use Rattle.steps.proofs.{Calling.{list-over, list-more, list-played, part-zeros}, list.Statement.statement}
 use Rattle.steps.proofs.list.Tie as tie
 
--- ---- the places, each from a later one
+-- ---- the points of the function, each from a later one
 
-abbrev at-out : tie.After-goes-on → tie.After-out2
+abbrev at-out : tie.After-more-to-play → tie.After-out2
 at-out c = c .before .before .before .before .before
 
-abbrev at-test : tie.After-opening → tie.After-goes-on
+abbrev at-test : tie.After-opening → tie.After-more-to-play
 at-test c = c .before .before .before .before
 
 abbrev at-opening : tie.After-play-on → tie.After-opening
 at-opening c = c .before .before .before .before
 
 -- the run goes on from the checkpoint of the first call
-goes-on :
+resumes :
     (c : tie.After-opening) → let s = at-out (at-test c) .before in
     (s .start .result .progress ≡ More) × (resumable (length (s .before .before .before .args .journal .now)) (s .start .result .checkpoint) ≡ true)
-goes-on c =
+resumes c =
     let g = at-test c in
     let o = at-out g in
-    list-more (o .before .start .ensures) (omega (arith, o .out2 .given)) (was-true (g .goes-on .ensures) (c .before .before .before .if2 .left))
+    list-more (o .before .start .ensures) (omega (arith, o .out2 .given)) (was-true (g .more-to-play .ensures) (c .before .before .before .if2 .left))
 
 -- the sizes of the engine that was opened
 sizes : (c : tie.After-opening) → Inside (at-out (at-test c) .before .start .result .checkpoint .state .opening)
-sizes c = inside _ (start-fits (at-out (at-test c) .before .start .ensures) (goes-on c .0))
+sizes c = inside _ (start-fits (at-out (at-test c) .before .start .ensures) (resumes c .0))
 
 returns-2 : tie.Need-returns-2
 returns-2 c =
     let o = at-out (c .before) in
-    list-over (o .before .start .ensures) (omega (arith, o .out2 .given)) (was-false (c .before .goes-on .ensures) (c .if2 .taken))
+    list-over (o .before .start .ensures) (omega (arith, o .out2 .given)) (was-false (c .before .more-to-play .ensures) (c .if2 .taken))
 
 returns-3 : tie.Need-returns-3
 returns-3 c =
     let y = c .before .before .before in
     let p = at-opening y in
     let a = sizes p in
-    list-played (at-out (at-test p) .before .start .ensures) (goes-on p .0) (part-zeros _ 65536 (private-most a)) (part-zeros _ 9216 (shared-most a)) (y .play-on .ensures)
+    list-played (at-out (at-test p) .before .start .ensures) (resumes p .0) (part-zeros _ 65536 (private-most a)) (part-zeros _ 9216 (shared-most a)) (y .play-on .ensures)
 
 pub list-spec : {M : Type 1} → statement M
 list-spec =
@@ -54,4 +54,4 @@ list-spec =
     (λ c κs. search needs) returns-2 (λ c. let a = copies-most (sizes c) in omega arith) (λ c. let a = private-most (sizes c) in omega arith)
     (λ c. omega (arith, sizes c .mostLines)) (λ c. let a = rows-most (sizes c) in omega arith) (λ c. let a = shared-most (sizes c) in omega arith)
     (λ c. search needs) (λ c. search needs) (λ c. private-most (sizes c)) (λ c. search needs) (λ c. search needs) (λ c. shared-most (sizes (c .before)))
-    (λ c. search needs) (λ c κs. let p = c .before .before .before in (goes-on p .1, omega (arith, at-out (at-test p) .out2 .given))) returns-3)
+    (λ c. search needs) (λ c κs. let p = c .before .before .before in (resumes p .1, omega (arith, at-out (at-test p) .out2 .given))) returns-3)

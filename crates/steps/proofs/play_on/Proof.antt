@@ -17,7 +17,7 @@ Inv-loop journal private₀ shared₀ out₀ there₀ private shared out there =
 abbrev μ-loop : tie.MeasureT-loop
 μ-loop journal private₀ shared₀ out₀ there₀ private shared out there = length journal - there .at
 
--- ---- the places of the loop, each from a later one
+-- ---- the points of the loop, each from a later one
 
 abbrev at-head : tie.After-play Inv-loop μ-loop → tie.At-loop Inv-loop μ-loop
 at-head c = c .before .before .before .before
@@ -28,14 +28,14 @@ at-play c = c .before .before .before .before .before
 abbrev at-out : tie.After-write-all Inv-loop μ-loop → tie.After-out Inv-loop μ-loop
 at-out c = c .before .before .before .before
 
-abbrev at-written : tie.After-goes-on Inv-loop μ-loop → tie.After-write-all Inv-loop μ-loop
+abbrev at-written : tie.After-more-to-play Inv-loop μ-loop → tie.After-write-all Inv-loop μ-loop
 at-written c = c .before .before
 
 loop-less : tie.Need-loop-less Inv-loop μ-loop
 loop-less c =
     let g = c .before .before in
     let p = at-play (at-out (at-written g)) in
-    let f = call-further (at-head p .loop .inv .3) (p .play .ensures) (was-true (g .goes-on .ensures) (c .before .if2 .left)) in
+    let f = call-further (at-head p .loop .inv .3) (p .play .ensures) (was-true (g .more-to-play .ensures) (c .before .if2 .left)) in
     omega (arith, f .0, f .1)
 
 loop-again : tie.Need-loop-again Inv-loop μ-loop
@@ -44,12 +44,12 @@ loop-again c =
     let o = at-out (at-written g) in
     let p = at-play o in
     let i = at-head p .loop .inv in
-    (o .before .before .before .before .private .given ∙ i .0, o .before .before .shared .given ∙ i .1, o .out .given ∙ i .2, call-more (i .3) (p .play .ensures) (was-true (g .goes-on .ensures) (c .before .if2 .left)))
+    (o .before .before .before .before .private .given ∙ i .0, o .before .before .shared .given ∙ i .1, o .out .given ∙ i .2, call-more (i .3) (p .play .ensures) (was-true (g .more-to-play .ensures) (c .before .if2 .left)))
 
 returns-2 : tie.Need-returns-2 Inv-loop μ-loop
 returns-2 c =
     let p = at-play (at-out (at-written (c .before))) in
-    call-over (at-head p .loop .inv .3) (p .play .ensures) (was-false (c .before .goes-on .ensures) (c .if2 .taken))
+    call-over (at-head p .loop .inv .3) (p .play .ensures) (was-false (c .before .more-to-play .ensures) (c .if2 .taken))
 
 pub play-on-spec : {M : Type 1} → statement M
 play-on-spec =

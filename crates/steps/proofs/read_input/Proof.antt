@@ -44,6 +44,7 @@ within c =
     let m = mid-len (pass c .loop .done) (length (filled c)) (filled c) (omega arith) in
     omega (arith, before c, c .count .ensures .0 .0, m)
 
+-- where a count is returned, that it lies in the buffer is asked of the arithmetic
 pub read-input-spec : {M : Type 1} → statement M
 read-input-spec =
     tie.close

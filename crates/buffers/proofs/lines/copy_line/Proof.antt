@@ -1,4 +1,4 @@
--- After i turns the first i bytes are those of the source.
+-- After i passes of the loop the first i bytes are those of the source.
 use Prim.Native.Nat.{_≤_, _<_, _-_}
 use mathlib.Core.Path.{_≡_, sym, _∙_}
 use native.Mathlib.{Omega.arith, Numerals.add-one}

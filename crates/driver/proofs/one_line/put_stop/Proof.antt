@@ -1,7 +1,7 @@
 -- `driver::one_line::put_stop` meets its contract: both lines fit the local buffer, and are put in one piece. Assumes nothing.
 use mathlib.Core.Path.{refl}
 use Rattle.protocol.specs.Step.{meaning}
-use Rattle.driver.proofs.{Putting.{first-fits, second-fits, last-place, last-text}, one_line.put_stop.Statement.statement}
+use Rattle.driver.proofs.{Putting.{first-fits, second-fits, last-within, last-text}, one_line.put_stop.Statement.statement}
 use borrow.Author.Needs.{needs}
 use Rattle.driver.proofs.one_line.put_stop.Tie as tie
 
@@ -11,7 +11,7 @@ part-put-text-end c =
     let e = c .before .before .before in
     let p = e .before .before .before in
     let r = p .before .before .before .before .before .before in
-    last-place _ _ refl (r .put-record .ensures) (p .before .before .before .e .given .1) (p .put-end .ensures) (e .e2 .given .1)
+    last-within _ _ refl (r .put-record .ensures) (p .before .before .before .e .given .1) (p .put-end .ensures) (e .e2 .given .1)
 
 returns : tie.Need-returns
 unfolding meaning

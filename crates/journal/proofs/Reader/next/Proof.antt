@@ -135,7 +135,7 @@ module _ {M : Type 1} (𝓤 : URA M) (H : Heap 𝓤) (A : Atoms 𝓤) (W : Given
     exits e =
         qed W ((‵ (flft κ q) ⊛ ‵ ftrue) ∷ ‵ Own ∷ []) ∵
         suffices ! _ (ends-at 𝓤 H A this.ended stayed (this.clauses 𝓤 H A mem run) W (((κ, tt), (q, tt), tt, (d, tt), (mach ∷ [], tt)), tt) (handed-val r) (handed r) (tt, tt) (tt, tt)) $
-        says ! (e .found, ap₂ (λ (n m : ℕ). record { journal = d .journal; at = n; form = m }) (e .place) (e .formed)) $
+        says ! (e .found, ap₂ (λ (n m : ℕ). record { journal = d .journal; at = n; form = m }) (e .offset) (e .formed)) $
         frame ! $ use1 W (‵ Own ⊛ ‵ Own) (LL.copy D (T′.the-copy α) 𝓤 H A W .twice d (mach ∷ [])) $ split ! $ nothing ! $ move ! (1 ∷ 0 ∷ []) $ fjoin ! $ frame ! $
         -- [what the struct owns]: the numbers' facts take the place of those of at and form, and it is put beside the answer's
         owned ! usize (Is usize) (uint-makes 𝓤 H A W w64) (r .at) _ (refl, LL.owed R.the-type R′.the-laws r _ isr .0 .1) $ move ! (1 ∷ 0 ∷ []) $
