@@ -25,6 +25,10 @@ was-false {t} p e = sym p ∙ not-true t e
 pub was-true : {t b : Bool} → t ≡ b → not t ≡ false → b ≡ true
 was-true {t} p e = sym p ∙ not-false t e
 
+-- where the first of two tests was found true, the second decides
+pub both-goes : {t a b x : Bool} → t ≡ a → not t ≡ false → x ≡ b → x ≡ both a b
+both-goes p e h = rw (was-true p e) h
+
 -- a negated answer is a test that fails
 pub not-fails : (b : Bool) → not b ≡ fails b
 not-fails true = refl
