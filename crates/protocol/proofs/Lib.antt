@@ -11,3 +11,4 @@ pub mod Written
 pub mod Reached
 pub mod Order
 pub mod Keep
+pub mod Tally

@@ -1,9 +1,9 @@
--- A test of each of the first n elements of a list: met element by element, at each index, and after one is replaced.
+-- A test of each of the first n elements of a list: met element by element, at each index, and after one is replaced; and how many pass it.
 use Prim.Native.Nat.{ℕ, zero, suc, _+_, _≤_, _<_}
 use mathlib.Core.{Path.{_≡_, refl, sym, _∙_}, Bool.{Bool, true, false, not}, List.{List, [], _∷_}}
-use native.Mathlib.Numerals.{add-one}
-use lib.{ListN.{length, take, drop, getD, set, drop-of-length-le}, Seq.{drop-cons, getD-take, length-take-le}}
-use Rattle.protocol.specs.Pick.{both, every}
+use native.Mathlib.{Numerals.add-one, Omega.arith}
+use lib.{ListN.{length, take, drop, getD, set, drop-of-length-le, replicate}, Seq.{drop-cons, getD-take, length-take-le}}
+use Rattle.protocol.specs.Pick.{pick, both, every, howMany}
 use Rattle.protocol.proofs.Tests.{both-true, was-false, was-true}
 
 -- what a loop knows that asks a test of each element in turn and has passed i of them
@@ -55,3 +55,20 @@ every-set f (x ∷ xs) zero zero v e h = refl
 every-set f (x ∷ xs) zero (suc i) v e h = refl
 every-set f (x ∷ xs) (suc n) zero v e h = rw h (both-true (f x) _ e .1)
 every-set f (x ∷ xs) (suc n) (suc i) v e h = rw (both-true (f x) _ e .0) (every-set f xs n i v (both-true (f x) _ e .1) h)
+
+-- how many pass a test, after one is replaced by another
+pub how-many-set : {A : Type 0} (f : A → Bool) (d : A) (xs : List A) (n i : ℕ) (v : A) → i < n → n ≤ length xs
+    → howMany f (take n (set xs i v)) + pick (f (getD xs i d)) 1 0 ≡ howMany f (take n xs) + pick (f v) 1 0
+unfolding howMany
+how-many-set f d [] n i v h k = absurd (omega arith)
+how-many-set f d (x ∷ xs) zero i v h k = absurd (omega arith)
+how-many-set f d (x ∷ xs) (suc n) zero v h k = omega arith
+how-many-set f d (x ∷ xs) (suc n) (suc i) v h k = omega (arith, how-many-set f d xs n i v (omega arith) (omega arith))
+
+-- of many times an element that does not pass
+pub how-many-none : {A : Type 0} (f : A → Bool) (a : A) → f a ≡ false → (m n : ℕ) → howMany f (take n (replicate m a)) ≡ 0
+unfolding howMany
+how-many-none f a e zero zero = refl
+how-many-none f a e zero (suc n) = refl
+how-many-none f a e (suc m) zero = refl
+how-many-none f a e (suc m) (suc n) = rw (e, how-many-none f a e m n)

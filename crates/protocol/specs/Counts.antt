@@ -1,25 +1,116 @@
--- What the records of a run count as: "The end line counts step lines met, .. commits, and `refused=` lines above it."
+-- What the records of a run count as: the end line's counts (01, "Journal and driver") and the tally's (02, One). Each record is of one class,
+-- by its call and its answer; what is counted is the records of a class.
 use Prim.Native.Nat.{ℕ, _+_}
-use mathlib.Core.List.{List, [], _∷_}
-use Rattle.protocol.specs.{Step.{Reply, refused, done, commit}, Run.Record, declared.{Call.Call, Counts.Counts}}
+use mathlib.Core.{Bool.{Bool, true, false}, List.List}
+use lib.{Dec.eqb, ListN.length}
+use Rattle.protocol.specs.{Pick.{pick, howMany}, Step.{Op, load, store, fence, Reply, refused, done, commit}, Run.Record, declared.Counts.Counts}
+use Rattle.protocol.specs.declared.Call.{Call, the-variants.{Load, Store, Fence, Evict, Advance, Serve, Receive, Yield, Take}}
+use Rattle.protocol.specs.declared.Name.{Name, the-variants.{Open, Ask, Recall, Share, Renew, Own, Drop, Evict as Evicted, Advance as Advanced, Yield as Yielded, Take as Taken}}
+use Rattle.protocol.specs.declared.Class.{Class, the-variants.{Load as ALoad, Store as AStore, Fence as AFence, Ask as AnAsk, Share as AShare}}
+use Rattle.protocol.specs.declared.Class.the-variants.{Renew as ARenew, Own as AnOwn, Refused as ARefusal, Other}
 
--- so many step lines, commits and refusals
-abbrev pub counts : ℕ → ℕ → ℕ → Counts
-counts n c r = record { steps = n; commits = c; refusals = r }
+-- ---- the class of a record
+
+abbrev pub isServe : Call → Bool
+isServe (Load c l) = false
+isServe (Store c l) = false
+isServe (Fence c) = false
+isServe (Evict c l) = false
+isServe (Advance c by) = false
+isServe (Serve c) = true
+isServe (Receive c) = false
+isServe (Yield l) = false
+isServe (Take l) = false
+
+-- "those commits"
+abbrev pub commitClass : {A : Type 0} → Op A → Class
+commitClass (load l b) = ALoad
+commitClass (store l b) = AStore
+commitClass fence = AFence
+
+-- "The first four count those commits and answers, the last three the serve answers": share, renew and own are counted where a serve answers
+-- them, and not where a receive does
+abbrev pub nameClass : Bool → Name → Class
+nameClass serves Open = Other
+nameClass serves Ask = AnAsk
+nameClass serves Recall = Other
+nameClass serves Share = pick serves AShare Other
+nameClass serves Renew = pick serves ARenew Other
+nameClass serves Own = pick serves AnOwn Other
+nameClass serves Drop = Other
+nameClass serves Evicted = Other
+nameClass serves Advanced = Other
+nameClass serves Yielded = Other
+nameClass serves Taken = Other
+
+-- THE CLASS of a call with its answer
+abbrev pub classOf : Call → Reply → Class
+classOf call (refused n) = ARefusal
+classOf call (done d) = nameClass (isServe call) d
+classOf call (commit c t o) = commitClass o
+
+-- the classes by number, and whether two are the same
+abbrev pub classNumber : Class → ℕ
+classNumber ALoad = 0
+classNumber AStore = 1
+classNumber AFence = 2
+classNumber AnAsk = 3
+classNumber AShare = 4
+classNumber ARenew = 5
+classNumber AnOwn = 6
+classNumber ARefusal = 7
+classNumber Other = 8
+
+abbrev pub sameClass : Class → Class → Bool
+sameClass a b = eqb (classNumber a) (classNumber b)
+
+-- ---- counting
+
+-- whether a record is of a class, and how many of a list are
+abbrev pub isOf : Class → Record → Bool
+isOf k r = sameClass (classOf (r .entry .call) (r .reply)) k
+
+abbrev pub number : Class → List Record → ℕ
+number k rs = howMany (isOf k) rs
+
+-- the counts of n step lines, of which so many are of each class
+abbrev pub counts : ℕ → (Class → ℕ) → Counts
+counts n of =
+    record {
+      steps = n;
+      commits = of ALoad + of AStore + of AFence;
+      refusals = of ARefusal;
+      loads = of ALoad;
+      stores = of AStore;
+      fences = of AFence;
+      asks = of AnAsk;
+      shares = of AShare;
+      renews = of ARenew;
+      owns = of AnOwn;
+    }
 
 abbrev pub nothingMet : Counts
-nothingMet = counts 0 0 0
+nothingMet = counts 0 (λ (k : Class). 0)
 
--- what a call with its answer adds
-abbrev pub countsOf : Call → Reply → Counts
-countsOf call (refused n) = counts 1 0 1
-countsOf call (done d) = counts 1 0 0
-countsOf call (commit c t o) = counts 1 1 0
+-- THE COUNTS of a list of records: "each equals the number of such records"
+abbrev pub tally : List Record → Counts
+tally rs = counts (length rs) (λ (k : Class). number k rs)
+
+-- one step line, or none, of a class
+abbrev pub oneOf : ℕ → Class → Counts
+oneOf n a = counts n (λ (k : Class). pick (sameClass a k) 1 0)
 
 abbrev pub sum : Counts → Counts → Counts
-sum a b = counts (a .steps + b .steps) (a .commits + b .commits) (a .refusals + b .refusals)
-
--- the counts of a list of records
-unfoldable pub total : List Record → Counts
-total [] = nothingMet
-total (r ∷ rs) = sum (countsOf (r .entry .call) (r .reply)) (total rs)
+sum a b =
+    record {
+      steps = a .steps + b .steps;
+      commits = a .commits + b .commits;
+      refusals = a .refusals + b .refusals;
+      loads = a .loads + b .loads;
+      stores = a .stores + b .stores;
+      fences = a .fences + b .fences;
+      asks = a .asks + b .asks;
+      shares = a .shares + b .shares;
+      renews = a .renews + b .renews;
+      owns = a .owns + b .owns;
+    }

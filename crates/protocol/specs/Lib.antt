@@ -11,4 +11,5 @@ pub mod Tables
 pub mod Step
 pub mod Run
 pub mod Counts
+pub mod Tally
 pub mod Order

@@ -1,5 +1,5 @@
 -- Choices by a test, and lists of rules of which the first that applies decides.
-use Prim.Native.Nat.{ℕ}
+use Prim.Native.Nat.{ℕ, _+_}
 use mathlib.Core.{Bool.{Bool, true, false}, List.{List, [], _∷_}}
 
 -- the first of two values where the test holds, else the second
@@ -19,6 +19,11 @@ fails a = pick a false true
 unfoldable pub every : {A : Type 0} → (A → Bool) → List A → Bool
 every f [] = true
 every f (x ∷ xs) = pick (f x) (every f xs) false
+
+-- how many elements pass the test
+unfoldable pub howMany : {A : Type 0} → (A → Bool) → List A → ℕ
+howMany f [] = 0
+howMany f (x ∷ xs) = pick (f x) 1 0 + howMany f xs
 
 -- a refusal: its number, and whether it applies
 pub record Rule : Type 0 where

@@ -7,7 +7,8 @@
 ghost use mathlib.Core.{Path._≡_, List.[]};
 ghost use Rattle.protocol.specs.Stamps.{greatest, atMost, earlier, same, madeEarlier, later, after, precedes};
 ghost use Rattle.protocol.specs.{Clock.{loaded, stored, fenced, advanced}, Fresh.{freshCore, freshCell, freshLine, freshState, smallest}};
-ghost use Rattle.protocol.specs.{Limits.{within, openingFits}, About.{concerns, about}, Step.meaning, Counts.countsOf};
+ghost use Rattle.protocol.specs.{Limits.{within, openingFits}, About.{concerns, about}, Step.{meaning, valued}};
+ghost use Rattle.protocol.specs.{Pick.pick, Counts.{isServe, nameClass, commitClass, classOf}};
 
 // A logical timestamp. It is compared only with another timestamp.
 pub struct Stamp(pub u32);
@@ -468,11 +469,103 @@ pub enum Answer {
     Commit { core: usize, ts: Stamp, kind: Kind },
 }
 
-// How many step lines were met, and how many of them were commits and refusals.
+// What a call with its answer counts as: a commit by its kind, an ask, what a serve answered, a refusal, or nothing
+// of these.
+pub enum Class {
+    Load,
+    Store,
+    Fence,
+    Ask,
+    Share,
+    Renew,
+    Own,
+    Refused,
+    Other,
+}
+
+// Whether a call is a serve.
+fn is_serve(call: Call) -> bool
+    ensures { λ r. ⌜ r ≡ isServe call ⌝ }
+{
+    match call {
+        Call::Load { .. } => false,
+        Call::Store { .. } => false,
+        Call::Fence { .. } => false,
+        Call::Evict { .. } => false,
+        Call::Advance { .. } => false,
+        Call::Serve { .. } => true,
+        Call::Receive { .. } => false,
+        Call::Yield { .. } => false,
+        Call::Take { .. } => false,
+    }
+}
+
+// A class that is counted where a serve answers: a receive answers the same again.
+fn served(serves: bool, class: Class) -> Class
+    ensures { λ r. ⌜ r ≡ pick serves class Class.Other ⌝ }
+{
+    if serves {
+        return class;
+    }
+    Class::Other
+}
+
+// The class of an answer that names what was done.
+fn name_class(serves: bool, name: Name) -> Class
+    ensures { λ r. ⌜ r ≡ nameClass serves name ⌝ }
+{
+    match name {
+        Name::Open => Class::Other,
+        Name::Ask => Class::Ask,
+        Name::Recall => Class::Other,
+        Name::Share => served(serves, Class::Share),
+        Name::Renew => served(serves, Class::Renew),
+        Name::Own => served(serves, Class::Own),
+        Name::Drop => Class::Other,
+        Name::Evict => Class::Other,
+        Name::Advance => Class::Other,
+        Name::Yield => Class::Other,
+        Name::Take => Class::Other,
+    }
+}
+
+// The class of a commit.
+fn commit_class(kind: Kind) -> Class
+    ensures { λ r. ⌜ r ≡ commitClass (valued kind []) ⌝ }
+{
+    match kind {
+        Kind::Load { .. } => Class::Load,
+        Kind::Store { .. } => Class::Store,
+        Kind::Fence => Class::Fence,
+    }
+}
+
+impl Class {
+    // The class of a call with its answer.
+    pub fn of(call: Call, answer: Answer) -> Class
+        ensures { λ r. ⌜ r ≡ classOf call (meaning answer []) ⌝ }
+    {
+        match answer {
+            Answer::Refused(_) => Class::Refused,
+            Answer::Done(name) => name_class(is_serve(call), name),
+            Answer::Commit { kind, .. } => commit_class(kind),
+        }
+    }
+}
+
+// How many step lines were met, how many of them were commits and refusals, and how many were of each class that the
+// tally counts.
 pub struct Counts {
     pub steps: u64,
     pub commits: u64,
     pub refusals: u64,
+    pub loads: u64,
+    pub stores: u64,
+    pub fences: u64,
+    pub asks: u64,
+    pub shares: u64,
+    pub renews: u64,
+    pub owns: u64,
 }
 
 impl Counts {
@@ -481,25 +574,14 @@ impl Counts {
         steps: 0,
         commits: 0,
         refusals: 0,
+        loads: 0,
+        stores: 0,
+        fences: 0,
+        asks: 0,
+        shares: 0,
+        renews: 0,
+        owns: 0,
     };
-
-    // What a call with its answer adds.
-    pub fn of(call: Call, answer: Answer) -> Counts
-        ensures { λ r. ⌜ r ≡ countsOf call (meaning answer []) ⌝ }
-    {
-        let mut k = Counts::NONE;
-        k.steps = 1;
-        match answer {
-            Answer::Refused(_) => {
-                k.refusals = 1;
-            }
-            Answer::Done(_) => {}
-            Answer::Commit { .. } => {
-                k.commits = 1;
-            }
-        }
-        k
-    }
 }
 
 // Which line of bytes a step moves, and where to.
