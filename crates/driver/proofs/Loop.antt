@@ -16,7 +16,7 @@ use Rattle.driver.specs.Listing.{Ending, EndsAt, lines, lastLines}
 use Rattle.driver.specs.Play.{runFrom, few, resumable, Leads, Piece, aStep, theEnd, Fills, finished, more, Plays}
 use Rattle.driver.specs.Pieces.{endingOf, IsByte, StepDue, DueAt, aStep as isStep, theEnd as isEnd, beside, BesideInside, answerLine, checkpointAt}
 use Rattle.driver.specs.{Pieces.playedBy, declared.{Checkpoint.Checkpoint, Played.Played, Last.Last, Due.{Due, the-variants.{Step, Last as AtLast}}}}
-use Rattle.driver.proofs.{Counting.{one-step, same-counts, few-later}, Stepping.replied, Running.{entryOf, leads-none, leads-more, lines-more}}
+use Rattle.driver.proofs.{Counting.{same-counts, few-later}, Stepping.replied, Running.{entryOf, leads-none, leads-more, lines-more}}
 use Rattle.driver.proofs.{Resuming.{Resumes, leads-on}, Putting.{Written, put-written, put-short, fills-none, fills-more}}
 
 -- at the loop's head: the steps gs were made from one checkpoint to the other, and their lines are written
@@ -190,7 +190,7 @@ module _ {j : Bytes} {from : Checkpoint} {p₀ q₀ old : Bytes} (s : StepInPlac
   counts-are = s .counts ∙ ap (sum (s .there .counts)) (same-counts (s .call) (s .d .answer) [] _ ∙ ap (countsOf (s .call)) reply-is)
 
   place-is : s .k .steps ≡ s .there .counts .steps + 1
-  place-is = ap (λ (x : Counts). x .steps) counts-are ∙ ap (λ (i : ℕ). s .there .counts .steps + i) (one-step (s .call) (outcome .reply))
+  place-is = ap (λ (x : Counts). x .steps) counts-are
 
   -- there is no room for it
   pub step-short :

@@ -4,9 +4,9 @@ use mathlib.Core.{Path.{_≡_, sym, _∙_}, Bool.true, List.List}
 use native.Mathlib.Omega.{arith}
 use lib.{Dec.{eqb, leb}, ListN.length}
 use borrow.Author.Tests.{not-true, leb-true, eqb-false, ne-eqb, le-leb}
-use Rattle.protocol.{specs.{Pick.fails, Buffers.Bytes, Machine.machine, Run.{Entry, Record}, Counts.total}, proofs.Tests.{both-true, not-fails}}
+use Rattle.protocol.{specs.{Pick.fails, Buffers.Bytes, Machine.machine, Run.{Entry, Record}, Counts.tally}, proofs.Tests.{both-true, not-fails}}
 use Rattle.driver.specs.{Listing.{Between, noLine, aLine}, Play.{runFrom, few, resumable, Leads}, declared.Checkpoint.Checkpoint}
-use Rattle.driver.proofs.{Reading.known, Counting.{few-sum, few-total}, Running.run-length}
+use Rattle.driver.proofs.{Reading.known, Counting.{few-sum, few-tally}, Running.run-length}
 
 -- what a checkpoint of a journal of n bytes says
 pub record Resumes (n : ℕ) (s : Checkpoint) : Type 0 where
@@ -45,5 +45,5 @@ leads-on {j} {from} {p} {q} {gs} {there} s l =
     record {
       named = λ z. r .named (sym (l .form) ∙ z);
       inside = steps-inside (l .steps) (r .inside);
-      few = rw (l .counts) (few-sum (from .counts) (total rs) (from .at) (length rs) (there .at) (r .few) (few-total rs) (omega (arith, steps-long (l .steps))));
+      few = rw (l .counts) (few-sum (from .counts) (tally rs) (from .at) (length rs) (there .at) (r .few) (few-tally rs) (omega (arith, steps-long (l .steps))));
     }

@@ -3,12 +3,12 @@ use Prim.Native.Nat.{ℕ, suc, _+_, _-_}
 use mathlib.Core.{Path.{_≡_, refl, sym, _∙_, ap}, List.{List, [], _∷_, _++_, append-assoc, append-nil}}
 use native.Mathlib.Omega.{arith}
 use lib.ListN.{length}
-use Rattle.protocol.specs.{Buffers.{Bytes, part}, Machine.{Machine, machine}, Step.{Reply, step}, Run.{Entry, Record, place, run}}
-use Rattle.protocol.specs.{Counts.{countsOf, sum, total}, declared.{Call.Call, Counts.Counts}}
+use Rattle.protocol.specs.{Pick.howMany, Buffers.{Bytes, part}, Machine.{Machine, machine}, Step.{Reply, step}, Run.{Entry, Record, place, run}}
+use Rattle.protocol.specs.{Counts.{countsOf, sum, tally}, declared.{Call.Call, Counts.Counts}}
 use Rattle.journal.specs.{Journal.NextOf, declared.Next.the-variants.Step}
 use Rattle.listing.specs.Record.{recordText}
 use Rattle.driver.specs.{Listing.{Data, Between, noLine, aLine, lines}, Play.{runFrom, Leads}, declared.Checkpoint.Checkpoint}
-use Rattle.driver.proofs.Counting.{plus-assoc, plus-none, total-append, total-steps}
+use Rattle.driver.proofs.Counting.{plus-assoc, plus-none, tally-append, tally-one}
 
 -- ---- one list of steps after another
 
@@ -44,7 +44,7 @@ run-length (g ∷ gs) p m = ap suc (run-length gs (suc p) (step m (g .call) (g .
 -- ---- from one checkpoint to another
 
 pub leads-none : (j : Bytes) (s : Checkpoint) (p q : Bytes) → Leads j s p q [] s p q
-unfolding run total
+unfolding run howMany
 leads-none j s p q = record { steps = noLine; form = refl; machine = refl; counts = sym (plus-none (s .counts)) }
 
 -- a call with its bytes, and the record of it at a checkpoint
@@ -66,7 +66,7 @@ module _ {j : Bytes} {a b : Checkpoint} {p q p' q' : Bytes} {gs : List Entry} (l
   unfolding run
   records-more =
       let k : a .counts .steps + 1 + length gs ≡ b .counts .steps + 1 =
-      omega (arith, run-length gs (a .counts .steps + 1) (machine (a .state) p q), total-steps before, ap (λ (c : Counts). c .steps) (l .counts)) in
+      omega (arith, run-length gs (a .counts .steps + 1) (machine (a .state) p q), ap (λ (c : Counts). c .steps) (l .counts)) in
       run-records gs (entryOf call bs ∷ []) (a .counts .steps + 1) (machine (a .state) p q) ∙ rw (k, ← l .machine)
 
   pub lines-more : lines (runFrom a p q (gs ++ (entryOf call bs ∷ [])) .records) ≡ lines before ++ recordText (place (b .counts .steps + 1)) reply
@@ -75,12 +75,11 @@ module _ {j : Bytes} {a b : Checkpoint} {p q p' q' : Bytes} {gs : List Entry} (l
       ap lines records-more ∙ lines-append before (recordAt b p' q' call bs ∷ [])
       ∙ ap (λ (t : Bytes). lines before ++ t) (append-nil (recordText (place (b .counts .steps + 1)) reply))
 
-  counts-more : sum (b .counts) (countsOf call reply) ≡ sum (a .counts) (total (runFrom a p q (gs ++ (entryOf call bs ∷ [])) .records))
-  unfolding total
+  counts-more : sum (b .counts) (countsOf call reply) ≡ sum (a .counts) (tally (runFrom a p q (gs ++ (entryOf call bs ∷ [])) .records))
   counts-more =
-      ap (λ (k : Counts). sum k (countsOf call reply)) (l .counts) ∙ plus-assoc (a .counts) (total before) (countsOf call reply)
+      ap (λ (k : Counts). sum k (countsOf call reply)) (l .counts) ∙ plus-assoc (a .counts) (tally before) (countsOf call reply)
       ∙ ap (sum (a .counts))
-      (ap (sum (total before)) (sym (plus-none (countsOf call reply))) ∙ sym (ap total records-more ∙ total-append before (recordAt b p' q' call bs ∷ [])))
+      (ap (sum (tally before)) (sym (tally-one (recordAt b p' q' call bs))) ∙ sym (ap tally records-more ∙ tally-append before (recordAt b p' q' call bs ∷ [])))
 
   pub leads-more :
       (d : Checkpoint) (x y : Bytes) {start end : ℕ} → NextOf j (b .at) (b .form) (Step call start end (d .at)) → Data (part j start (end - start)) bs

@@ -2,8 +2,8 @@
 -- last lines, whose counts are those of the records.
 use Prim.Native.Nat.{ℕ, _-_}
 use mathlib.Core.{Path._≡_, List.{List, [], _∷_, _++_}}
-use Rattle.protocol.specs.{Buffers.{Bytes, part}, Refusals.openRefusal, Step.refused, Run.{Entry, Record, place}, Counts.{counts, sum}}
-use Rattle.protocol.specs.declared.{Opening.Opening as Sizes, Call.Call, Counts.Counts}
+use Rattle.protocol.specs.{Buffers.{Bytes, part}, Refusals.openRefusal, Step.refused, Run.{Entry, Record, place}, Counts.{oneOf, sum}}
+use Rattle.protocol.specs.declared.{Opening.Opening as Sizes, Call.Call, Counts.Counts, Class.the-variants.Refused as ARefusal}
 use Rattle.spelling.specs.Hex.{Spells}
 use Rattle.journal.specs.{Journal.NextOf, declared.Next.the-variants.{Opening, Step, End, Refused}}
 use Rattle.listing.specs.Record.{recordText, endText}
@@ -47,7 +47,7 @@ stopLines k n = recordText (place (k .steps)) (refused n) ++ endText k
 -- "The end line counts step lines met, the one that ends the run too": after the steps counted in k
 abbrev pub lastLines : Counts → Ending → Bytes
 lastLines k ended = endText k
-lastLines k (stopped n) = stopLines (sum k (counts 1 0 1)) n
+lastLines k (stopped n) = stopLines (sum k (oneOf 1 ARefusal)) n
 
 -- no engine is opened: the first line's sizes or lease lie outside the limits (7); or the first line is refused (10 to 12), the input is
 -- empty (11) or over 65,536 bytes (14)
@@ -57,4 +57,4 @@ pub data NotOpened (journal : Bytes) : ℕ → Type 0 where
 
 -- the whole listing then: "n=0, end=0"
 abbrev pub notOpened : ℕ → Bytes
-notOpened n = stopLines (counts 0 0 1) n
+notOpened n = stopLines (oneOf 0 ARefusal) n

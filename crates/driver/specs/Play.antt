@@ -1,11 +1,11 @@
 -- What `start` and `play` promise: the checkpoints of a run, the steps that lead from one to another, and what the driver writes in
 -- between.
 use Prim.Native.Nat.{ℕ, _+_, _-_, _≤_, _<_}
-use mathlib.Core.{Path._≡_, Bool.{Bool, true, false}, List.{List, [], _++_}}
+use mathlib.Core.{Path._≡_, Bool.{Bool, true, false}, List.{List, [], _∷_, _++_}}
 use lib.{Dec.{leb, eqb}, ListN.{length, take, drop}}
 use denote.Ref.{RefT, now}
-use Rattle.protocol.specs.{Pick.{both, fails as untrue}, Fresh.{freshState, smallest}, Buffers.{Bytes, part}, Machine.machine, Refusals.openRefusal}
-use Rattle.protocol.specs.{Step.{openReply, step}, Run.{Entry, Run, place, run}, Counts.{nothingMet, sum, total}, declared.Opening.Opening as Sizes}
+use Rattle.protocol.specs.{Pick.{both, every, fails as untrue}, Fresh.{freshState, smallest}, Buffers.{Bytes, part}, Machine.machine, Refusals.openRefusal}
+use Rattle.protocol.specs.{Step.{openReply, step}, Run.{Entry, Run, place, run}, Counts.{nothingMet, sum, tally}, declared.Opening.Opening as Sizes}
 use Rattle.protocol.specs.declared.{Call.Call, Counts.Counts}
 use Rattle.journal.specs.{Journal.NextOf, declared.Next.the-variants.{Opening, Step}}
 use Rattle.listing.specs.Record.{recordText}
@@ -18,9 +18,14 @@ use Rattle.driver.specs.declared.{Progress.{Progress, the-variants.{Fini
 abbrev pub runFrom : Checkpoint → Bytes → Bytes → List Entry → Run
 runFrom s p q gs = run gs (s .counts .steps + 1) (machine (s .state) p q)
 
+-- each count
+abbrev pub each : Counts → List ℕ
+each k =
+    k .steps ∷ k .commits ∷ k .refusals ∷ k .loads ∷ k .stores ∷ k .fences ∷ k .asks ∷ k .shares ∷ k .renews ∷ k .owns ∷ []
+
 -- no count is above n
 abbrev pub few : Counts → ℕ → Bool
-few k n = both (leb (k .steps) n) (both (leb (k .commits) n) (leb (k .refusals) n))
+few k n = every (λ (x : ℕ). leb x n) (each k)
 
 -- a run of a journal of n bytes may have such a checkpoint: its first line was read, the offset is not past the end, and no more was met than
 -- there are bytes before the offset (a line has one byte or more)
@@ -36,7 +41,7 @@ pub record Leads (journal : Bytes) (a : Checkpoint) (p q : Bytes) (gs : List Ent
   pub steps : Between journal (a .form) (a .at) gs (b .at)
   pub form : b .form ≡ a .form
   pub machine : machine (b .state) p' q' ≡ runFrom a p q gs .last
-  pub counts : b .counts ≡ sum (a .counts) (total (runFrom a p q gs .records))
+  pub counts : b .counts ≡ sum (a .counts) (tally (runFrom a p q gs .records))
 
 -- what is written next from a checkpoint, in one piece: a step's line, or the last lines
 pub data Piece (journal : Bytes) (s : Checkpoint) (p q : Bytes) : Bytes → Type 0 where

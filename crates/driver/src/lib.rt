@@ -62,17 +62,33 @@ enum Due {
     Last(Last),
 }
 
+// How many counts there are.
+const COUNTS: usize = 10;
+
 // Whether no count is above `most`.
 fn few(counts: Counts, most: u64) -> bool
     ensures { λ r. ⌜ r ≡ few counts most ⌝ }
 {
-    if most < counts.steps {
-        return false;
+    let all = [
+        counts.steps,
+        counts.commits,
+        counts.refusals,
+        counts.loads,
+        counts.stores,
+        counts.fences,
+        counts.asks,
+        counts.shares,
+        counts.renews,
+        counts.owns,
+    ];
+    let mut i: usize = 0;
+    while i < COUNTS {
+        if most < all[i] {
+            return false;
+        }
+        i += 1;
     }
-    if most < counts.commits {
-        return false;
-    }
-    counts.refusals <= most
+    true
 }
 
 // Whether a run of a journal of n bytes may have a checkpoint with such an offset, form and counts.

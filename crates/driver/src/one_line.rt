@@ -3,7 +3,7 @@
 ghost use mathlib.Core.{Path._≡_, Bool.true, List.[]};
 ghost use Prim.Native.Nat.{_-_, _≤_, _<_};
 ghost use lib.ListN.{length};
-ghost use Rattle.protocol.specs.{Buffers.part, Refusals.{machineRefusal, callRefusal, orElse}, Run.place, Counts.{countsOf, sum}};
+ghost use Rattle.protocol.specs.{Buffers.part, Refusals.{machineRefusal, callRefusal, orElse}, Run.place, Counts.{countsOf, oneOf, sum}};
 ghost use Rattle.protocol.specs.Step.{done, meaning};
 ghost use Rattle.refusals.specs.Input.{machineWith};
 ghost use Rattle.spelling.specs.Over.{PutAt};
@@ -20,6 +20,7 @@ use journal::Next;
 use protocol::Act;
 use protocol::Answer;
 use protocol::Call;
+use protocol::Class;
 use protocol::Counts;
 use protocol::Name;
 use protocol::Opening;
@@ -100,16 +101,44 @@ pub(crate) fn due(
     }
 }
 
-// The counts with so many more.
-fn sum(counts: Counts, more: Counts) -> Counts
-    requires { ⌜ (few counts 9223372036854775807 ≡ true) × (few more 1 ≡ true) ⌝ }
-    ensures { λ r. ⌜ r ≡ sum counts more ⌝ }
+// The counts with a step line of a class more.
+fn counted(counts: Counts, class: Class) -> Counts
+    requires { ⌜ few counts 9223372036854775807 ≡ true ⌝ }
+    ensures { λ r. ⌜ r ≡ sum counts (oneOf 1 class) ⌝ }
 {
-    Counts {
-        steps: counts.steps + more.steps,
-        commits: counts.commits + more.commits,
-        refusals: counts.refusals + more.refusals,
+    let mut k = counts;
+    k.steps += 1;
+    match class {
+        Class::Load => {
+            k.commits += 1;
+            k.loads += 1;
+        }
+        Class::Store => {
+            k.commits += 1;
+            k.stores += 1;
+        }
+        Class::Fence => {
+            k.commits += 1;
+            k.fences += 1;
+        }
+        Class::Ask => {
+            k.asks += 1;
+        }
+        Class::Share => {
+            k.shares += 1;
+        }
+        Class::Renew => {
+            k.renews += 1;
+        }
+        Class::Own => {
+            k.owns += 1;
+        }
+        Class::Refused => {
+            k.refusals += 1;
+        }
+        Class::Other => {}
     }
+    k
 }
 
 // The counts with a call and its answer.
@@ -117,7 +146,7 @@ pub(crate) fn met(counts: Counts, call: Call, answer: Answer) -> Counts
     requires { ⌜ few counts 9223372036854775807 ≡ true ⌝ }
     ensures { λ r. ⌜ r ≡ sum counts (countsOf call (meaning answer [])) ⌝ }
 {
-    sum(counts, Counts::of(call, answer))
+    counted(counts, Class::of(call, answer))
 }
 
 // Whether a call stores.
@@ -191,14 +220,7 @@ pub(crate) fn put_last(out: &mut [u8], at: usize, last: Last, counts: Counts) ->
 {
     match last {
         Last::End => listing::put_end(out, at, counts),
-        Last::Refused(n) => {
-            let line = Counts {
-                steps: 1,
-                commits: 0,
-                refusals: 1,
-            };
-            put_stop(out, at, n, sum(counts, line))
-        }
+        Last::Refused(n) => put_stop(out, at, n, counted(counts, Class::Refused)),
     }
 }
 
@@ -276,12 +298,9 @@ pub(crate) fn refuse(out: &mut [u8], number: u32) -> Played
     requires { ⌜ number < 256 ⌝ }
     ensures { λ r. ⌜ Puts (notOpened number) refusedBy (now (out .entry)) (now (out .exit)) r ⌝ }
 {
-    let line = Counts {
-        steps: 0,
-        commits: 0,
-        refusals: 1,
-    };
-    match put_stop(out, 0, number, line) {
+    let mut counts = Counts::NONE;
+    counts.refusals = 1;
+    match put_stop(out, 0, number, counts) {
         Put::End(e) => unopened(Progress::Finished, e),
         Put::Short => unopened(Progress::Short, 0),
     }

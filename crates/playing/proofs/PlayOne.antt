@@ -4,7 +4,7 @@ use Prim.Native.Nat.{ℕ, _+_, _≤_, _<_}
 use mathlib.Core.{Path.{_≡_, refl, sym, _∙_, ap}, List.{List, [], _∷_, _++_}}
 use native.Mathlib.Omega.{arith}
 use lib.{ListN.{length, length-append}, Seq.append-snoc}
-use Rattle.protocol.{specs.{Buffers.Bytes, Machine.{Machine, machine}, Run.{Entry, Record, run}, Counts.{sum, total}}, proofs.Tests.never}
+use Rattle.protocol.{specs.{Buffers.Bytes, Machine.{Machine, machine}, Run.{Entry, Record, run}, Counts.{sum, tally}}, proofs.Tests.never}
 use Rattle.driver.proofs.Running.{entryOf, lines-append, run-records, lines-more}
 use Rattle.driver.specs.{Listing.{Ending, Between, aLine, EndsAt, lines, lastLines}, Play.{runFrom, Leads, Piece, aStep, theEnd, Tells, finished, more, unfit}}
 use Rattle.driver.specs.declared.{Checkpoint.Checkpoint, Progress.{Progress, the-variants.{Finished, More}}}
@@ -63,7 +63,7 @@ leads-same :
 leads-same {a = a} {b} {d} {p} {q} {p₁} {q₁} {p₂} {q₂} l m e n =
     checkpoint-same b d p₁ q₁ p₂ q₂ n (l .form ∙ sym (m .form))
     (l .machine ∙ ap (λ (ks : List Entry). runFrom a p q ks .last) e ∙ sym (m .machine))
-    (l .counts ∙ ap (λ (ks : List Entry). sum (a .counts) (total (runFrom a p q ks .records))) e ∙ sym (m .counts))
+    (l .counts ∙ ap (λ (ks : List Entry). sum (a .counts) (tally (runFrom a p q ks .records))) e ∙ sym (m .counts))
 
 -- the progress, the checkpoint with the buffers and the text are the same
 abbrev Alike : Progress → Progress → Checkpoint → Checkpoint → Bytes → Bytes → Bytes → Bytes → Bytes → Bytes → Type 0

@@ -8,8 +8,8 @@ use borrow.Author.Tests.{eqb-true, le-leb}
 use Rattle.protocol.proofs.{Tests.never, Extents.inside, Refusals.{machine-fit, named, store-width, not-refused}}
 use Rattle.protocol.specs.{Pick.pick, Buffers.{Bytes, copyStart, copyBytes}, About.about, Machine.{Machine, machine}}
 use Rattle.protocol.specs.{Refusals.{openRefusal, wrongCount, refusal}, Run.{Entry, place, run}}
-use Rattle.protocol.specs.{Step.{refused, done as reply, meaning, actBytes, commitBytes, openReply, accepted, step}, Counts.{counts, sum}}
-use Rattle.protocol.specs.declared.{Place.Place, Counts.Counts, Opening.Opening as Sizes, Call.Call}
+use Rattle.protocol.specs.{Step.{refused, done as reply, meaning, actBytes, commitBytes, openReply, accepted, step}, Counts.{oneOf, sum}}
+use Rattle.protocol.specs.declared.{Place.Place, Counts.Counts, Class.the-variants.Refused as ARefusal, Opening.Opening as Sizes, Call.Call}
 use Rattle.protocol.specs.declared.{Act.{Act, the-variants.{Load, Store, Fence, Advance, Transfer}}, Answer.the-variants.Done, Name.the-variants.Open}
 use Rattle.protocol.specs.declared.Effect.{Effect}
 use Rattle.journal.proofs.Lines.{line-read, line-inside}
@@ -55,7 +55,7 @@ step-length at m call bs = go (eqb (refusal m call (length bs)) 0) refl _ _ _
 last-length : (k : Counts) (e : Ending) → length (lastLines k e) ≤ pieceBytes
 last-length k ended = omega (arith, end-length k)
 last-length k (stopped n) =
-    simp length-append (omega (arith, refused-length (place (k .steps + 1)) n, end-length (sum k (counts 1 0 1))))
+    simp length-append (omega (arith, refused-length (place (k .steps + 1)) n, end-length (sum k (oneOf 1 ARefusal))))
 
 -- what is written next, whatever it is
 piece-length : {j : Bytes} {s : Checkpoint} {p q t : Bytes} → Piece j s p q t → length t ≤ pieceBytes
@@ -72,7 +72,7 @@ opening-length o = go (eqb (openRefusal o) 0)
     go false = omega (arith, refused-length (place 0) (openRefusal o))
 
 unopened-length : (n : ℕ) → length (notOpened n) ≤ pieceBytes
-unopened-length n = simp length-append (omega (arith, refused-length (place 0) n, end-length (counts 0 0 1)))
+unopened-length n = simp length-append (omega (arith, refused-length (place 0) n, end-length (oneOf 0 ARefusal)))
 
 -- ---- the run gets to its end
 

@@ -2,10 +2,10 @@
 use Prim.Native.Nat.{ℕ, _≤_, _<_}
 use mathlib.Core.{Path._≡_, Bool.true, List.List}
 use lib.ListN.{length}
-use Rattle.protocol.specs.{Buffers.Bytes, Run.Entry}
+use Rattle.protocol.specs.{Buffers.Bytes, Run.Entry, declared.Counts.Counts}
 use Rattle.driver.specs.{Listing.Ending, Play.{resumable, Plays, Starts}, declared.Checkpoint.Checkpoint}
 use Rattle.driver.specs.declared.{Progress.{Progress, the-variants.{Finished, More}}, Played.Played}
-use Rattle.playing.specs.{Listing.{ReadAs, Listing}, Calls.{joined, Playing}}
+use Rattle.playing.specs.{Listing.{ReadAs, Listing, Tally}, Calls.{joined, Playing}}
 
 -- ---- the listing
 
@@ -30,9 +30,21 @@ pub record OneListing (journal : Bytes) : Type 0 where
 abbrev pub OneListingTheorem : Type 0
 OneListingTheorem = (journal : Bytes) → OneListing journal
 
--- what `start` and `play` write for a journal, put together, is its listing
+-- what `start` and `play` write for a journal, put together, is its listing, and what they counted is its tally
 abbrev pub WholeTheorem : Type 0
-WholeTheorem = (journal : Bytes) (texts : List Bytes) → Playing journal texts → Listing journal (joined texts)
+WholeTheorem = (journal : Bytes) (texts : List Bytes) (counts : Counts) → Playing journal texts counts → Listing journal (joined texts) × Tally journal counts
+
+-- ---- the tally
+
+-- a journal's tally, and no other
+pub record OneTally (journal : Bytes) : Type 0 where
+  pub counts : Counts
+  pub holds : Tally journal counts
+  pub only : (k : Counts) → Tally journal k → k ≡ counts
+
+-- every journal has exactly one tally
+abbrev pub OneTallyTheorem : Type 0
+OneTallyTheorem = (journal : Bytes) → OneTally journal
 
 -- ---- one answer
 

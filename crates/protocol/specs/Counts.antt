@@ -5,7 +5,8 @@ use mathlib.Core.{Bool.{Bool, true, false}, List.List}
 use lib.{Dec.eqb, ListN.length}
 use Rattle.protocol.specs.{Pick.{pick, howMany}, Step.{Op, load, store, fence, Reply, refused, done, commit}, Run.Record, declared.Counts.Counts}
 use Rattle.protocol.specs.declared.Call.{Call, the-variants.{Load, Store, Fence, Evict, Advance, Serve, Receive, Yield, Take}}
-use Rattle.protocol.specs.declared.Name.{Name, the-variants.{Open, Ask, Recall, Share, Renew, Own, Drop, Evict as Evicted, Advance as Advanced, Yield as Yielded, Take as Taken}}
+use Rattle.protocol.specs.declared.Name.{Name, the-variants.{Open, Ask, Recall, Share, Renew, Own, Drop, Evict as Evicted}}
+use Rattle.protocol.specs.declared.Name.the-variants.{Advance as Advanced, Yield as Yielded, Take as Taken}
 use Rattle.protocol.specs.declared.Class.{Class, the-variants.{Load as ALoad, Store as AStore, Fence as AFence, Ask as AnAsk, Share as AShare}}
 use Rattle.protocol.specs.declared.Class.the-variants.{Renew as ARenew, Own as AnOwn, Refused as ARefusal, Other}
 
@@ -96,9 +97,13 @@ nothingMet = counts 0 (λ (k : Class). 0)
 abbrev pub tally : List Record → Counts
 tally rs = counts (length rs) (λ (k : Class). number k rs)
 
--- one step line, or none, of a class
+-- a record of a class, with n step lines
 abbrev pub oneOf : ℕ → Class → Counts
 oneOf n a = counts n (λ (k : Class). pick (sameClass a k) 1 0)
+
+-- what a call with its answer adds
+abbrev pub countsOf : Call → Reply → Counts
+countsOf call r = oneOf 1 (classOf call r)
 
 abbrev pub sum : Counts → Counts → Counts
 sum a b =

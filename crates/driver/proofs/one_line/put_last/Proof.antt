@@ -4,7 +4,7 @@ use Rattle.driver.proofs.one_line.put_last.Statement.{statement}
 use Rattle.driver.proofs.one_line.put_last.Tie as tie
 
 returns-2 : tie.Need-returns-2
-returns-2 c = rw (c .before .before .before .before .before .before .last .given .1) (rw (c .before .before .before .sum .ensures) at (c .before .before .put-stop .ensures))
+returns-2 c = rw (c .before .before .before .before .before .before .last .given .1) (rw (c .before .before .before .counted .ensures) at (c .before .before .put-stop .ensures))
 
 pub put-last-spec : {M : Type 1} → statement M
 put-last-spec =

@@ -6,9 +6,9 @@ use lib.ListN.{length}
 use borrow.Author.Needs.{needs}
 use Rattle.protocol.proofs.{Tests.{was-true, was-false}, Extents.{Inside, inside, copies-most, private-most, rows-most, shared-most}}
 use Rattle.driver.{specs.{Play.resumable, declared.Progress.the-variants.More}, proofs.Starting.start-fits}
-use Rattle.steps.specs.Listed.{part}
-use Rattle.steps.proofs.{Calling.{list-over, list-more, list-played, part-zeros}, list.Statement.statement}
-use Rattle.steps.proofs.list.Tie as tie
+use Rattle.runner.specs.Listed.{part}
+use Rattle.runner.proofs.{Calling.{list-over, list-more, list-played, part-zeros}, list.Statement.statement}
+use Rattle.runner.proofs.list.Tie as tie
 
 -- ---- the points of the function, each from a later one
 

@@ -8,7 +8,7 @@ use Rattle.driver.specs.{Play.{resumable, Plays, Starts}, declared.Checkpoint.C
 use Rattle.driver.{specs.declared.{Progress.{Progress, the-variants.{Finished, More}}, Played.Played}, proofs.Resuming.resumes}
 use Rattle.playing.specs.{Calls.{Plays-on, last, next, Playing, over, begun}, Theorems.{Begun, listed, running, Onward, ends, further}}
 use Rattle.playing.proofs.{Whole.whole-theorem, Progressing.{start-advances-theorem, play-advances-theorem}}
-use Rattle.steps.specs.Listed.{moreToPlay, Ended, ended, stopped, Listed, whole, part}
+use Rattle.runner.specs.Listed.{moreToPlay, Ended, ended, stopped, Listed, whole, part}
 
 -- calls of `play` lead from a checkpoint with the buffers p₀ and q₀ to another with p and q, from where `play` goes on
 pub record Called (j : Bytes) (from : Checkpoint) (p₀ q₀ : Bytes) (there : Checkpoint) (p q out : Bytes) : Type 0 where

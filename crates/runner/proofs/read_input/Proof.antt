@@ -6,8 +6,8 @@ use lib.ListN.{length}
 use borrow.{Author.Needs.needs, Rule.Slice.PartMut.{putMid, mid-len}}
 use Rattle.protocol.specs.Buffers.{Bytes}
 use Rattle.io.proofs.Counting.{counts}
-use Rattle.steps.proofs.read_input.Statement.{statement}
-use Rattle.steps.proofs.read_input.Tie as tie
+use Rattle.runner.proofs.read_input.Statement.{statement}
+use Rattle.runner.proofs.read_input.Tie as tie
 
 abbrev Inv-loop : tie.InvT-loop
 Inv-loop buf₀ done₀ retries₀ buf done retries = (length buf ≡ length buf₀) × (done ≤ length buf)

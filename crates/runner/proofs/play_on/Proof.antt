@@ -5,9 +5,9 @@ use native.Mathlib.Omega.{arith}
 use lib.ListN.{length}
 use borrow.Author.Needs.{needs}
 use Rattle.protocol.proofs.Tests.{was-true, was-false}
-use Rattle.steps.specs.Listed.{stopped}
-use Rattle.steps.proofs.{Calling.{Called, called-start, call-over, call-further, call-more}, play_on.Statement.statement}
-use Rattle.steps.proofs.play_on.Tie as tie
+use Rattle.runner.specs.Listed.{stopped}
+use Rattle.runner.proofs.{Calling.{Called, called-start, call-over, call-further, call-more}, play_on.Statement.statement}
+use Rattle.runner.proofs.play_on.Tie as tie
 
 abbrev Inv-loop : tie.InvT-loop
 Inv-loop journal private₀ shared₀ out₀ there₀ private shared out there =

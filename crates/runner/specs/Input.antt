@@ -1,7 +1,7 @@
 -- What reading standard input came to. No contract can speak of the bytes that a read puts into a buffer.
 use Rattle.protocol.specs.Buffers.{Bytes}
 use Rattle.io.specs.Counts.{Counts}
-use Rattle.steps.specs.declared.Input.{Input, the-variants.{Read, Failed}}
+use Rattle.runner.specs.declared.Input.{Input, the-variants.{Read, Failed}}
 
 -- so many bytes are at the start of the buffer, or a read failed
 abbrev pub ReadInto : Input → Bytes → Type 0
