@@ -112,6 +112,11 @@ few-later k n m e h = let a = each-few k n e in few-each k m (omega arith)
 pub few-sum : (a b : Counts) (n m l : ℕ) → few a n ≡ true → few b m ≡ true → n + m ≤ l → few (sum a b) l ≡ true
 few-sum a b n m l e f h = let x = each-few a n e in let y = each-few b m f in few-each (sum a b) l (omega arith)
 
+-- nothing is few
+pub few-none : (n : ℕ) → few nothingMet n ≡ true
+unfolding every
+few-none n = few-later nothingMet 0 n refl (omega arith)
+
 -- a record counts once at most, in each
 few-one : (k : Class) → few (oneOf 1 k) 1 ≡ true
 unfolding every

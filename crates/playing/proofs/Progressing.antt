@@ -4,7 +4,7 @@ use Prim.Native.Nat.{ℕ, _+_, _≤_, _<_}
 use mathlib.Core.{Path.{_≡_, refl, sym, _∙_, ap}, Bool.{Bool, true, false}, List.{List, [], _∷_}}
 use native.Mathlib.Omega.{arith}
 use lib.{Dec.eqb, ListN.{length, drop, length-append, length-take}}
-use borrow.Author.Tests.{eqb-true, le-leb}
+use borrow.Author.Tests.{eqb-true}
 use Rattle.protocol.proofs.{Tests.never, Extents.inside, Refusals.{machine-fit, named, store-width, not-refused}}
 use Rattle.protocol.specs.{Pick.pick, Buffers.{Bytes, copyStart, copyBytes}, About.about, Machine.{Machine, machine}}
 use Rattle.protocol.specs.{Refusals.{openRefusal, wrongCount, refusal}, Run.{Entry, place, run}}
@@ -14,7 +14,7 @@ use Rattle.protocol.specs.declared.{Act.{Act, the-variants.{Load, Store, Fence,
 use Rattle.protocol.specs.declared.Effect.{Effect}
 use Rattle.journal.proofs.Lines.{line-read, line-inside}
 use Rattle.listing.{specs.Record.recordText, proofs.Lengths.{record-length, end-length}}
-use Rattle.driver.proofs.{Reading.known, Resuming.{resumes-again, steps-long, leads-on}, Putting.refused-length}
+use Rattle.driver.proofs.{Reading.known, Counting.few-none, Resuming.{resumes-again, steps-long, leads-on}, Putting.refused-length}
 use Rattle.driver.specs.Listing.{Ending, ended, stopped, lines, lastLines, notOpened}
 use Rattle.driver.specs.Play.{resumable, Piece, aStep, theEnd, Tells, finished, more, unfit, firstCheckpoint, Begins, opens, fails, noRoom, noRoomToEnd}
 use Rattle.driver.specs.declared.{Checkpoint.Checkpoint, Progress.Progress}
@@ -97,7 +97,7 @@ told-begun :
     {j : Bytes} {there : Checkpoint} {text : Bytes} {room : ℕ} {g : Progress} → Begins j there text room g → pieceBytes ≤ length text + room → Begun j there g
 told-begun {j} (opens {form = f} {o = o} {next = n} x h t u) k =
     let i = line-inside (line-read x refl .1) in
-    running (rw t (resumes-again (length j) (firstCheckpoint n f o) (record { named = known x .1; inside = i .1; few = rw (le-leb 0 n (omega arith)) })))
+    running (rw t (resumes-again (length j) (firstCheckpoint n f o) (record { named = known x .1; inside = i .1; few = few-none n })))
 told-begun (fails n t u) k = listed
 told-begun (noRoom {o = o} x h t u r) k = absurd (omega (arith, opening-length o, ap length u))
 told-begun (noRoomToEnd {n = n} x t u r) k = absurd (omega (arith, unopened-length n, ap length u))
