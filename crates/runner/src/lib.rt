@@ -107,7 +107,8 @@ fn play_on(
         }
         there = played.checkpoint;
         if !more_to_play(progress) {
-            return Ran::Whole(there.counts);
+            let counts = there.counts;
+            return Ran::Whole(counts);
         }
     }
 }
@@ -128,7 +129,8 @@ pub fn play_whole(journal: &[u8], texts: Texts) -> Ran
     }
     let checkpoint = played.checkpoint;
     if !more_to_play(progress) {
-        return Ran::Whole(checkpoint.counts);
+        let counts = checkpoint.counts;
+        return Ran::Whole(counts);
     }
     let state = checkpoint.state;
     let opening = state.opening;
