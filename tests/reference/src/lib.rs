@@ -2,7 +2,8 @@
 //! these documents alone.
 //!
 //! It exists to be compared with the product: the same journal must give the
-//! same listing, and the same tally, byte for byte. It is plain code, and nothing in it is proved.
+//! same listing, and the same tally, byte for byte. It is plain code, and nothing
+//! in it is proved.
 
 pub mod coverage;
 pub mod damage;
