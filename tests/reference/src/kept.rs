@@ -52,9 +52,12 @@ pub enum Shown {
     Order,
     /// The listing differs, and demand 3 fails.
     Both,
+    /// The journal's tally differs, whatever its listing does.
+    Tally,
 }
 
-/// The lines of `faults.txt`: fault, journal, and `listing`, `order` or `both`.
+/// The lines of `faults.txt`: fault, journal, and `listing`, `order`, `both` or
+/// `tally`.
 pub fn fault_table(folder: &Path) -> Result<Vec<(String, String, Shown)>, String> {
     let path = folder.join("faults.txt");
     let text = fs::read_to_string(&path).map_err(|error| format!("{}: {error}", path.display()))?;
@@ -63,6 +66,7 @@ pub fn fault_table(folder: &Path) -> Result<Vec<(String, String, Shown)>, String
         [fault, journal, "listing"] => Ok((fault.into(), journal.into(), Shown::Listing)),
         [fault, journal, "order"] => Ok((fault.into(), journal.into(), Shown::Order)),
         [fault, journal, "both"] => Ok((fault.into(), journal.into(), Shown::Both)),
+        [fault, journal, "tally"] => Ok((fault.into(), journal.into(), Shown::Tally)),
         _ => Err(format!("faults.txt: not a row: {row}")),
     })
     .collect()

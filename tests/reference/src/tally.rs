@@ -29,6 +29,15 @@ pub struct Tally {
 }
 
 impl Tally {
+    /// The tally of a run's records.
+    pub fn of(records: &[Record]) -> Tally {
+        let mut tally = Tally::default();
+        for record in records {
+            tally.count(record);
+        }
+        tally
+    }
+
     /// The counts with their names, in the order of the line.
     pub fn counts(&self) -> [(&'static str, u32); 7] {
         [
@@ -83,12 +92,14 @@ pub struct Tallied {
 impl Tallied {
     /// Plays a journal on a machine with a fault, or with none, and counts.
     pub fn of(journal: &[u8], fault: Fault) -> Tallied {
-        let mut tally = Tally::default();
         let mut run = Run::with_fault(journal, fault);
-        for record in run.by_ref() {
-            tally.count(&record);
-        }
-        Tallied { tally, still_asked: run.machine().map_or(0, still_asked) }
+        let records = run.by_ref().collect();
+        Tallied::of_run(&fault.tallied(records), run.machine())
+    }
+
+    /// The tally of a run with these records, which left this machine, or none.
+    pub fn of_run(records: &[Record], machine: Option<&Machine>) -> Tallied {
+        Tallied { tally: Tally::of(records), still_asked: machine.map_or(0, still_asked) }
     }
 
     /// Whether every request was answered by the manager or is still asked: asks =
