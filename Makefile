@@ -1,14 +1,15 @@
-# make run [JOURNAL=path]      play a journal (default: examples/sample.journal); standard output is just the listing
-# make build                   prove and build the program target/bin/steps and the library target/staticlib/libhost.a
-# make test                    prove every crate, try the must-fail edits, run the programs and the project's other tests
-# make selftest                the tests of the tests alone, after make build (part of make test)
-# make bench                   speed of the engine, the line check and steps (not part of make test)
-# make wrong-programs          try further wrong programs, which the prover must refuse (not part of make test)
-# make memcheck                the C test of the line check under valgrind
-# make install [PREFIX=path]   the program, the library, the header and the manual page (default: /usr/local; DESTDIR is heeded)
-# make uninstall [PREFIX=path] remove these four files
-# make clean                   remove what was built
-# make help                    this list
+# make run [JOURNAL=path]       play a journal (default: examples/sample.journal); standard output is just the listing
+# make run-tally [JOURNAL=path] count a journal's traffic (the same default); standard output is just its line
+# make build                    prove and build the programs target/bin/steps and tally and the library target/staticlib/libhost.a
+# make test                     prove every crate, try the must-fail edits, run the programs and the project's other tests
+# make selftest                 the tests of the tests alone, after make build (part of make test)
+# make bench                    speed of the engine, the line check and steps (not part of make test)
+# make wrong-programs           try further wrong programs, which the prover must refuse (not part of make test)
+# make memcheck                 the C test of the line check under valgrind
+# make install [PREFIX=path]    the programs, the library, the header and the manual pages (default: /usr/local; DESTDIR is heeded)
+# make uninstall [PREFIX=path]  remove these six files
+# make clean                    remove what was built
+# make help                     this list
 
 PREFIX = /usr/local
 JOURNAL = examples/sample.journal
@@ -25,9 +26,11 @@ unexport MAKEFLAGS MFLAGS
 # Of each installed file: its mode, where it is here, where it goes under PREFIX.
 define INSTALLED
 755 target/bin/steps bin/steps
+755 target/bin/tally bin/tally
 644 target/staticlib/libhost.a lib/libfabric.a
 644 include/fabric.h include/fabric.h
 644 man/steps.1 share/man/man1/steps.1
+644 man/tally.1 share/man/man1/tally.1
 endef
 export INSTALLED
 
@@ -56,7 +59,7 @@ need-python3: what = Python
 need-cargo: what = the Rust toolchain
 need-valgrind: what = valgrind
 
-.PHONY: help run build test selftest bench wrong-programs memcheck install uninstall clean journal $(NEEDED)
+.PHONY: help run run-tally build test selftest bench wrong-programs memcheck install uninstall clean journal $(NEEDED)
 
 help:
 	@sed -n 's/^# \(make .*\)/\1/p' Makefile
@@ -65,8 +68,12 @@ run: journal need-rt
 	$(call prove,check steps)
 	@target/bin/steps <"$$JOURNAL"
 
+run-tally: journal need-rt
+	$(call prove,check tally)
+	@target/bin/tally <"$$JOURNAL"
+
 build: need-rt
-	$(call prove,check steps host)
+	$(call prove,check steps tally host)
 	$(call prove,staticlib host)
 
 test: need-rt need-gcc need-python3 need-cargo
@@ -101,7 +108,7 @@ clean:
 # The journal can be read: looked at before anything is proved.
 journal:
 	@[ -r "$$JOURNAL" ] && [ ! -d "$$JOURNAL" ] || { \
-	    printf 'make run: no journal that can be read: %s\n' "$$JOURNAL" >&2; \
+	    printf 'make: no journal that can be read: %s\n' "$$JOURNAL" >&2; \
 	    exit 1; \
 	}
 

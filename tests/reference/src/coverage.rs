@@ -13,6 +13,7 @@ use crate::journal::{self, has_unknown_kind, kind_name, MAX_JOURNAL, MAX_LINE};
 use crate::listing::done_name;
 use crate::machine::*;
 use crate::run::{Record, Run};
+use crate::tally::Tallied;
 
 const ANSWERS: &[&str] = &[
     "done open",
@@ -189,9 +190,26 @@ const JOURNALS: &[&str] = &[
     "ended by 13: last step",
 ];
 
+/// 02, "A tally of the traffic": counts that are not 0, and how runs end.
+const TALLIES: &[&str] = &[
+    "tally: loads",
+    "tally: stores",
+    "tally: fences",
+    "tally: asks",
+    "tally: shares",
+    "tally: renews",
+    "tally: owns",
+    "tally: all seven",
+    "tally: none, after steps",
+    "tally: one core still asks at the end",
+    "tally: several cores still ask at the end",
+    "tally: an answer is not received at the end",
+    "tally: counts before a line that ends the run",
+];
+
 /// Every row that generated journals must meet.
 pub fn rows() -> impl Iterator<Item = &'static str> {
-    [ANSWERS, STEPS, REFUSALS, JOURNALS].into_iter().flatten().copied()
+    [ANSWERS, STEPS, REFUSALS, JOURNALS, TALLIES].into_iter().flatten().copied()
 }
 
 /// How often each row was met.
@@ -245,6 +263,7 @@ impl Coverage {
             records.push(record);
         }
         self.count_end(journal, &records);
+        self.count_tally(&records, run.machine());
         records
     }
 
@@ -297,6 +316,34 @@ impl Coverage {
             11 if journal.is_empty() => self.count("refused 11: empty journal"),
             11 if *place == 0 => self.count("refused 11: opening"),
             _ => self.count(format!("refused {number}: {}", reason(*number, line))),
+        }
+    }
+
+    /// Which counts of a run's tally are not 0, and what the slots hold at its end.
+    fn count_tally(&mut self, records: &[Record], machine: Option<&Machine>) {
+        let Tallied { tally, still_asked } = Tallied::of_run(records, machine);
+        let counts = tally.counts();
+        for (name, _) in counts.iter().filter(|(_, count)| *count > 0) {
+            self.count(format!("tally: {name}"));
+        }
+        let nonzero = counts.iter().filter(|(_, count)| *count > 0).count();
+        if nonzero == counts.len() {
+            self.count("tally: all seven");
+        }
+        if nonzero == 0 && records.iter().any(|record| record.step.is_some()) {
+            self.count("tally: none, after steps");
+        }
+        match still_asked {
+            0 => {}
+            1 => self.count("tally: one core still asks at the end"),
+            _ => self.count("tally: several cores still ask at the end"),
+        }
+        let answered = |core: &Core| matches!(core.slot, Slot::Answered { .. });
+        if machine.is_some_and(|machine| machine.state.cores.iter().any(answered)) {
+            self.count("tally: an answer is not received at the end");
+        }
+        if nonzero > 0 && records.last().is_some_and(Record::ends_run) {
+            self.count("tally: counts before a line that ends the run");
         }
     }
 

@@ -1,7 +1,8 @@
 //! Faults that can be switched on, to show that the kept journals notice them.
 //!
 //! `machine.rs` knows nothing of them: each fault bends the right step from the
-//! outside. Faults of the driver are asked for by `run.rs` and `listing.rs`.
+//! outside. Faults of the driver are asked for by `run.rs` and `listing.rs`, those
+//! of the tally by `tally.rs`.
 
 use std::borrow::Cow;
 use std::ops::Range;
@@ -9,6 +10,7 @@ use std::ops::Range;
 use crate::journal::{has_unknown_kind, kind_name};
 use crate::listing::Counts;
 use crate::machine::*;
+use crate::run::Record;
 
 /// Defines the faults, their names and one sentence about each.
 macro_rules! faults {
@@ -113,6 +115,16 @@ faults! {
     TabSkipped "tab-skipped" "a tab is passed over"
     EmptyDataTaken "empty-data-taken" "empty data are one zero byte"
     OddDataCut "odd-data-cut" "the last digit of odd data is left out"
+    // The tally.
+    TallyReceivedShare "tally-received-share" "the tally counts a share where it is received too"
+    TallyReceivedRenew "tally-received-renew" "the tally counts a renewal where it is received too"
+    TallyReceivedOwn "tally-received-own" "the tally counts a grant of ownership where it is received too"
+    TallyDropAsRenew "tally-drop-as-renew" "the tally counts a renewal that is dropped as one more"
+    TallyRecallAsAsk "tally-recall-as-ask" "the tally counts a recall as a request"
+    TallyRefusalAsAsk "tally-refusal-as-ask" "the tally counts a load or store that is refused with 20 as a request"
+    TallySwapsCommits "tally-swaps-commits" "the tally counts loads as stores, and stores as loads"
+    TallyResetByRefusal "tally-reset-by-refusal" "a refusal sets the tally back to zeros"
+    TallyLostAtBadLine "tally-lost-at-bad-line" "the tally is all zeros where a line ends the run"
 }
 
 impl Fault {
@@ -140,6 +152,46 @@ impl Fault {
             65_536
         } else {
             usize::MAX
+        }
+    }
+
+    /// The records that a tally with this fault counts, in the place of a run's own.
+    pub fn tallied(self, records: Vec<Record>) -> Vec<Record> {
+        let refused = |record: &Record| matches!(record.answer, Answer::Refused(_));
+        match self {
+            Fault::TallyResetByRefusal => {
+                let kept = records.iter().rposition(refused).map_or(0, |at| at + 1);
+                records[kept..].to_vec()
+            }
+            Fault::TallyLostAtBadLine if records.last().is_some_and(Record::ends_run) => Vec::new(),
+            _ => records.into_iter().map(|record| self.tallied_as(record)).collect(),
+        }
+    }
+
+    /// The record that a tally with this fault takes a record for.
+    fn tallied_as(self, record: Record) -> Record {
+        let taken_for = |step, answer| Record { step: Some(step), answer, ..record };
+        let Some(step) = record.step else {
+            return record;
+        };
+        match (self, step, record.answer) {
+            (Fault::TallyReceivedShare, Step::Receive { core }, Answer::Share)
+            | (Fault::TallyReceivedRenew, Step::Receive { core }, Answer::Renew)
+            | (Fault::TallyReceivedOwn, Step::Receive { core }, Answer::Own) => {
+                taken_for(Step::Serve { core }, record.answer)
+            }
+            (Fault::TallyDropAsRenew, Step::Receive { core }, Answer::Drop) => {
+                taken_for(Step::Serve { core }, Answer::Renew)
+            }
+            (Fault::TallyRecallAsAsk, _, Answer::Recall)
+            | (Fault::TallyRefusalAsAsk, _, Answer::Refused(20)) => taken_for(step, Answer::Ask),
+            (Fault::TallySwapsCommits, _, Answer::Commit(Commit::Load { core, line, ts, data })) => {
+                taken_for(step, Answer::Commit(Commit::Store { core, line, ts, data }))
+            }
+            (Fault::TallySwapsCommits, _, Answer::Commit(Commit::Store { core, line, ts, data })) => {
+                taken_for(step, Answer::Commit(Commit::Load { core, line, ts, data }))
+            }
+            _ => record,
         }
     }
 

@@ -1,7 +1,9 @@
-//! A second implementation of document 01, written from that document alone.
+//! A second implementation of document 01, and of the tally of 02, written from
+//! these documents alone.
 //!
 //! It exists to be compared with the product: the same journal must give the
-//! same listing, byte for byte. It is plain code, and nothing in it is proved.
+//! same listing, and the same tally, byte for byte. It is plain code, and nothing
+//! in it is proved.
 
 pub mod coverage;
 pub mod damage;
@@ -17,3 +19,4 @@ pub mod random;
 pub mod run;
 pub mod shrink;
 pub mod speed;
+pub mod tally;

@@ -14,6 +14,13 @@ pub struct Record {
     pub answer: Answer,
 }
 
+impl Record {
+    /// Whether this is a line or an opening that ended its run.
+    pub fn ends_run(&self) -> bool {
+        self.step.is_none() && matches!(self.answer, Answer::Refused(_))
+    }
+}
+
 /// A run over a journal. It yields the records one by one.
 pub struct Run<'a> {
     journal: &'a [u8],

@@ -4,7 +4,8 @@
 //!
 //! For each fault, the journal that `faults.txt` names must give another listing
 //! with the fault than the kept one (`listing`), or break demand 3 (`order`), or
-//! do both (`both`), exactly as its row says. Every fault must have a row.
+//! do both (`both`), exactly as its row says; or it must give another tally
+//! (`tally`). Every fault must have a row.
 
 use std::path::Path;
 use std::process::ExitCode;
@@ -14,6 +15,7 @@ use reference::kept::{self, Kept, Shown};
 use reference::listing::listing_with_fault;
 use reference::order::{self, Ties};
 use reference::run::Run;
+use reference::tally::tally_with_fault;
 
 fn main() -> ExitCode {
     let Some(folder) = std::env::args().nth(1) else {
@@ -61,14 +63,21 @@ fn check(all: &[Kept], fault: Fault, name: &str, shown: Shown) -> Result<(), Str
     if listing_with_fault(&kept.journal, Fault::None) != kept.listing {
         return Err("the kept listing is not the one without faults".into());
     }
+    if tally_with_fault(&kept.journal, Fault::None) != kept.tally {
+        return Err("the kept tally is not the one without faults".into());
+    }
     if !order_holds(&kept.journal, Fault::None) {
         return Err("demand 3 fails without the fault".into());
     }
     let differs = listing_with_fault(&kept.journal, fault) != kept.listing;
     let holds = order_holds(&kept.journal, fault);
+    let counts_differ = tally_with_fault(&kept.journal, fault) != kept.tally;
     match (shown, differs, holds) {
         (Shown::Listing, true, true) | (Shown::Order, false, false) | (Shown::Both, true, false) => Ok(()),
-        _ => Err(format!("with the fault, listing differs: {differs}, demand 3 holds: {holds}")),
+        (Shown::Tally, _, _) if counts_differ => Ok(()),
+        _ => Err(format!(
+            "with the fault, listing differs: {differs}, demand 3 holds: {holds}, tally differs: {counts_differ}"
+        )),
     }
 }
 

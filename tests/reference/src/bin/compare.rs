@@ -1,16 +1,17 @@
-//! Runs generated journals through a program and through the reference and
-//! compares the whole listings byte for byte.
+//! Runs generated journals through programs and through the reference and
+//! compares what they print byte for byte: whole listings, and tallies.
 //!
-//! Usage: compare [--count N] [--first SEED] [--limit SECONDS] PROGRAM
+//! Usage: compare [--count N] [--first SEED] [--fault NAME] [--limit SECONDS] STEPS [TALLY]
 //!        compare [--count N] [--first SEED] [--fault NAME]
 //!        compare --print SEED
 //!
-//! Without a program it checks the reference itself, or one with a fault: demand
-//! 3 on the commits of every journal. It then also says how many journals show
-//! each fault by a listing or by demand 3.
+//! Without a program it checks the reference itself: demand 3 on the commits of
+//! every journal. It then also says how many journals show each fault by a
+//! listing, by demand 3 or by a tally. `--fault` switches a fault on in the
+//! reference.
 //!
-//! Either way it fails where the journals never meet a row of `coverage::rows`:
-//! few journals prove little.
+//! Either way it fails where a tally of the reference does not add up, and where
+//! the journals never meet a row of `coverage::rows`: few journals prove little.
 
 use std::io::Write;
 use std::process::ExitCode;
@@ -26,22 +27,37 @@ use reference::order::{self, Ties};
 use reference::program::{self, Failure};
 use reference::run::Run;
 use reference::shrink::shrink;
+use reference::tally::{tally_with_fault, Tallied, Tally};
 
 /// How many journals the search for a small one may try, and for how long.
 const TRIES: u32 = 4000;
 const TIME_TO_SHRINK: Duration = Duration::from_secs(60);
+
+/// What a program has to print for a journal, by a reference with a fault.
+type Printed = fn(&[u8], Fault) -> Vec<u8>;
+
+/// What the programs have to print, in the order in which they are given.
+const PRINTED: [(&str, Printed); 2] = [("listings", listing_with_fault), ("tallies", tally_with_fault)];
+
+/// What is wrong where asks is not what a run's answers and slots come to.
+const NOT_THE_SUM: &str = "the tally does not add up";
 
 struct Options {
     count: u64,
     first: u64,
     patience: Duration,
     fault: Fault,
-    program: Option<String>,
+    programs: Vec<String>,
 }
 
 fn main() -> ExitCode {
-    let mut options =
-        Options { count: 5000, first: 1, patience: program::PATIENCE, fault: Fault::None, program: None };
+    let mut options = Options {
+        count: 5000,
+        first: 1,
+        patience: program::PATIENCE,
+        fault: Fault::None,
+        programs: Vec::new(),
+    };
     let mut arguments = std::env::args().skip(1);
     while let Some(argument) = arguments.next() {
         if argument == "--fault" {
@@ -57,21 +73,22 @@ fn main() -> ExitCode {
             "--first" => options.first = number().unwrap_or(0),
             "--limit" => options.patience = Duration::from_secs(number().unwrap_or(0)),
             "--print" => return print(number().unwrap_or(0)),
-            _ => options.program = Some(argument),
+            _ => options.programs.push(argument),
         }
     }
-    if options.count == 0 {
+    if options.count == 0 || options.programs.len() > PRINTED.len() {
         return usage();
     }
-    match &options.program {
-        Some(program) => compare(&options, program),
-        None => self_test(&options),
+    if options.programs.is_empty() {
+        self_test(&options)
+    } else {
+        compare(&options)
     }
 }
 
 fn usage() -> ExitCode {
     eprintln!(
-        "usage: compare [--count N] [--first SEED] [--limit SECONDS | --fault NAME] [PROGRAM] | --print SEED"
+        "usage: compare [--count N] [--first SEED] [--fault NAME] [--limit SECONDS] [STEPS [TALLY]] | --print SEED"
     );
     ExitCode::from(2)
 }
@@ -121,55 +138,102 @@ fn exit(success: bool) -> ExitCode {
     }
 }
 
-// ---- Against a program ----
+/// Prints the journals, by their seeds, on which something is wrong, and how;
+/// whether there are none.
+fn none_failed(what: &str, failed: &[(u64, impl std::fmt::Debug)]) -> bool {
+    for (seed, trouble) in failed {
+        println!("seed {seed}: {what}: {trouble:?}");
+    }
+    failed.is_empty()
+}
 
-fn compare(options: &Options, program: &str) -> ExitCode {
+// ---- Against programs ----
+
+/// A program that is compared, and what it has to print.
+struct Compared<'a> {
+    program: &'a str,
+    what: &'static str,
+    printed: Printed,
+    options: &'a Options,
+}
+
+impl Compared<'_> {
+    /// What the program prints for a journal.
+    fn run(&self, journal: &[u8]) -> Result<Vec<u8>, Failure> {
+        program::on_bytes(self.program, journal, self.options.patience)
+    }
+
+    /// What the reference prints for it.
+    fn expected(&self, journal: &[u8]) -> Vec<u8> {
+        (self.printed)(journal, self.options.fault)
+    }
+
+    /// Whether the program prints for a journal what the reference does.
+    fn agrees(&self, journal: &[u8]) -> bool {
+        self.run(journal).is_ok_and(|text| text == self.expected(journal))
+    }
+}
+
+fn compare(options: &Options) -> ExitCode {
     let start = Instant::now();
     let done = AtomicU64::new(0);
     let coverage = Mutex::new(Coverage::default());
-    let differing: Mutex<Option<u64>> = Mutex::new(None);
-    let run = |journal: &[u8]| program::on_bytes(program, journal, options.patience);
+    let differing: Mutex<Option<(u64, &Compared)>> = Mutex::new(None);
+    let wrong_sums = Mutex::new(Vec::new());
+    let programs = options.programs.iter().zip(PRINTED);
+    let programs = programs.map(|(program, (what, printed))| Compared { program, what, printed, options });
+    let programs: Vec<Compared> = programs.collect();
     for_each_seed(options, |seed| {
         let journal = generate::journal(seed);
         let mut own = Coverage::default();
         own.run(&journal);
         coverage.lock().unwrap().add(&own);
-        let same = run(&journal).is_ok_and(|text| text == listing(&journal));
-        if !same {
-            differing.lock().unwrap().get_or_insert(seed);
+        let tallied = Tallied::of(&journal, options.fault);
+        if !tallied.adds_up() {
+            wrong_sums.lock().unwrap().push((seed, tallied));
+        }
+        let other = programs.iter().find(|compared| !compared.agrees(&journal));
+        if let Some(compared) = other {
+            differing.lock().unwrap().get_or_insert((seed, compared));
         }
         done.fetch_add(1, Ordering::Relaxed);
-        same
+        other.is_none()
     });
     let done = done.into_inner();
-    if let Some(seed) = differing.into_inner().unwrap() {
-        show_difference(seed, run);
+    if let Some((seed, compared)) = differing.into_inner().unwrap() {
+        show_difference(seed, compared);
         println!("compare: a difference at seed {seed}, after {done} journals");
         return ExitCode::FAILURE;
     }
     let whole = whole(&coverage.into_inner().unwrap());
-    let rows = if whole { "every row met" } else { "FAILED: rows never met" };
-    println!("compare: {done} journals, all listings equal, {rows}, {:.1} s", start.elapsed().as_secs_f64());
-    exit(whole)
+    let add_up = none_failed(NOT_THE_SUM, &wrong_sums.into_inner().unwrap());
+    let printed: Vec<_> = programs.iter().map(|compared| compared.what).collect();
+    println!(
+        "compare: {done} journals, all {} equal, {}, {}, {:.1} s",
+        printed.join(" and "),
+        if add_up { "every tally adds up" } else { "FAILED: tallies that do not add up" },
+        if whole { "every row met" } else { "FAILED: rows never met" },
+        start.elapsed().as_secs_f64()
+    );
+    exit(whole && add_up)
 }
 
-/// Shrinks the seed's journal and prints it with both listings.
-fn show_difference(seed: u64, run: impl Fn(&[u8]) -> Result<Vec<u8>, Failure>) {
+/// Shrinks the seed's journal and prints it with what both print for it.
+fn show_difference(seed: u64, compared: &Compared) {
     let journal = generate::journal(seed);
     let start = Instant::now();
-    let differs = |candidate: &[u8]| {
-        start.elapsed() < TIME_TO_SHRINK && !run(candidate).is_ok_and(|text| text == listing(candidate))
-    };
-    let small = match run(&journal) {
+    let differs = |candidate: &[u8]| start.elapsed() < TIME_TO_SHRINK && !compared.agrees(candidate);
+    let small = match compared.run(&journal) {
         Err(Failure::Hangs) => journal,
         _ => shrink(&journal, TRIES, differs),
     };
-    println!("seed {seed}: the listings differ. The smallest journal found ({} bytes):", small.len());
+    let what = compared.what;
+    println!("seed {seed}: the {what} differ. The smallest journal found ({} bytes):", small.len());
     print_text(&small);
-    println!("the reference's listing:");
-    print_text(&listing(&small));
-    println!("the program's listing:");
-    match run(&small) {
+    println!("the reference prints:");
+    print_text(&compared.expected(&small));
+    println!("{} prints:", compared.program);
+    match compared.run(&small) {
         Ok(text) => print_text(&text),
         Err(failure) => println!("    ({failure})"),
     }
@@ -191,9 +255,9 @@ fn print_text(text: &[u8]) {
 fn self_test(options: &Options) -> ExitCode {
     let start = Instant::now();
     let coverage = Mutex::new(Coverage::default());
-    let failed = Mutex::new(Vec::new());
-    let shown: Vec<[AtomicU64; 2]> =
-        Fault::ALL.iter().map(|_| [AtomicU64::new(0), AtomicU64::new(0)]).collect();
+    let disorders = Mutex::new(Vec::new());
+    let wrong_sums = Mutex::new(Vec::new());
+    let shown: Vec<[AtomicU64; 3]> = Fault::ALL.iter().map(|_| Default::default()).collect();
     for_each_seed(options, |seed| {
         let journal = generate::journal(seed);
         let mut own = Coverage::default();
@@ -204,43 +268,52 @@ fn self_test(options: &Options) -> ExitCode {
             fault => Run::with_fault(&journal, fault).collect(),
         };
         if let Err(trouble) = order::check(&order::commits(&records), Ties::ByPlace) {
-            failed.lock().unwrap().push((seed, trouble));
+            disorders.lock().unwrap().push((seed, trouble));
+        }
+        let tallied = Tallied::of(&journal, options.fault);
+        if !tallied.adds_up() {
+            wrong_sums.lock().unwrap().push((seed, tallied));
         }
         // Every tenth short journal is enough to see what faults do.
         if seed % 10 == 0 && journal.len() < 10_000 {
+            let (listing, tally) = (listing(&journal), Tallied::of(&journal, Fault::None).tally);
             for (fault, counts) in Fault::ALL.iter().zip(&shown) {
-                let (by_listing, by_order) = shows(&journal, *fault);
-                counts[0].fetch_add(u64::from(by_listing), Ordering::Relaxed);
-                counts[1].fetch_add(u64::from(by_order), Ordering::Relaxed);
+                for (count, by_this) in counts.iter().zip(shows(&journal, &listing, &tally, *fault)) {
+                    count.fetch_add(u64::from(by_this), Ordering::Relaxed);
+                }
             }
         }
         true
     });
-    let (coverage, failed) = (coverage.into_inner().unwrap(), failed.into_inner().unwrap());
-    println!("{}", coverage.table());
-    println!("Of every tenth journal, how many show a fault by their listing, and by demand 3:");
-    for (fault, [by_listing, by_order]) in Fault::ALL.iter().zip(shown) {
-        let (by_listing, by_order) = (by_listing.into_inner(), by_order.into_inner());
-        println!("{by_listing:>10} {by_order:>8}  {}", fault.name());
-    }
-    for (seed, trouble) in &failed {
-        println!("seed {seed}: demand 3 fails: {trouble:?}");
-    }
-    let whole = whole(&coverage);
+    println!("{}", coverage.lock().unwrap().table());
     println!(
-        "self-test: {} journals, demand 3 fails on {}, {}, {:.1} s",
+        "Of every tenth journal, how many show a fault by their listing, by demand 3, and by their tally:"
+    );
+    for (fault, counts) in Fault::ALL.iter().zip(shown) {
+        let [by_listing, by_order, by_tally] = counts.map(AtomicU64::into_inner);
+        println!("{by_listing:>10} {by_order:>8} {by_tally:>8}  {}", fault.name());
+    }
+    let (disorders, wrong_sums) = (disorders.into_inner().unwrap(), wrong_sums.into_inner().unwrap());
+    let ordered = none_failed("demand 3 fails", &disorders);
+    let add_up = none_failed(NOT_THE_SUM, &wrong_sums);
+    let whole = whole(&coverage.into_inner().unwrap());
+    println!(
+        "self-test: {} journals, demand 3 fails on {}, the tally does not add up on {}, {}, {:.1} s",
         options.count,
-        failed.len(),
+        disorders.len(),
+        wrong_sums.len(),
         if whole { "every row met" } else { "FAILED: rows never met" },
         start.elapsed().as_secs_f64()
     );
-    exit(failed.is_empty() && whole)
+    exit(ordered && add_up && whole)
 }
 
-/// Whether a fault shows itself on a journal: by the listing, by demand 3.
-fn shows(journal: &[u8], fault: Fault) -> (bool, bool) {
+/// Whether a fault shows itself on a journal with this listing and this tally: by
+/// the listing, by demand 3, by the tally.
+fn shows(journal: &[u8], listing: &[u8], tally: &Tally, fault: Fault) -> [bool; 3] {
+    let relisted = listing_with_fault(journal, fault) != listing;
     let records: Vec<_> = Run::with_fault(journal, fault).collect();
     let ties = if fault == Fault::TiesByCore { Ties::ByCore } else { Ties::ByPlace };
     let ordered = order::check(&order::commits(&records), ties).is_ok();
-    (listing_with_fault(journal, fault) != listing(journal), !ordered)
+    [relisted, !ordered, Tally::of(&fault.tallied(records)) != *tally]
 }

@@ -1,20 +1,26 @@
 //! Checks the kept journals.
 //!
-//! Usage: kept [--limit SECONDS] FOLDER [PROGRAM]
+//! Usage: kept [--limit SECONDS] FOLDER [STEPS [TALLY]]
 //!
-//! Each kept journal must give its kept listing, in the reference and, if one is
-//! given, in the program, which has to end in time and with exit status 0; and
-//! demand 3 must hold on the reference's commits.
+//! Each kept journal must give its kept listing and its kept tally, in the
+//! reference and, if they are given, in the programs, which have to end in time
+//! and with exit status 0; demand 3 must hold on the reference's commits, and its
+//! tally must add up.
 
 use std::path::Path;
 use std::process::ExitCode;
 use std::time::Duration;
 
+use reference::faults::Fault;
 use reference::kept::{self, Kept};
 use reference::listing::listing;
 use reference::order::{self, Ties};
 use reference::program::{self, Failure};
 use reference::run::Run;
+use reference::tally::Tallied;
+
+/// What each program has to print for a kept journal: steps, then tally.
+const PRINTED: [fn(&Kept) -> &[u8]; 2] = [|kept| &kept.listing, |kept| &kept.tally];
 
 fn main() -> ExitCode {
     let mut arguments: Vec<String> = std::env::args().skip(1).collect();
@@ -23,8 +29,8 @@ fn main() -> ExitCode {
         patience = arguments.get(1).and_then(|text| text.parse().ok()).map(Duration::from_secs);
         arguments.drain(..arguments.len().min(2));
     }
-    let (Some(patience), Some(folder)) = (patience, arguments.first()) else {
-        eprintln!("usage: kept [--limit SECONDS] FOLDER [PROGRAM]");
+    let (Some(patience), Some(folder), true) = (patience, arguments.first(), arguments.len() <= 3) else {
+        eprintln!("usage: kept [--limit SECONDS] FOLDER [STEPS [TALLY]]");
         return ExitCode::from(2);
     };
     let folder = Path::new(folder);
@@ -42,8 +48,8 @@ fn main() -> ExitCode {
             failed += 1;
         }
     }
-    if let Some(program) = arguments.get(1) {
-        failed += failures_of(program, folder, &all, patience);
+    for (program, printed) in arguments[1..].iter().zip(PRINTED) {
+        failed += failures_of(program, printed, folder, &all, patience);
     }
     println!("kept: {} journals, {failed} failures", all.len());
     if failed == 0 && !all.is_empty() {
@@ -60,6 +66,14 @@ fn troubles(kept: &Kept) -> Vec<String> {
     if reference != kept.listing {
         troubles.push(first_difference("the reference", &reference, &kept.listing));
     }
+    let tallied = Tallied::of(&kept.journal, Fault::None);
+    let line = tallied.tally.line();
+    if line != kept.tally {
+        troubles.push(format!("tally: {}", first_difference("the reference", &line, &kept.tally)));
+    }
+    if !tallied.adds_up() {
+        troubles.push(format!("the tally does not add up: {tallied:?}"));
+    }
     let records: Vec<_> = Run::new(&kept.journal).collect();
     if let Err(trouble) = order::check(&order::commits(&records), Ties::ByPlace) {
         troubles.push(format!("demand 3 fails: {trouble:?}"));
@@ -69,13 +83,19 @@ fn troubles(kept: &Kept) -> Vec<String> {
 
 /// Plays all kept journals through a program and counts the failures. It stops
 /// at a journal over which the program hangs.
-fn failures_of(program: &str, folder: &Path, all: &[Kept], patience: Duration) -> u32 {
+fn failures_of(
+    program: &str,
+    printed: fn(&Kept) -> &[u8],
+    folder: &Path,
+    all: &[Kept],
+    patience: Duration,
+) -> u32 {
     let mut failed = 0;
     for kept in all {
         let journal = folder.join(format!("{}.journal", kept.name));
         let (trouble, hangs) = match program::on_file(program, &journal, patience) {
-            Ok(text) if text == kept.listing => continue,
-            Ok(text) => (first_difference("the program", &text, &kept.listing), false),
+            Ok(text) if text == printed(kept) => continue,
+            Ok(text) => (first_difference(program, &text, printed(kept)), false),
             Err(failure) => (format!("{program}: {failure}"), matches!(failure, Failure::Hangs)),
         };
         println!("{}: {trouble}", kept.name);
@@ -87,7 +107,7 @@ fn failures_of(program: &str, folder: &Path, all: &[Kept], patience: Duration) -
     failed
 }
 
-/// Says on which line a listing first differs from the kept one.
+/// Says on which line a text first differs from the kept one.
 fn first_difference(who: &str, text: &[u8], kept: &[u8]) -> String {
     let lines = |text: &[u8]| -> Vec<String> {
         let lines = text.split_inclusive(|&byte| byte == b'\n');
