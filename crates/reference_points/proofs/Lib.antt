@@ -3,6 +3,7 @@ pub mod Each
 pub mod Rows
 pub mod Lines
 pub mod Records
+pub mod Tally
 pub mod Commits
 pub mod Sample
 pub mod Decides

@@ -1,15 +1,15 @@
--- The listing of 01's sample journal: what each line says, and what the engine answers.
+-- The listing and the tally of 01's sample journal: what each line says, and what the engine answers.
 use Prim.Native.Nat.{ℕ, _+_, _-_}
 use mathlib.Core.{Path.{_≡_, refl}, Bool.true, List.{List, [], _∷_}}
 use native.Mathlib.Omega.{arith}
 use lib.{Dec.{ltb, lit≤}, ListN.{length, take, drop}}
 use borrow.Author.Tests.{ltb-true}
-use Rattle.protocol.specs.{Buffers.Bytes, Run.{Entry, run}, Counts.total, declared.Call.{Call, the-variants.{Load, Store, Serve, Receive, Take}}}
+use Rattle.protocol.specs.{Pick.howMany, Buffers.Bytes, Machine.freshMachine, Run.{Entry, run}, Counts.tally, declared.Call.{Call, the-variants.{Load, Store, Serve, Receive, Take}}}
 use Rattle.spelling.specs.{Bytes.upTo, Decimal.{decimal, decimalUpTo}, Hex.hex}
 use Rattle.journal.{specs.{Journal.{inJournal, NextOf, ended as atLast}, declared.Next.the-variants.Opening}, proofs.Lines.line-answer}
-use Rattle.listing.specs.Record.{recordText, endText}
+use Rattle.listing.specs.Record.{recordText, endText, tallyText}
 use Rattle.driver.specs.Listing.{ended, Data, noData, someData, noLine, aLine, atEnd, lines}
-use Rattle.playing.specs.Listing.{ReadAs, opens}
+use Rattle.playing.specs.Listing.{ReadAs, Opens, opens, counted}
 use Rattle.reference_points.specs.{Numbers.opening, Sample.{sampleJournal, SampleTheorem}}
 use Rattle.reference_points.proofs.{Rows.calling, Lines.{answer, says}}
 
@@ -56,6 +56,10 @@ reads =
       ends = atEnd (atLast (lit≤ tt) (lit≤ tt) (λ e. omega arith));
     }
 
+-- so it opens, and is read
+opened : Opens sampleJournal (opening 1 1 1 10) calls ended
+opened = record { form = 1; next = 42; first = first; accepted = refl; reads = reads }
+
 pub sample-theorem : SampleTheorem
-unfolding calling run decimal decimalUpTo hex recordText endText lines total
-sample-theorem = opens first refl reads
+unfolding calling run decimal decimalUpTo hex recordText endText tallyText lines howMany
+sample-theorem = record { listing = opens opened; counts = tally (run calls 1 (freshMachine (opening 1 1 1 10)) .records); tally = counted opened; line = refl }

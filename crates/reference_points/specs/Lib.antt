@@ -6,6 +6,7 @@ pub mod Numbers
 pub mod Show
 pub mod Lines
 pub mod Records
+pub mod Tally
 pub mod Commits
 pub mod Sample
 pub mod Logs

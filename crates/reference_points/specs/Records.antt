@@ -1,7 +1,7 @@
 -- The lines that the program prints, byte for byte (01, "Journal and driver").
 use Prim.Native.Nat.{ℕ}
 use mathlib.Core.{Path._≡_, List.{List, [], _∷_, _++_}}
-use Rattle.protocol.specs.{Stamps.stamp, Buffers.Bytes, Step.{load, store, fence, Reply, refused, done, commit}, Run.place, Counts.counts}
+use Rattle.protocol.specs.{Stamps.stamp, Buffers.Bytes, Step.{load, store, fence, Reply, refused, done, commit}, Run.place}
 use Rattle.protocol.specs.declared.{Counts.Counts, Name.the-variants.{Open, Ask, Recall, Share, Renew, Own, Drop, Evict, Advance, Yield, Take}}
 use Rattle.spelling.specs.Text.{text}
 use Rattle.listing.specs.Record.{recordText, endText}
@@ -44,7 +44,7 @@ records =
 
 -- 12 steps were met, of which 3 committed and 4 were refused
 abbrev pub met : Counts
-met = counts 12 3 4
+met = record { steps = 12; commits = 3; refusals = 4; loads = 2; stores = 1; fences = 0; asks = 3; shares = 1; renews = 0; owns = 1 }
 
 pub record RecordsTheorem : Type 0 where
   -- a text is its bytes in ASCII, and `\n` is the newline, 10

@@ -1,8 +1,9 @@
--- The journal that 01 prints, and the listing that the program prints for it.
-use mathlib.Core.List.{_++_}
-use Rattle.protocol.specs.Buffers.{Bytes}
+-- The journal that 01 prints, the listing that the program prints for it, and its tally.
+use mathlib.Core.{Path._≡_, List._++_}
+use Rattle.protocol.specs.{Buffers.Bytes, declared.Counts.Counts}
 use Rattle.spelling.specs.Text.{text}
-use Rattle.playing.specs.Listing.{Listing}
+use Rattle.listing.specs.Record.{tallyText}
+use Rattle.playing.specs.Listing.{Listing, Tally}
 
 -- "Given"
 abbrev pub sampleJournal : Bytes
@@ -27,5 +28,12 @@ sampleListing =
     ++ text "n=6 refused=25\n"
     ++ text "end=6 commits=2 refused=1\n"
 
-abbrev pub SampleTheorem : Type 0
-SampleTheorem = Listing sampleJournal sampleListing
+-- its tally: receive's own is not counted
+abbrev pub sampleTally : Bytes
+sampleTally = text "loads=1 stores=1 fences=0 asks=1 shares=0 renews=0 owns=1\n"
+
+pub record SampleTheorem : Type 0 where
+  pub listing : Listing sampleJournal sampleListing
+  pub counts : Counts
+  pub tally : Tally sampleJournal counts
+  pub line : tallyText counts ≡ sampleTally
