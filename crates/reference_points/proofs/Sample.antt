@@ -58,6 +58,7 @@ reads =
 
 -- so it opens, and is read
 opened : Opens sampleJournal (opening 1 1 1 10) calls ended
+unfolding calling
 opened = record { form = 1; next = 42; first = first; accepted = refl; reads = reads }
 
 pub sample-theorem : SampleTheorem

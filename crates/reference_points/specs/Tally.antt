@@ -12,7 +12,7 @@ use Rattle.reference_points.specs.Rows.{Agree}
 
 -- a call, its answer, and what it counts as
 pub data Counted : Type 0 where
-  counts : (call : Call) (reply : Reply) (as : Class) → Counted
+  counts : (call : Call) (reply : Reply) (class : Class) → Counted
 
 -- what the definition gives for it, and what 02 says
 abbrev pub classed : Counted → Class
