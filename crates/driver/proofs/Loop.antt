@@ -139,7 +139,6 @@ pub record StepInPlace (j : Bytes) (from : Checkpoint) (p₀ q₀ old : Bytes) :
   pub c : ℕ
   pub l : ℕ
   pub d : Effect
-  pub k : Counts
   pub reached : Reached j from p₀ q₀ old o base p q out there used
   pub due : StepDue j (there .at) (there .form) base o buf call n count next
   pub about : w ≡ about call
@@ -147,7 +146,6 @@ pub record StepInPlace (j : Bytes) (from : Checkpoint) (p₀ q₀ old : Bytes) :
   pub core : Found (theCore (w .core) (lineAt (there .state) v .manager)) (o .cores) mostCores c
   pub line : Found (theLine (w .line) (coreAt (there .state) c .slot)) (o .lines) mostLines l
   pub effect : d ≡ effectWith n call (piecesAt (there .state) c l) o
-  pub counts : k ≡ sum (there .counts) (countsOf call (meaning (d .answer) []))
 
 module _ {j : Bytes} {from : Checkpoint} {p₀ q₀ old : Bytes} (s : StepInPlace j from p₀ q₀ old) where
   abbrev given-bytes : Bytes
@@ -177,7 +175,7 @@ module _ {j : Bytes} {from : Checkpoint} {p₀ q₀ old : Bytes} (s : StepInPlac
 
   -- the line that is put is the reply's; the bytes are lent as the part of the buffer from 0 on
   abbrev line-put : Bytes
-  line-put = answerLine (s .k .steps) (s .w .act) (s .d .answer) (take (s .count - 0) (s .buf)) (s .o) (s .p) (s .c) (s .l)
+  line-put = answerLine (s .there .counts .steps + 1) (s .w .act) (s .d .answer) (take (s .count - 0) (s .buf)) (s .o) (s .p) (s .c) (s .l)
 
   reply-is :
       meaning (s .d .answer) (actBytes (s .w .act) (take (s .count - 0) (s .buf)) (beside (s .d .answer) (s .o) (s .p) (s .c) (s .l)))
@@ -186,17 +184,14 @@ module _ {j : Bytes} {from : Checkpoint} {p₀ q₀ old : Bytes} (s : StepInPlac
       let z : s .count - 0 ≡ s .count = omega arith in
       rw (z, effect-is, s .about, ← s .reached .opening) (replied here (s .call) given-bytes (s .n) number-is (s .v) (s .c) (s .l) finds)
 
-  counts-are : s .k ≡ sum (s .there .counts) (countsOf (s .call) (outcome .reply))
-  counts-are = s .counts ∙ ap (sum (s .there .counts)) (same-counts (s .call) (s .d .answer) [] _ ∙ ap (countsOf (s .call)) reply-is)
-
-  place-is : s .k .steps ≡ s .there .counts .steps + 1
-  place-is = ap (λ (x : Counts). x .steps) counts-are
+  counts-are : {k : Counts} → k ≡ sum (s .there .counts) (countsOf (s .call) (meaning (s .d .answer) [])) → k ≡ sum (s .there .counts) (countsOf (s .call) (outcome .reply))
+  counts-are e = e ∙ ap (sum (s .there .counts)) (same-counts (s .call) (s .d .answer) [] _ ∙ ap (countsOf (s .call)) reply-is)
 
   -- there is no room for it
   pub step-short :
       (out' : Bytes) (put : Put) (r : Played) → PutAt (s .out) (s .used) line-put out' put → put ≡ NoRoom
       → r ≡ playedBy NoRoom (s .used) (s .there) → Plays j from p₀ q₀ old (s .p) (s .q) out' r
-  step-short out' put r y z e = no-room (s .reached) _ out' put r (aStep (s .due .line) (s .due .bytes .spelt)) (rw (place-is, reply-is) at y) z e
+  step-short out' put r y z e = no-room (s .reached) _ out' put r (aStep (s .due .line) (s .due .bytes .spelt)) (rw reply-is at y) z e
 
   machine-is :
       (p' q' : Bytes) → Moves (s .d .moves) (s .o) (s .c) (s .l) (take (s .count - 0) (s .buf)) (s .p) (s .q) p' q'
@@ -209,10 +204,11 @@ module _ {j : Bytes} {from : Checkpoint} {p₀ q₀ old : Bytes} (s : StepInPlac
 
   -- it was put, and the effect is written back
   pub step-made :
-      (p' q' out' : Bytes) (put : Put) (e : ℕ) → PutAt (s .out) (s .used) line-put out' put → put ≡ PutEnd e
+      (p' q' out' : Bytes) (put : Put) (e : ℕ) (k : Counts) → PutAt (s .out) (s .used) line-put out' put → put ≡ PutEnd e
       → Moves (s .d .moves) (s .o) (s .c) (s .l) (take (s .count - 0) (s .buf)) (s .p) (s .q) p' q'
+      → k ≡ sum (s .there .counts) (countsOf (s .call) (meaning (s .d .answer) []))
       → Reached j from p₀ q₀ old (s .o) (s .base) p' q' out'
-      (checkpointAt (s .next) (s .there .form) (s .k) (written (s .there .state) (s .c) (s .l) (s .d))) e
-  step-made p' q' out' put e y z b =
-      stepped (s .reached) (s .due) (written (s .there .state) (s .c) (s .l) (s .d)) p' q' out' e (s .k) (machine-is p' q' b) (s .reached .opening)
-      counts-are (put-written (rw (place-is, reply-is) at y) z)
+      (checkpointAt (s .next) (s .there .form) k (written (s .there .state) (s .c) (s .l) (s .d))) e
+  step-made p' q' out' put e k y z b i =
+      stepped (s .reached) (s .due) (written (s .there .state) (s .c) (s .l) (s .d)) p' q' out' e k (machine-is p' q' b) (s .reached .opening)
+      (counts-are i) (put-written (rw reply-is at y) z)

@@ -182,11 +182,11 @@ pub fn play(
                 let copy = cell.copy;
                 let d = tables::effect(number, call, l, k, copy, line, opening);
                 let answer = d.answer;
-                let met = one_line::met(counts, call, answer);
+                let place = counts.steps + 1;
                 match one_line::put_answer(
                     out,
                     used,
-                    met,
+                    place,
                     act,
                     answer,
                     &bytes[0..count],
@@ -217,7 +217,7 @@ pub fn play(
                             &bytes[0..count],
                         );
                         used = e;
-                        counts = met;
+                        counts = one_line::met(counts, call, answer);
                         at = next;
                         continue;
                     }

@@ -162,11 +162,11 @@ fn is_store(act: Act) -> bool
     }
 }
 
-// The line of a call's answer, the last one met, for core c and line l: a store's bytes are those given, a load's those of the copy.
+// The line of a call's answer at its place, for core c and line l: a store's bytes are those given, a load's those of the copy.
 pub(crate) fn put_answer(
     out: &mut [u8],
     at: usize,
-    met: Counts,
+    place: u64,
     act: Act,
     answer: Answer,
     given: &[u8],
@@ -176,16 +176,16 @@ pub(crate) fn put_answer(
     l: usize,
 ) -> Put
     requires { ⌜ BesideInside answer opening c l (length (now «private»)) ⌝ }
-    ensures { λ r. ⌜ PutsAnswer (out .entry) at (met .steps) act answer (given .entry) opening («private» .entry) c l (out .exit) r ⌝ }
+    ensures { λ r. ⌜ PutsAnswer (out .entry) at place act answer (given .entry) opening («private» .entry) c l (out .exit) r ⌝ }
 {
     if is_store(act) {
-        return listing::put_record(out, at, Place(met.steps), answer, given);
+        return listing::put_record(out, at, Place(place), answer, given);
     }
     let copy = buffers::copy_start(opening, c, l);
     let span = tables::span_of(answer, copy, opening.width);
     let start = span.start;
     let end = start + span.count;
-    listing::put_record(out, at, Place(met.steps), answer, &private[start..end])
+    listing::put_record(out, at, Place(place), answer, &private[start..end])
 }
 
 // The last lines of a run that a refused line ends, where they fit; `counts` has that line, whose place is

@@ -1,12 +1,12 @@
 -- `driver::play` meets its contract. The loop's invariant: the lengths of both buffers stay, and `Reached`. The measure is what is left of the
--- journal. A step is one fact, `made`, at the place where its counts are known; what comes later goes by it. Assumes nothing.
+-- journal. A step is one fact, `made`, at the place where its effect is known; what comes later goes by it. Assumes nothing.
 use Prim.Native.Nat.{_-_, _≤_, _<_}
-use mathlib.Core.Path.{_≡_, refl, sym, _∙_}
+use mathlib.Core.{Path.{_≡_, refl, sym, _∙_}, Bool.true}
 use native.Mathlib.Omega.{arith}
 use lib.ListN.{length}
 use borrow.Author.{Needs.needs, Tests.{not-true, not-false}}
-use Rattle.driver.specs.{Play.unfit, Pieces.checkpointAt}
-use Rattle.driver.proofs.{Stepping.looked-over, Putting.fills-none, play.Statement.statement}
+use Rattle.driver.specs.{Play.{few, unfit}, Pieces.checkpointAt}
+use Rattle.driver.proofs.{Counting.each-few, Stepping.looked-over, Putting.fills-none, play.Statement.statement}
 use Rattle.driver.proofs.Loop.{Reached, reached-start, at-checkpoint, room-for, finish, step-due, end-due, StepInPlace, shows, step-short, step-made}
 use Rattle.driver.proofs.play.Tie as tie
 
@@ -35,14 +35,14 @@ at-last c = c .before .before .before .before .before
 abbrev at-step : tie.After-about Inv-loop μ-loop → tie.After-due Inv-loop μ-loop
 at-step c = c .before .before .before .before
 
-abbrev at-line : tie.After-met Inv-loop μ-loop → tie.After-line-of Inv-loop μ-loop
-at-line c = c .before .before .before .before
+abbrev at-line : tie.After-effect Inv-loop μ-loop → tie.After-line-of Inv-loop μ-loop
+at-line c = c .before .before .before
 
 abbrev at-about : tie.After-line-of Inv-loop μ-loop → tie.After-about Inv-loop μ-loop
 at-about c = c .before .before .before .before .before
 
-abbrev at-met : tie.After-put-answer Inv-loop μ-loop → tie.After-met Inv-loop μ-loop
-at-met c = c .before .before .before .before .before
+abbrev at-effect : tie.After-put-answer Inv-loop μ-loop → tie.After-effect Inv-loop μ-loop
+at-effect c = c .before .before .before .before .before .before
 
 abbrev at-put : tie.After-e Inv-loop μ-loop → tie.After-put-answer Inv-loop μ-loop
 at-put c = c .before .before .before .before
@@ -57,13 +57,17 @@ at-e c =
 short : (c : tie.At-loop Inv-loop μ-loop) → length (at-start c .args .journal .now) ≤ 9223372036854775807
 short c = omega (arith, at-start c .good .0 .1)
 
+-- the counts leave room for more
+room : (c : tie.At-loop Inv-loop μ-loop) → few (c .loop .counts) 9223372036854775807 ≡ true
+room c = room-for (c .loop .inv .2) _ (short c)
+
 -- ---- a step
 
 -- the indices lie in the arrays
 low : (c : tie.After-line-of Inv-loop μ-loop) → (c .before .before .core-of .result < 16) × (c .line-of .result < 64)
 low c = (c .before .before .core-of .ensures .low, c .line-of .ensures .low)
 
-abbrev made : (c : tie.After-met Inv-loop μ-loop) → let a = at-start (at-head (at-step (at-about (at-line c)))) .args in StepInPlace (a .journal .now) (a .from) (a .private .now) (a .shared .now) (a .out .now)
+abbrev made : (c : tie.After-effect Inv-loop μ-loop) → let a = at-start (at-head (at-step (at-about (at-line c)))) .args in StepInPlace (a .journal .now) (a .from) (a .private .now) (a .shared .now) (a .out .now)
 made c =
     let l = at-line c in
     let k = l .before .before in
@@ -87,15 +91,13 @@ made c =
       c = _;
       l = _;
       d = _;
-      k = _;
       reached = at-head u .loop .inv .2;
       due = step-due (u .due .ensures) (b .before .before .call .given .1);
       about = b .about .ensures;
       named = k .before .before .named-line .ensures;
       core = k .core-of .ensures;
       line = l .line-of .ensures;
-      effect = c .before .effect .ensures;
-      counts = c .met .ensures;
+      effect = c .effect .ensures;
     }
 
 -- ---- the loop begins
@@ -116,8 +118,7 @@ loop-holds c =
 put-last-requires : tie.Need-put-last-requires Inv-loop μ-loop
 put-last-requires c κs =
     let u = c .before .before .before .before in
-    let h = at-head u in
-    (room-for (h .loop .inv .2) _ (short h), end-due (u .due .ensures) (c .before .before .last .given .1) .1)
+    (room (at-head u), end-due (u .due .ensures) (c .before .before .last .given .1) .1)
 
 returns-2 : tie.Need-returns-2 Inv-loop μ-loop
 returns-2 c =
@@ -130,20 +131,21 @@ returns-2 c =
 returns-3 : tie.Need-returns-3 Inv-loop μ-loop
 returns-3 c =
     let p = c .before .before .before .before .before in
-    step-short (made (at-met p)) _ _ _ (p .put-answer .ensures) (c .before .enum-told .given .1) (c .played2 .ensures)
+    step-short (made (at-effect p)) _ _ _ (p .put-answer .ensures) (c .before .enum-told .given .1) (c .played2 .ensures)
 
 loop-less : tie.Need-loop-less Inv-loop μ-loop
 loop-less c =
-    let d = made (at-met (at-put (at-e c))) .due in
+    let d = made (at-effect (at-put (at-e (c .before)))) .due in
     omega (arith, d .forward, d .inside)
 
 loop-again : tie.Need-loop-again Inv-loop μ-loop
 loop-again c =
-    let e = at-e c in
+    let v = c .before in
+    let e = at-e v in
     let p = at-put e in
-    let m = at-met p in
+    let m = at-effect p in
     let i = at-head (at-step (at-about (at-line m))) .loop .inv in
-    (c .before .before .before .private .given ∙ i .0, c .before .shared .given ∙ i .1, step-made (made m) _ _ _ _ _ (p .put-answer .ensures) (e .e .given .1) (c .before .before .before .before .move-bytes .ensures))
+    (v .before .before .before .private .given ∙ i .0, v .before .shared .given ∙ i .1, step-made (made m) _ _ _ _ _ _ (p .put-answer .ensures) (e .e .given .1) (v .before .before .before .before .move-bytes .ensures) (c .met .ensures))
 
 pub play-spec : {M : Type 1} → statement M
 play-spec =
@@ -157,16 +159,17 @@ play-spec =
     (λ c. search needs) (λ c κs. search needs) (λ c. let a = low (c) in omega arith) (λ c. let a = low (c) in omega arith)
     (λ c. let a = low (c) in omega arith) (λ c. let a = low (c) in omega arith) (λ c. let a = low (c .before) in omega arith)
     (λ c. let a = low (c .before) in omega arith) (λ c κs. search needs)
-    (λ c κs. let h = at-head (at-step (at-about (c .before .before .before))) in room-for (h .loop .inv .2) _ (short h)) (λ c. search needs)
-    (λ c. search needs) (λ c. made (c .before .before) .due .bytes .fits) (λ c κs. shows (made (c .before .before .before .before)))
+    (λ c. let r = room (at-head (at-step (at-about (c .before .before .before .before)))) in omega (arith, each-few _ _ r .steps)) (λ c. search needs)
+    (λ c. search needs) (λ c. made (c .before .before .before) .due .bytes .fits) (λ c κs. shows (made (c .before .before .before .before .before)))
     (λ c. search needs) (λ c κs. search needs)
-    (λ c. at-head (at-step (at-about (at-line (at-met (c .before .before .before .before .before))))) .loop .inv .0)
-    (λ c. at-head (at-step (at-about (at-line (at-met (c .before .before .before .before .before))))) .loop .inv .1)
-    (λ c. c .before .before .before .before .out2 .given ∙ at-head (at-step (at-about (at-line (at-met (c .before .before .before .before .before))))) .loop .inv .2 .fills .size)
-    returns-3 (λ c. search needs) (λ c. let a = low (at-line (at-met (at-put (c .before .before .before)))) in omega arith)
-    (λ c. let a = low (at-line (at-met (at-put (c .before .before .before)))) in omega arith)
-    (λ c. let a = low (at-line (at-met (at-put (c .before .before .before)))) in omega arith)
-    (λ c. let a = low (at-line (at-met (at-put (c .before .before .before)))) in omega arith)
-    (λ c. let a = low (at-line (at-met (at-put (c .before .before .before)))) in omega arith)
-    (λ c. let a = low (at-line (at-met (at-put (c .before .before .before)))) in omega arith) (λ c. search needs) (λ c. search needs)
-    (λ c. made (at-met (at-put (c .before .before .before .before .before .before))) .due .bytes .fits) (λ c κs. search needs) loop-less loop-again)
+    (λ c. at-head (at-step (at-about (at-line (at-effect (c .before .before .before .before .before))))) .loop .inv .0)
+    (λ c. at-head (at-step (at-about (at-line (at-effect (c .before .before .before .before .before))))) .loop .inv .1)
+    (λ c. c .before .before .before .before .out2 .given ∙ at-head (at-step (at-about (at-line (at-effect (c .before .before .before .before .before))))) .loop .inv .2 .fills .size)
+    returns-3 (λ c. search needs) (λ c. let a = low (at-line (at-effect (at-put (c .before .before .before)))) in omega arith)
+    (λ c. let a = low (at-line (at-effect (at-put (c .before .before .before)))) in omega arith)
+    (λ c. let a = low (at-line (at-effect (at-put (c .before .before .before)))) in omega arith)
+    (λ c. let a = low (at-line (at-effect (at-put (c .before .before .before)))) in omega arith)
+    (λ c. let a = low (at-line (at-effect (at-put (c .before .before .before)))) in omega arith)
+    (λ c. let a = low (at-line (at-effect (at-put (c .before .before .before)))) in omega arith) (λ c. search needs) (λ c. search needs)
+    (λ c. made (at-effect (at-put (c .before .before .before .before .before .before))) .due .bytes .fits) (λ c κs. search needs)
+    (λ c κs. room (at-head (at-step (at-about (at-line (at-effect (at-put (at-e c)))))))) loop-less loop-again)
