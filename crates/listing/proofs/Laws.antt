@@ -48,64 +48,78 @@ module _ (old : List ℕ) (at : ℕ) (head bytes : List ℕ) where
       → PutAt old at head one q → PutAt one (at + length head) (hex bytes) two s → PutAt two (at + length head + 2 * length bytes) (text "\n") new r
       → PutAt old at (head ++ hex bytes ++ text "\n") new r
   data-put one q two s new r h a b c =
-      let size : length (head ++ hex bytes) ≡ length head + 2 * length bytes = length-append head (hex bytes) ∙ ap (λ (k : ℕ). length head + k) (hex-length bytes) in
+      let size : length (head ++ hex bytes) ≡ length head + 2 * length bytes =
+      length-append head (hex bytes) ∙ ap (λ (k : ℕ). length head + k) (hex-length bytes) in
       let e : at + length head + 2 * length bytes ≡ at + length (head ++ hex bytes) = omega arith in
-      put-after old at (head ++ hex bytes) two s (text "\n") new r (omega (arith, data-length)) (put-after old at head one q (hex bytes) two s (omega arith) a b)
+      put-after old at (head ++ hex bytes) two s (text "\n") new r (omega (arith, data-length))
+      (put-after old at head one q (hex bytes) two s (omega arith) a b)
       (subst (λ (k : ℕ). PutAt two k (text "\n") new r) e c)
 
 -- ---- a line from its end
 
 -- the digits of a number before an offset, and its key before them
-pub field-put : (old : List ℕ) (end : ℕ) (key : List ℕ) (n : ℕ) (mid : List ℕ) (d : ℕ) (new : List ℕ) (q : Put) → length old ≡ 128 → Room end key
+pub field-put : (old : List ℕ) (end : ℕ) (key : List ℕ) (n : ℕ) (mid : List ℕ) (d : ℕ) (new : List ℕ) (q : Put) → Room old end key
     → PutBefore old end (decimal n) mid d → PutAt mid (d - length key) key new q → Field old end key n new (d - length key)
-field-put old end key n mid d new q size room p s =
+field-put old end key n mid d new q room p s =
     let place : d + length (decimal n) ≡ end = before-end old end n mid d p (omega arith) (omega arith) in
     let short = decimal-short n in
     let same : length mid ≡ length old = ap length (before-laid old end n mid d p (omega arith) (omega arith)) ∙ over-length old d (decimal n) (omega arith) in
     let start : d - length key + length key ≡ d = omega arith in
+    let kept : length new ≡ length mid = put-length mid (d - length key) key new q s (omega arith) in
     record {
-      text = put-from mid (d - length key) key new q s (omega arith) ∙ ap (λ (k : ℕ). key ++ drop k mid) start ∙ ap (λ (l : List ℕ). key ++ l) (before-from old end n mid d p (omega arith) (omega arith));
+      text =
+          put-from mid (d - length key) key new q s (omega arith) ∙ ap (λ (k : ℕ). key ++ drop k mid) start
+          ∙ ap (λ (l : List ℕ). key ++ l) (before-from old end n mid d p (omega arith) (omega arith));
       near = omega arith;
-      before = omega arith;
-      size = put-length mid (d - length key) key new q s (omega arith) ∙ same ∙ size;
+      within = omega arith;
+      size = kept ∙ same;
     }
 
 -- the digits leave room for the key
-pub digits-far : (old : List ℕ) (end n : ℕ) (key : List ℕ) (mid : List ℕ) (d : ℕ) → length old ≡ 128 → Room end key → PutBefore old end (decimal n) mid d → length key ≤ d
-digits-far old end n key mid d size room p = omega (arith, before-end old end n mid d p (omega arith) (omega arith), decimal-short n)
+pub digits-far : (old : List ℕ) (end n : ℕ) (key : List ℕ) (mid : List ℕ) (d : ℕ) → Room old end key → PutBefore old end (decimal n) mid d → length key ≤ d
+digits-far old end n key mid d room p = omega (arith, before-end old end n mid d p (omega arith) (omega arith), decimal-short n)
 
 -- a text put where it ends the line
-pub tail-put : (old t new : List ℕ) (q : Put) → length old ≡ 128 → length t ≤ 128 → PutAt old (128 - length t) t new q → Tail t new (128 - length t)
-tail-put old t new q size h p =
-    let e : 128 - length t + length t ≡ 128 = omega arith in
+pub tail-put : (old t new : List ℕ) (q : Put) → length t ≤ length old → PutAt old (length old - length t) t new q → Tail old t new (length old - length t)
+tail-put old t new q h p =
+    let e : length old - length t + length t ≡ length old = omega arith in
     record {
-      text = put-from old (128 - length t) t new q p (omega arith) ∙ ap (λ (k : ℕ). t ++ drop k old) e ∙ ap (λ (l : List ℕ). t ++ l) (drop-of-length-le old {i = 128} (omega arith)) ∙ append-nil t;
+      text =
+          put-from old (length old - length t) t new q p (omega arith) ∙ ap (λ (k : ℕ). t ++ drop k old) e
+          ∙ ap (λ (l : List ℕ). t ++ l) (drop-of-length-le old {i = length old} (omega arith)) ∙ append-nil t;
       start = e;
-      size = put-length old (128 - length t) t new q p (omega arith) ∙ size;
+      size = put-length old (length old - length t) t new q p (omega arith);
     }
 
 -- one field more in front of a text
-pub more : {old : List ℕ} {end : ℕ} {key : List ℕ} {n : ℕ} {new : List ℕ} {r : ℕ} {t : List ℕ} → Field old end key n new r → drop end old ≡ t → drop r new ≡ key ++ (decimal n ++ t)
+pub more :
+    {old : List ℕ} {end : ℕ} {key : List ℕ} {n : ℕ} {new : List ℕ} {r : ℕ} {t : List ℕ}
+    → Field old end key n new r → drop end old ≡ t → drop r new ≡ key ++ (decimal n ++ t)
 more {key = key} {n = n} f e = f .text ∙ ap (λ (l : List ℕ). key ++ (decimal n ++ l)) e
 
 -- the first field, and with it the whole line
-pub first : {old : List ℕ} {end : ℕ} {key : List ℕ} {n : ℕ} {new : List ℕ} {r : ℕ} {t : List ℕ} → Field old end key n new r → drop end old ≡ t → take (128 - r) (drop r new) ≡ key ++ (decimal n ++ t)
-first {new = new} {r = r} f e = take-all (128 - r) (drop r new) (simp length-drop (omega (arith, f .size))) ∙ more f e
+pub first :
+    {w : ℕ} {old : List ℕ} {end : ℕ} {key : List ℕ} {n : ℕ} {new : List ℕ} {r : ℕ} {t : List ℕ}
+    → length old ≡ w → Field old end key n new r → drop end old ≡ t → take (w - r) (drop r new) ≡ key ++ (decimal n ++ t)
+first {w = w} {new = new} {r = r} size f e = take-all (w - r) (drop r new) (simp length-drop (omega (arith, f .size))) ∙ more f e
 
 -- the same text, written otherwise
 pub put-same : {old : List ℕ} {at : ℕ} {t u new : List ℕ} {r : Put} → t ≡ u → PutAt old at t new r → PutAt old at u new r
 put-same {old} {at} {t} {u} {new} {r} e p = subst (λ (l : List ℕ). PutAt old at l new r) e p
 
 -- four fields and a last text, then data and a newline
-pub four : (a b c d e f g h t x y : List ℕ) → (a ++ (b ++ (c ++ (d ++ (e ++ (f ++ (g ++ (h ++ t)))))))) ++ x ++ y ≡ a ++ b ++ c ++ d ++ e ++ f ++ g ++ h ++ t ++ x ++ y
+pub four :
+    (a b c d e f g h t x y : List ℕ)
+    → (a ++ (b ++ (c ++ (d ++ (e ++ (f ++ (g ++ (h ++ t)))))))) ++ x ++ y ≡ a ++ b ++ c ++ d ++ e ++ f ++ g ++ h ++ t ++ x ++ y
 four a b c d e f g h t x y = simp append-assoc
 
 -- ---- the records
 
 -- the place, and the end that names what was done
 pub done-line :
-    (d : Name) {old : List ℕ} {end n : ℕ} {new : List ℕ} {r : ℕ} → drop end old ≡ doneEnd d → Field old end (text "n=") n new r → take (128 - r) (drop r new) ≡ doneText n d
-done-line d e f = first f e ∙ simp append-assoc
+    (d : Name) {old : List ℕ} {end n : ℕ} {new : List ℕ} {r : ℕ}
+    → length old ≡ 128 → drop end old ≡ doneEnd d → Field old end (text "n=") n new r → take (128 - r) (drop r new) ≡ doneText n d
+done-line d size e f = first size f e ∙ simp append-assoc
 
 -- a load's or a store's record, from the text of its kind
 pub access-text :

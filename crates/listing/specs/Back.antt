@@ -1,4 +1,4 @@
--- A line of text that is built back to front, at the end of a buffer of 128 bytes. What it holds then. Assumes nothing.
+-- A line of text that is built back to front, at the end of a buffer of any length. What it holds then. Assumes nothing.
 use Prim.Native.Nat.{ℕ, _+_, _≤_}
 use mathlib.Core.{Path._≡_, List.{List, _++_}}
 use lib.ListN.{length, drop}
@@ -6,23 +6,23 @@ use Rattle.spelling.specs.{Text.text, Decimal.decimal, Hex.hex}
 use Rattle.protocol.specs.declared.Name.{Name}
 use Rattle.listing.specs.Record.{nameText}
 
--- a key and a number of twenty digits have room before an offset
-abbrev pub Room : ℕ → List ℕ → Type 0
-Room end key = (length key + 20 ≤ end) × (end ≤ 128)
+-- a key and a number of twenty digits have room before an offset of a buffer
+abbrev pub Room : List ℕ → ℕ → List ℕ → Type 0
+Room old end key = (length key + 20 ≤ end) × (end ≤ length old)
 
 -- the key and the number n were put before an offset: from r on the buffer holds them, and then what it held from the offset on.
 -- They are no longer than the key and twenty digits.
 pub record Field (old : List ℕ) (end : ℕ) (key : List ℕ) (n : ℕ) (new : List ℕ) (r : ℕ) : Type 0 where
   pub text : drop r new ≡ key ++ (decimal n ++ drop end old)
   pub near : end ≤ r + (length key + 20)
-  pub before : r ≤ end
-  pub size : length new ≡ 128
+  pub within : r ≤ length new
+  pub size : length new ≡ length old
 
 -- the text t was put at the end: it starts at r
-pub record Tail (t new : List ℕ) (r : ℕ) : Type 0 where
+pub record Tail (old t new : List ℕ) (r : ℕ) : Type 0 where
   pub text : drop r new ≡ t
-  pub start : r + length t ≡ 128
-  pub size : length new ≡ 128
+  pub start : r + length t ≡ length old
+  pub size : length new ≡ length old
 
 -- three keys with their numbers, and a newline
 abbrev pub three : List ℕ → ℕ → List ℕ → ℕ → List ℕ → ℕ → List ℕ

@@ -18,8 +18,8 @@ use protocol::Place;
 use spelling::Put;
 
 // A key and its number, just before an offset of a line; the answer is where the key starts.
-fn field(line: &mut [u8; 128], end: usize, key: &[u8], n: u64) -> usize
-    requires { ⌜ Room end (now key) ⌝ }
+fn field(line: &mut [u8], end: usize, key: &[u8], n: u64) -> usize
+    requires { ⌜ Room (now line) end (now key) ⌝ }
     ensures { λ r. ⌜ Field (now (line .entry)) end (now (key .entry)) n (now (line .exit)) r ⌝ }
 {
     let digits = spelling::put_number_before(line, end, n);
@@ -29,11 +29,11 @@ fn field(line: &mut [u8; 128], end: usize, key: &[u8], n: u64) -> usize
 }
 
 // The last text of a line; the answer is where it starts.
-fn tail(line: &mut [u8; 128], text: &[u8]) -> usize
-    requires { ⌜ length (now text) ≤ 128 ⌝ }
-    ensures { λ r. ⌜ Tail (now (text .entry)) (now (line .exit)) r ⌝ }
+fn tail(line: &mut [u8], text: &[u8]) -> usize
+    requires { ⌜ length (now text) ≤ length (now line) ⌝ }
+    ensures { λ r. ⌜ Tail (now (line .entry)) (now (text .entry)) (now (line .exit)) r ⌝ }
 {
-    let start = 128 - text.len();
+    let start = line.len() - text.len();
     spelling::put_text(line, start, text);
     start
 }
@@ -61,7 +61,7 @@ pub fn put_with_data(out: &mut [u8], at: usize, head: &[u8], bytes: &[u8]) -> Pu
 
 // How a record ends that names what was done, at the end of a line; the answer is where it starts.
 fn done_tail(line: &mut [u8; 128], name: Name) -> usize
-    ensures { λ r. ⌜ Tail (doneEnd name) (now (line .exit)) r ⌝ }
+    ensures { λ r. ⌜ Tail (now (line .entry)) (doneEnd name) (now (line .exit)) r ⌝ }
 {
     match name {
         Name::Open => tail(line, b" done=open\n"),

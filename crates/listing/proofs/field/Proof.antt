@@ -6,12 +6,15 @@ use Rattle.listing.proofs.field.Tie as tie
 
 sub-start : tie.Need-sub-start
 sub-start c =
-    let a = c .before .before .before .args in
-    digits-far _ _ (a .n) (a .key .now) _ _ (omega arith) (c .before .before .before .pre) (c .put-number-before .ensures)
+    let n = c .before .before in
+    let s = n .before .before .before .before in
+    digits-far _ _ (s .args .n) (s .args .key .now) _ _ (s .pre) (n .put-number-before .ensures)
 
 returns : tie.Need-returns
 returns c =
-    field-put _ _ _ _ _ _ _ _ (omega arith) (c .before .before .before .before .before .pre) (c .before .before .put-number-before .ensures) (c .put-text .ensures)
+    let t = c .before .before in
+    let n = t .before .before .before .before in
+    field-put _ _ _ _ _ _ _ _ (n .before .before .before .before .pre) (n .put-number-before .ensures) (t .put-text .ensures)
 
 pub field-spec : {M : Type 1} → statement M
-field-spec = tie.close (tie.spec (λ c κs. search needs) sub-start (λ c κs. search needs) returns)
+field-spec = tie.close (tie.spec (λ c κs. search needs) sub-start (λ c κs. search needs) (λ c. search needs) returns)

@@ -13,13 +13,14 @@ room c κs =
 
 returns : tie.Need-returns
 returns c =
-    let e = c .before .before .before .before .before .before in
+    let e = c .before .before .before .before .before .before .before in
     let t = e .before .before .before in
-    put-same (done-line (t .before .before .before .args .name) (t .done-tail .ensures .text) (e .field .ensures)) (c .before .before .put-text .ensures)
+    let line = done-line (t .before .before .before .args .name) (omega arith) (t .done-tail .ensures .text) (e .field .ensures) in
+    put-same line (c .before .before .put-text .ensures)
 
 pub put-done-spec : {M : Type 1} → statement M
 put-done-spec =
     tie.close
     (tie.spec
-    (λ c κs. search needs) (λ c. refl) room (λ c. omega arith) (λ c. omega arith) (λ c. omega arith) (λ c κs. search needs)
+    (λ c κs. search needs) (λ c. omega arith) (λ c. refl) room (λ c. omega arith) (λ c. omega arith) (λ c. omega arith) (λ c κs. search needs)
     (λ c. c .before .out .given) returns)

@@ -7,14 +7,14 @@ use Rattle.listing.proofs.put_refused.Tie as tie
 
 returns : tie.Need-returns
 returns c =
-    let b = c .before .before .before .before .before .before in
-    let a = b .before .before .before in
-    let end = more (a .field .ensures) (a .before .before .before .tail .ensures .text) in
-    put-same (first (b .field2 .ensures) end ∙ simp append-assoc) (c .before .before .put-text .ensures)
+    let b = c .before .before .before .before .before .before .before in
+    let a = b .before .before .before .before in
+    let end = more (a .field .ensures) (a .before .before .before .before .tail .ensures .text) in
+    put-same (first (omega arith) (b .field2 .ensures) end ∙ simp append-assoc) (c .before .before .put-text .ensures)
 
 pub put-refused-spec : {M : Type 1} → statement M
 put-refused-spec =
     tie.close
     (tie.spec
-    (λ c. refl) (λ c κs. omega arith) (λ c. refl) (λ c κs. omega arith) (λ c. refl) (λ c κs. omega arith) (λ c. omega arith) (λ c. omega arith)
-    (λ c. omega arith) (λ c κs. search needs) (λ c. c .before .out .given) returns)
+    (λ c. refl) (λ c. refl) (λ c κs. omega arith) (λ c. omega arith) (λ c. refl) (λ c κs. omega arith) (λ c. omega arith) (λ c. refl)
+    (λ c κs. omega arith) (λ c. omega arith) (λ c. omega arith) (λ c. omega arith) (λ c κs. search needs) (λ c. c .before .out .given) returns)

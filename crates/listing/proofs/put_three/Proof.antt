@@ -7,15 +7,16 @@ use Rattle.listing.proofs.put_three.Tie as tie
 
 returns : tie.Need-returns
 returns c =
-    let d = c .before .before .before .before .before .before in
-    let b = d .before .before in
-    let a = b .before .before in
-    let end = more (b .field2 .ensures) (more (a .field .ensures) (a .before .before .tail .ensures .text)) in
-    put-same (first (d .field3 .ensures) end ∙ simp append-assoc) (c .before .before .put-text .ensures)
+    let d = c .before .before .before .before .before .before .before in
+    let b = d .before .before .before in
+    let a = b .before .before .before in
+    let end = more (b .field2 .ensures) (more (a .field .ensures) (a .before .before .before .tail .ensures .text)) in
+    put-same (first (omega arith) (d .field3 .ensures) end ∙ simp append-assoc) (c .before .before .put-text .ensures)
 
 pub put-three-spec : {M : Type 1} → statement M
 put-three-spec =
     tie.close
     (tie.spec
-    (λ c. refl) (λ c κs. omega arith) (λ c κs. omega arith) (λ c κs. omega arith) (λ c κs. omega arith) (λ c. omega arith) (λ c. omega arith)
-    (λ c. omega arith) (λ c κs. search needs) (λ c. c .before .out .given) returns)
+    (λ c. refl) (λ c. refl) (λ c κs. omega arith) (λ c. omega arith) (λ c κs. omega arith) (λ c. omega arith) (λ c κs. omega arith)
+    (λ c. omega arith) (λ c κs. omega arith) (λ c. omega arith) (λ c. omega arith) (λ c. omega arith) (λ c κs. search needs)
+    (λ c. c .before .out .given) returns)
