@@ -7,7 +7,7 @@ use Rattle.protocol.specs.declared.{Place.Place, Name.{Name, the-variants.{Open
 use Rattle.protocol.specs.declared.{Counts.Counts, Answer.{Answer, the-variants.{Refused, Done, Commit}}, Kind.the-variants.{Load, Store, Fence}}
 use Rattle.protocol.specs.Step.{meaning}
 use Rattle.spelling.proofs.{DecimalLaws.decimal-short, HexLaws.hex-length}
-use Rattle.listing.specs.{Record.{nameText, recordText, endText}, Back.doneEnd}
+use Rattle.listing.specs.{Record.{nameText, recordText, endText, tallyText}, Back.doneEnd}
 
 name-length : (d : Name) → length (nameText d) ≤ 7
 name-length Open = omega arith
@@ -40,3 +40,19 @@ record-length p (Commit c t Fence) bytes = simp length-append (omega (arith, dec
 pub end-length : (k : Counts) → length (endText k) ≤ 83
 unfolding endText
 end-length k = simp length-append (omega (arith, decimal-short (k .steps), decimal-short (k .commits), decimal-short (k .refusals)))
+
+-- the tally's line has at most 191 bytes
+pub tally-length : (k : Counts) → length (tallyText k) ≤ 191
+unfolding tallyText
+tally-length k =
+    simp length-append
+    (omega (
+      arith,
+      decimal-short (k .loads),
+      decimal-short (k .stores),
+      decimal-short (k .fences),
+      decimal-short (k .asks),
+      decimal-short (k .shares),
+      decimal-short (k .renews),
+      decimal-short (k .owns),
+    ))

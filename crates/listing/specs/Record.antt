@@ -1,4 +1,5 @@
--- What the program prints, byte for byte (01, "Journal and driver"): a record for each call, and the end line. Assumes nothing.
+-- What the programs print, byte for byte: a record for each call and the end line (01, "Journal and driver"), and the tally's line (02, One).
+-- Assumes nothing.
 use Prim.Native.Nat.{ℕ}
 use mathlib.Core.List.{List, [], _++_}
 use Rattle.spelling.specs.{Text.text, Decimal.decimal, Hex.hex}
@@ -58,3 +59,10 @@ recordText p (commit c t o) = commitText (p .0) c (t .0) o
 unfoldable pub endText : Counts → List ℕ
 endText k =
     text "end=" ++ decimal (k .steps) ++ text " commits=" ++ decimal (k .commits) ++ text " refused=" ++ decimal (k .refusals) ++ text "\n"
+
+-- "one line `loads= stores= fences= asks= shares= renews= owns=`"
+unfoldable pub tallyText : Counts → List ℕ
+tallyText k =
+    text "loads=" ++ decimal (k .loads) ++ text " stores=" ++ decimal (k .stores) ++ text " fences=" ++ decimal (k .fences)
+    ++ text " asks=" ++ decimal (k .asks) ++ text " shares=" ++ decimal (k .shares) ++ text " renews=" ++ decimal (k .renews)
+    ++ text " owns=" ++ decimal (k .owns) ++ text "\n"

@@ -1,4 +1,4 @@
-// The listing that the program prints: the text of one record and of the end line, into a lent buffer.
+// What the programs print: the text of one record, of the end line and of the tally's line, into a lent buffer.
 //
 // A text that does not fit leaves the buffer as it was, so its length must be known before its first byte is put. A number's
 // digits come last digit first; so a line is built back to front in a local buffer, which is then put as one text. A commit's
@@ -8,7 +8,7 @@ ghost use Prim.Native.Nat.{_+_, _≤_};
 ghost use lib.ListN.{length};
 ghost use Rattle.protocol.specs.Step.{valued, meaning};
 ghost use Rattle.spelling.specs.{Text.text, Hex.hex, Over.PutAt};
-ghost use Rattle.listing.specs.Record.{doneText, refusedText, commitText, recordText, endText};
+ghost use Rattle.listing.specs.Record.{doneText, refusedText, commitText, recordText, endText, tallyText};
 ghost use Rattle.listing.specs.Back.{Room, Field, Tail, three, access, doneEnd};
 use protocol::Answer;
 use protocol::Counts;
@@ -208,4 +208,20 @@ pub fn put_end(out: &mut [u8], at: usize, counts: Counts) -> Put
         b" refused=",
         counts.refusals,
     )
+}
+
+// The line of the tally, into a lent buffer from `at` on. Where it does not fit, the buffer is left as it was.
+pub fn put_tally(out: &mut [u8], at: usize, counts: Counts) -> Put
+    ensures { λ r. ⌜ PutAt (now (out .entry)) at (tallyText counts) (now (out .exit)) r ⌝ }
+{
+    let mut line = [0u8; 256];
+    let a = tail(&mut line, b"\n");
+    let b = field(&mut line, a, b" owns=", counts.owns);
+    let c = field(&mut line, b, b" renews=", counts.renews);
+    let d = field(&mut line, c, b" shares=", counts.shares);
+    let e = field(&mut line, d, b" asks=", counts.asks);
+    let f = field(&mut line, e, b" fences=", counts.fences);
+    let g = field(&mut line, f, b" stores=", counts.stores);
+    let h = field(&mut line, g, b"loads=", counts.loads);
+    spelling::put_text(out, at, &line[h..])
 }
