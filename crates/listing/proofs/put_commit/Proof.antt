@@ -7,13 +7,19 @@ use Rattle.listing.proofs.{Laws.{put-same, access-text, fence-text}, pu
 use Rattle.listing.proofs.put_commit.Tie as tie
 
 returns : tie.Need-returns
-returns c = rw (c .before .before .before .before .before .before .kind .given .1) (put-same (access-text _ _ _ _ (text "load") _) (c .before .before .put-access .ensures))
+returns c =
+    rw (c .before .before .before .before .before .before .kind .given .1)
+    (put-same (access-text _ _ _ _ (text "load") _) (c .before .before .put-access .ensures))
 
 returns-2 : tie.Need-returns-2
-returns-2 c = rw (c .before .before .before .before .before .before .kind2 .given .1) (put-same (access-text _ _ _ _ (text "store") _) (c .before .before .put-access2 .ensures))
+returns-2 c =
+    rw (c .before .before .before .before .before .before .kind2 .given .1)
+    (put-same (access-text _ _ _ _ (text "store") _) (c .before .before .put-access2 .ensures))
 
 returns-3 : tie.Need-returns-3
-returns-3 c = rw (c .before .before .before .before .before .before .before .enum-told .given .1) (put-same (fence-text _ _ _) (c .before .before .put-three .ensures))
+returns-3 c =
+    rw (c .before .before .before .before .before .before .before .enum-told .given .1)
+    (put-same (fence-text _ _ _) (c .before .before .put-three .ensures))
 
 pub put-commit-spec : {M : Type 1} → statement M
 put-commit-spec =
