@@ -1,10 +1,10 @@
 -- `listing::put_tally` meets its contract: the line holds the seven fields, from the last to the first. Assumes nothing.
-use mathlib.Core.Path.{refl, _∙_}
+use mathlib.Core.{Path.{refl, _∙_}, List.append-assoc}
 use native.Mathlib.Omega.{arith}
 use borrow.Author.Needs.{needs}
-use Rattle.spelling.specs.{Decimal.decimal, Text.text}
+use Rattle.spelling.specs.Text.{text}
 use Rattle.listing.specs.Record.{tallyText}
-use Rattle.listing.proofs.{Laws.{first, more, seven, put-same}, put_tally.Statement.statement}
+use Rattle.listing.proofs.{Laws.{first, more, put-same}, put_tally.Statement.statement}
 use Rattle.listing.proofs.put_tally.Tie as tie
 
 -- there is room for the first field before the others
@@ -29,14 +29,14 @@ returns c =
     let a = b .before .before .before .before in
     let t = a .before .before .before .before in
     let k = t .before .before .before .before .args .counts in
-    let shares = more (d .field3 .ensures) (more (b .field2 .ensures) (more (a .field .ensures) (t .tail .ensures .text))) in
-    let stores = more (g .field6 .ensures) (more (f .field5 .ensures) (more (e .field4 .ensures) shares)) in
-    unfold tallyText in
-    put-same
-    (first (omega arith) (h .field7 .ensures) stores
-    ∙ seven (text "loads=") (decimal (k .loads)) (text " stores=") (decimal (k .stores)) (text " fences=") (decimal (k .fences)) (text " asks=")
-    (decimal (k .asks)) (text " shares=") (decimal (k .shares)) (text " renews=") (decimal (k .renews)) (text " owns=") (decimal (k .owns)) (text "\n"))
-    (c .before .before .put-text .ensures)
+    let owns = more {key = text " owns="} {n = k .owns} {t = text "\n"} (a .field .ensures) (t .tail .ensures .text) in
+    let renews = more {key = text " renews="} {n = k .renews} (b .field2 .ensures) owns in
+    let shares = more {key = text " shares="} {n = k .shares} (d .field3 .ensures) renews in
+    let asks = more {key = text " asks="} {n = k .asks} (e .field4 .ensures) shares in
+    let fences = more {key = text " fences="} {n = k .fences} (f .field5 .ensures) asks in
+    let stores = more {key = text " stores="} {n = k .stores} (g .field6 .ensures) fences in
+    let loads = first {w = 256} {key = text "loads="} {n = k .loads} (omega arith) (h .field7 .ensures) stores in
+    unfold tallyText in put-same (loads ∙ simp append-assoc) (c .before .before .put-text .ensures)
 
 pub put-tally-spec : {M : Type 1} → statement M
 put-tally-spec =
