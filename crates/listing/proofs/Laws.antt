@@ -113,13 +113,6 @@ pub four :
     → (a ++ (b ++ (c ++ (d ++ (e ++ (f ++ (g ++ (h ++ t)))))))) ++ x ++ y ≡ a ++ b ++ c ++ d ++ e ++ f ++ g ++ h ++ t ++ x ++ y
 four a b c d e f g h t x y = simp append-assoc
 
--- seven fields and a last text
-pub seven :
-    (a b c d e f g h i j k l m n t : List ℕ)
-    → a ++ (b ++ (c ++ (d ++ (e ++ (f ++ (g ++ (h ++ (i ++ (j ++ (k ++ (l ++ (m ++ (n ++ t)))))))))))))
-    ≡ a ++ b ++ c ++ d ++ e ++ f ++ g ++ h ++ i ++ j ++ k ++ l ++ m ++ n ++ t
-seven a b c d e f g h i j k l m n t = simp append-assoc
-
 -- ---- the records
 
 -- the place, and the end that names what was done
