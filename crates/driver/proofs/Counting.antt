@@ -5,7 +5,8 @@ use native.Mathlib.{Nat.{add-assoc, add-zero, zero-add}, Omega.arith}
 use lib.{Dec.leb, ListN.length}
 use borrow.Author.Tests.{leb-true, le-leb}
 use Rattle.protocol.specs.{Pick.{every, howMany}, Buffers.Bytes, Step.{Reply, meaning}, Run.Record, Counts.{classOf, nothingMet, tally, oneOf, countsOf, sum}}
-use Rattle.protocol.specs.declared.{Call.Call, Answer.{Answer, the-variants.{Refused, Done, Commit}}, Kind.the-variants.{Load as OfLoad, Store as OfStore, Fence as OfFence}}
+use Rattle.protocol.specs.declared.{Call.Call, Answer.{Answer, the-variants.{Refused, Done, Commit}}}
+use Rattle.protocol.specs.declared.Kind.the-variants.{Load as OfLoad, Store as OfStore, Fence as OfFence}
 use Rattle.protocol.specs.declared.{Counts.Counts, Class.{Class, the-variants.{Load, Store, Fence, Ask, Share, Renew, Own, Refused as Refusal, Other}}}
 use Rattle.protocol.proofs.Tests.{both-true}
 use Rattle.driver.specs.Play.{few}
@@ -34,7 +35,8 @@ unfolding howMany
 tally-append [] ts = sym (none-plus (tally ts))
 tally-append (r ∷ rs) ts =
     let k = countsOf (r .entry .call) (r .reply) in
-    tally-more r (rs ++ ts) ∙ ap (sum k) (tally-append rs ts) ∙ sym (plus-assoc k (tally rs) (tally ts)) ∙ ap (λ (x : Counts). sum x (tally ts)) (sym (tally-more r rs))
+    tally-more r (rs ++ ts) ∙ ap (sum k) (tally-append rs ts) ∙ sym (plus-assoc k (tally rs) (tally ts))
+    ∙ ap (λ (x : Counts). sum x (tally ts)) (sym (tally-more r rs))
 
 pub tally-one : (r : Record) → tally (r ∷ []) ≡ countsOf (r .entry .call) (r .reply)
 unfolding howMany

@@ -184,7 +184,9 @@ module _ {j : Bytes} {from : Checkpoint} {p₀ q₀ old : Bytes} (s : StepInPlac
       let z : s .count - 0 ≡ s .count = omega arith in
       rw (z, effect-is, s .about, ← s .reached .opening) (replied here (s .call) given-bytes (s .n) number-is (s .v) (s .c) (s .l) finds)
 
-  counts-are : {k : Counts} → k ≡ sum (s .there .counts) (countsOf (s .call) (meaning (s .d .answer) [])) → k ≡ sum (s .there .counts) (countsOf (s .call) (outcome .reply))
+  counts-are :
+      {k : Counts} → k ≡ sum (s .there .counts) (countsOf (s .call) (meaning (s .d .answer) []))
+      → k ≡ sum (s .there .counts) (countsOf (s .call) (outcome .reply))
   counts-are e = e ∙ ap (sum (s .there .counts)) (same-counts (s .call) (s .d .answer) [] _ ∙ ap (countsOf (s .call)) reply-is)
 
   -- there is no room for it

@@ -37,7 +37,8 @@ pub enum Progress {
     Unfit,
 }
 
-// How far a call came: `written` bytes of the buffer, from its start, and the run's checkpoint.
+// How far a call came: `written` bytes of the buffer, from its start, and the run's checkpoint, whose counts leave out
+// the line that ended the run.
 pub struct Played {
     pub progress: Progress,
     pub written: usize,

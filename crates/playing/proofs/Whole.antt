@@ -3,8 +3,8 @@ use Prim.Native.Nat.{ℕ, _+_}
 use mathlib.Core.{Path.{_≡_, sym, _∙_, ap, ap₂, subst}, List.{List, [], _++_, append-nil, append-assoc}}
 use native.Mathlib.Omega.{arith}
 use lib.ListN.{length, replicate}
-use Rattle.protocol.specs.{Pick.howMany, Buffers.{Bytes, privateLength, sharedLength}, Machine.{Machine, machine}, Counts.{sum, tally}, Run.{Entry, Record, run}}
-use Rattle.protocol.specs.declared.Counts.{Counts}
+use Rattle.protocol.specs.{Pick.howMany, Buffers.{Bytes, privateLength, sharedLength}, Machine.{Machine, machine}, Counts.{sum, tally}}
+use Rattle.protocol.specs.{Run.{Entry, Record, run}, declared.Counts.Counts}
 use Rattle.driver.specs.{Listing.{Ending, noLine, EndsAt, lines, lastLines}, declared.Checkpoint.Checkpoint}
 use Rattle.driver.specs.declared.Progress.{Progress, the-variants.{Finished, More}}
 use Rattle.driver.specs.Play.{runFrom, Leads, Tells, finished, more, unfit, firstCheckpoint, Begins, opens, fails, noRoom, noRoomToEnd}

@@ -19,10 +19,12 @@ pub data Plays-on (journal : Bytes) : Checkpoint → Bytes → Bytes → List By
       {from : Checkpoint} {p q old p' q' new : Bytes} {r : Played} {ts : List Bytes} {k : Counts} → Plays journal from p q old p' q' new r → r .progress ≡ More
       → Plays-on journal (r .checkpoint) p' q' ts k → Plays-on journal from p q (take (r .written) new ∷ ts) k
 
--- the calls that play a whole journal, the texts that they wrote and what was counted at the end: `start`, and where it opens an engine `play`, on zeroed buffers of
--- the exact lengths
+-- the calls that play a whole journal, the texts that they wrote and what was counted at the end: `start`, and where it opens an engine
+-- `play`, on zeroed buffers of the exact lengths
 pub data Playing (journal : Bytes) : List Bytes → Counts → Type 0 where
-  over : {old new : Bytes} {r : Played} → Starts journal old new r → r .progress ≡ Finished → Playing journal (take (r .written) new ∷ []) (r .checkpoint .counts)
+  over :
+      {old new : Bytes} {r : Played} → Starts journal old new r → r .progress ≡ Finished
+      → Playing journal (take (r .written) new ∷ []) (r .checkpoint .counts)
   begun :
       {old new : Bytes} {r : Played} {ts : List Bytes} {k : Counts} → Starts journal old new r → r .progress ≡ More
       → Plays-on journal (r .checkpoint) (replicate (privateLength (r .checkpoint .state .opening)) 0)

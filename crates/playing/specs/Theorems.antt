@@ -1,4 +1,5 @@
--- The theorems about the driver: what its calls write is the listing, everything has exactly one answer, and with room the calls advance.
+-- The theorems about the driver: what its calls write is the listing and what they count the tally, everything has exactly one answer, and
+-- with room the calls advance.
 use Prim.Native.Nat.{ℕ, _≤_, _<_}
 use mathlib.Core.{Path._≡_, Bool.true, List.List}
 use lib.ListN.{length}

@@ -2,14 +2,16 @@
 use Prim.Native.Nat.{ℕ, _+_}
 use mathlib.Core.{Path.{_≡_, refl, sym, _∙_}, Bool.{Bool, true, false}, List.{List, [], _∷_}}
 use native.Mathlib.Omega.{arith}
-use Rattle.protocol.specs.{Pick.{pick, howMany}, Fresh.freshCore, Buffers.{Bytes, copyBytes}, Machine.{Machine, Pieces, coreOf, lineOf, freshMachine, applied}}
+use Rattle.protocol.specs.{Pick.{pick, howMany}, Fresh.freshCore, Buffers.{Bytes, copyBytes}}
+use Rattle.protocol.specs.Machine.{Machine, Pieces, coreOf, lineOf, freshMachine, applied}
 use Rattle.protocol.specs.{Refusals.{isEmpty, isAsked}, Step.{Reply, Outcome, meaning, commitBytes, accepted, step}, Run.{Entry, Record, run}}
 use Rattle.protocol.specs.{Counts.{classOf, sameClass, isOf, number}, Tally.{askedCores, TallyTheorem}}
 use Rattle.protocol.specs.declared.{Slot.{Slot, the-variants.{Empty, Asked, Answered}}, Core.Core, Opening.Opening, Call.Call, Effect.Effect}
 use Rattle.protocol.specs.declared.Class.{Class, the-variants.{Ask as AnAsk, Share as AShare, Renew as ARenew, Own as AnOwn}}
 use Rattle.protocol.specs.Tables.{loadOwned, storeTable, fenceTable, advanceTable, evictTable, serveAsked, serveLoad, receiveGrant, receiveRenew}
 use Rattle.protocol.specs.Tables.{yieldTable, takeTable}
-use Rattle.protocol.proofs.{Tests.never, Scan.{how-many-set, how-many-none}, Written.{Arrays, arrays-written, arrays-fresh}, Reached.{recorded, onto, reached}}
+use Rattle.protocol.proofs.{Tests.never, Scan.{how-many-set, how-many-none}, Written.{Arrays, arrays-written, arrays-fresh}}
+use Rattle.protocol.proofs.Reached.{recorded, onto, reached}
 use Rattle.protocol.proofs.Cases.{Row, asks-load, reads-shared, reads-dirty, reads-clean, asks-store, writes, fences, advances, evicts-shared}
 use Rattle.protocol.proofs.Cases.{evicts-owned, recalls, renews, shares, grants, gets-share, gets-own, gets-renewal, drops-none, drops-owned, yields}
 use Rattle.protocol.proofs.Cases.{takes, evict, Case, refuses, makes, case-of}
@@ -74,7 +76,8 @@ module _ {m : Machine} (arrays : Arrays (m .state)) where
   flows call {given} (makes {d = d} n q w) =
       let s = m .state in
       let c = coreOf call s in
-      let cores = how-many-set (λ (k : Core). isAsked (k .slot)) freshCore (s .core) (s .opening .cores) c (d .core) (q .core) (omega (arith, arrays .nCore, q .cores)) in
+      let n = s .opening .cores in
+      let cores = how-many-set (λ (k : Core). isAsked (k .slot)) freshCore (s .core) n c (d .core) (q .core) (omega (arith, arrays .nCore, q .cores)) in
       (arrays-written arrays q d, omega (arith, flow (commitBytes call given (copyBytes (s .opening) (m .private) c (lineOf call s))) w, cores))
 
 -- a call more

@@ -12,6 +12,7 @@ use Rattle.protocol.specs.declared.Class.the-variants.{Renew as ARenew, 
 
 -- ---- the class of a record
 
+-- "serve (core with an asked slot)"
 abbrev pub isServe : Call → Bool
 isServe (Load c l) = false
 isServe (Store c l) = false
@@ -90,6 +91,7 @@ counts n of =
       owns = of AnOwn;
     }
 
+-- no step line
 abbrev pub nothingMet : Counts
 nothingMet = counts 0 (λ (k : Class). 0)
 
@@ -97,7 +99,7 @@ nothingMet = counts 0 (λ (k : Class). 0)
 abbrev pub tally : List Record → Counts
 tally rs = counts (length rs) (λ (k : Class). number k rs)
 
--- a record of a class, with n step lines
+-- one record of a class: n is 1 where it is a step line's, 0 where it is the first line's
 abbrev pub oneOf : ℕ → Class → Counts
 oneOf n a = counts n (λ (k : Class). pick (sameClass a k) 1 0)
 
@@ -105,6 +107,7 @@ oneOf n a = counts n (λ (k : Class). pick (sameClass a k) 1 0)
 abbrev pub countsOf : Call → Reply → Counts
 countsOf call r = oneOf 1 (classOf call r)
 
+-- count by count
 abbrev pub sum : Counts → Counts → Counts
 sum a b =
     record {

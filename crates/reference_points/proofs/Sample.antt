@@ -4,7 +4,8 @@ use mathlib.Core.{Path.{_≡_, refl}, Bool.true, List.{List, [], _∷_}}
 use native.Mathlib.Omega.{arith}
 use lib.{Dec.{ltb, lit≤}, ListN.{length, take, drop}}
 use borrow.Author.Tests.{ltb-true}
-use Rattle.protocol.specs.{Pick.howMany, Buffers.Bytes, Machine.freshMachine, Run.{Entry, run}, Counts.tally, declared.Call.{Call, the-variants.{Load, Store, Serve, Receive, Take}}}
+use Rattle.protocol.specs.{Pick.howMany, Buffers.Bytes, Machine.freshMachine, Run.{Entry, run}, Counts.tally}
+use Rattle.protocol.specs.declared.Call.{Call, the-variants.{Load, Store, Serve, Receive, Take}}
 use Rattle.spelling.specs.{Bytes.upTo, Decimal.{decimal, decimalUpTo}, Hex.hex}
 use Rattle.journal.{specs.{Journal.{inJournal, NextOf, ended as atLast}, declared.Next.the-variants.Opening}, proofs.Lines.line-answer}
 use Rattle.listing.specs.Record.{recordText, endText, tallyText}
@@ -63,4 +64,10 @@ opened = record { form = 1; next = 42; first = first; accepted = refl; reads = r
 
 pub sample-theorem : SampleTheorem
 unfolding calling run decimal decimalUpTo hex recordText endText tallyText lines howMany
-sample-theorem = record { listing = opens opened; counts = tally (run calls 1 (freshMachine (opening 1 1 1 10)) .records); tally = counted opened; line = refl }
+sample-theorem =
+    record {
+      listing = opens opened;
+      counts = tally (run calls 1 (freshMachine (opening 1 1 1 10)) .records);
+      tally = counted opened;
+      line = refl;
+    }

@@ -3,7 +3,8 @@ use Prim.Native.Nat.{ℕ}
 use mathlib.Core.{Path._≡_, List.{List, [], _∷_}}
 use Rattle.protocol.specs.{Stamps.stamp, Step.{load, store, fence, Reply, refused, done, commit}, Counts.classOf}
 use Rattle.protocol.specs.declared.Call.{Call, the-variants.{Load, Store, Fence, Evict, Advance, Serve, Receive, Yield, Take}}
-use Rattle.protocol.specs.declared.Name.the-variants.{Ask, Recall, Share, Renew, Own, Drop, Evict as Evicted, Advance as Advanced, Yield as Yielded, Take as Taken}
+use Rattle.protocol.specs.declared.Name.the-variants.{Ask, Recall, Share, Renew, Own, Drop, Evict as Evicted, Advance as Advanced}
+use Rattle.protocol.specs.declared.Name.the-variants.{Yield as Yielded, Take as Taken}
 use Rattle.protocol.specs.declared.Class.{Class, the-variants.{Load as ALoad, Store as AStore, Fence as AFence, Ask as AnAsk, Share as AShare, Renew as ARenew}}
 use Rattle.protocol.specs.declared.{Class.the-variants.{Own as AnOwn, Refused as ARefusal, Other}, Counts.Counts}
 use Rattle.spelling.specs.Text.{text}
@@ -46,10 +47,10 @@ classes =
     ∷ counts (Serve 0) (refused 21) ARefusal
     ∷ []
 
--- 10 requests, of which 7 were granted
+-- 70 step lines: 36 commits, 9 refusals, 10 requests, of which 7 were granted, and 8 others
 abbrev pub traffic : Counts
 traffic =
-    record { steps = 52; commits = 36; refusals = 9; loads = 20; stores = 13; fences = 3; asks = 10; shares = 4; renews = 2; owns = 1 }
+    record { steps = 70; commits = 36; refusals = 9; loads = 20; stores = 13; fences = 3; asks = 10; shares = 4; renews = 2; owns = 1 }
 
 pub record CountsTheorem : Type 0 where
   pub classes : Agree classed expected classes

@@ -39,11 +39,14 @@ on-over : {j : Bytes} {from there : Checkpoint} {g : Progress} → Onward j from
 on-over ends e = refl
 on-over (further a s) e = never e
 
-on-more : {j : Bytes} {from there : Checkpoint} {g : Progress} → Onward j from there g → moreToPlay g ≡ true → (g ≡ More) × (from .at < there .at) × (resumable (length j) there ≡ true)
+on-more :
+    {j : Bytes} {from there : Checkpoint} {g : Progress} → Onward j from there g → moreToPlay g ≡ true
+    → (g ≡ More) × (from .at < there .at) × (resumable (length j) there ≡ true)
 on-more ends e = never (sym e)
 on-more (further a s) e = (refl, a, s)
 
-module _ {j : Bytes} {from : Checkpoint} {p₀ q₀ : Bytes} {there : Checkpoint} {p q old p' q' new : Bytes} {r : Played} (c : Called j from p₀ q₀ there p q old) (x : Plays j there p q old p' q' new r) where
+module _ {j : Bytes} {from : Checkpoint} {p₀ q₀ : Bytes} {there : Checkpoint} {p q old p' q' new : Bytes} {r : Played}
+    (c : Called j from p₀ q₀ there p q old) (x : Plays j there p q old p' q' new r) where
   on : Onward j there (r .checkpoint) (r .progress)
   on = play-advances-theorem j there p q old p' q' new r x (c .resumable) (c .room)
 

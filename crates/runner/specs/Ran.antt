@@ -24,5 +24,7 @@ pub data RanFrom (journal : Bytes) (from : Checkpoint) (p q : Bytes) : Texts →
 
 -- from the start: `start` and calls of `play` wrote texts that, put together, are the journal's listing, and counted its tally; or a write failed
 pub data RanWhole (journal : Bytes) : Texts → Ran → Type 0 where
-  whole : {texts : Texts} {ts : List Bytes} {k : Counts} → Playing journal ts k → Listing journal (joined ts) → Tally journal k → RanWhole journal texts (Whole k)
+  whole :
+      {texts : Texts} {ts : List Bytes} {k : Counts} → Playing journal ts k → Listing journal (joined ts) → Tally journal k
+      → RanWhole journal texts (Whole k)
   part : RanWhole journal Written Cut

@@ -24,12 +24,17 @@ abbrev μ-loop : tie.MeasureT-loop
 returns : tie.Need-returns Inv-loop μ-loop
 returns c =
     let l = c .before .before .loop in
-    scan-fails _ (each (c .before .before .before .args .counts)) 10 0 (l .inv .1) (l .i) (c .before .loop-test .taken) (l .inv .2) _ refl (above (c .if1 .taken))
+    scan-fails _ (each (c .before .before .before .args .counts)) 10 0 (l .inv .1) (l .i) (c .before .loop-test .taken) (l .inv .2) _ refl
+    (above (c .if1 .taken))
 
 loop-again : tie.Need-loop-again Inv-loop μ-loop
 loop-again c =
-    let l = c .before .before .loop in
-    (search needs, l .inv .1, scan-on _ (each (c .before .before .before .args .counts)) 10 0 (l .inv .1) (l .i) (c .before .loop-test .taken) (l .inv .2) _ refl (at-most (c .if1 .left)))
+    let l = c .before .before .loop in (
+      search needs,
+      l .inv .1,
+      scan-on _ (each (c .before .before .before .args .counts)) 10 0 (l .inv .1) (l .i) (c .before .loop-test .taken) (l .inv .2) _ refl
+          (at-most (c .if1 .left)),
+    )
 
 returns-2 : tie.Need-returns-2 Inv-loop μ-loop
 returns-2 c =

@@ -144,8 +144,11 @@ loop-again c =
     let e = at-e v in
     let p = at-put e in
     let m = at-effect p in
-    let i = at-head (at-step (at-about (at-line m))) .loop .inv in
-    (v .before .before .before .private .given ∙ i .0, v .before .shared .given ∙ i .1, step-made (made m) _ _ _ _ _ _ (p .put-answer .ensures) (e .e .given .1) (v .before .before .before .before .move-bytes .ensures) (c .met .ensures))
+    let i = at-head (at-step (at-about (at-line m))) .loop .inv in (
+      v .before .before .before .private .given ∙ i .0,
+      v .before .shared .given ∙ i .1,
+      step-made (made m) _ _ _ _ _ _ (p .put-answer .ensures) (e .e .given .1) (v .before .before .before .before .move-bytes .ensures) (c .met .ensures),
+    )
 
 pub play-spec : {M : Type 1} → statement M
 play-spec =

@@ -42,8 +42,12 @@ loop-again c =
     let g = c .before in
     let o = at-out (at-kept g) in
     let p = at-play o in
-    let i = at-head p .loop .inv in
-    (o .before .before .before .before .private .given ∙ i .0, o .before .before .shared .given ∙ i .1, o .out .given ∙ i .2, call-more (i .3) (p .play .ensures) (was-true (g .more-to-play .ensures) (c .if2 .left)))
+    let i = at-head p .loop .inv in (
+      o .before .before .before .before .private .given ∙ i .0,
+      o .before .before .shared .given ∙ i .1,
+      o .out .given ∙ i .2,
+      call-more (i .3) (p .play .ensures) (was-true (g .more-to-play .ensures) (c .if2 .left)),
+    )
 
 returns-2 : tie.Need-returns-2 Inv-loop μ-loop
 returns-2 c =

@@ -44,7 +44,8 @@ returns-3 c =
     let y = c .before .before .before in
     let p = at-opening y in
     let a = sizes p in
-    whole-played (at-out (at-test p) .before .start .ensures) (resumes p .0) (part-zeros _ 65536 (private-most a)) (part-zeros _ 9216 (shared-most a)) (y .play-on .ensures)
+    whole-played (at-out (at-test p) .before .start .ensures) (resumes p .0) (part-zeros _ 65536 (private-most a)) (part-zeros _ 9216 (shared-most a))
+    (y .play-on .ensures)
 
 pub play-whole-spec : {M : Type 1} → statement M
 play-whole-spec =
