@@ -1,11 +1,12 @@
--- No request is lost: along every list of calls the requests asked are those granted and those that still wait.
+-- Each count is a number of records, and no request is lost: along every list of calls the requests asked are those granted and those that still
+-- wait.
 use Prim.Native.Nat.{ℕ, _+_}
 use mathlib.Core.{Path.{_≡_, refl, sym, _∙_}, Bool.{Bool, true, false}, List.{List, [], _∷_}}
 use native.Mathlib.Omega.{arith}
 use Rattle.protocol.specs.{Pick.{pick, howMany}, Fresh.freshCore, Buffers.{Bytes, copyBytes}}
 use Rattle.protocol.specs.Machine.{Machine, Pieces, coreOf, lineOf, freshMachine, applied}
 use Rattle.protocol.specs.{Refusals.{isEmpty, isAsked}, Step.{Reply, Outcome, meaning, commitBytes, accepted, step}, Run.{Entry, Record, run}}
-use Rattle.protocol.specs.{Counts.{classOf, sameClass, isOf, number}, Tally.{askedCores, TallyTheorem}}
+use Rattle.protocol.specs.{Counts.{classOf, sameClass, isOf, number}, Tally.{NumberedTheorem, askedCores, TallyTheorem}}
 use Rattle.protocol.specs.declared.{Slot.{Slot, the-variants.{Empty, Asked, Answered}}, Core.Core, Opening.Opening, Call.Call, Effect.Effect}
 use Rattle.protocol.specs.declared.Class.{Class, the-variants.{Ask as AnAsk, Share as AShare, Renew as ARenew, Own as AnOwn}}
 use Rattle.protocol.specs.Tables.{loadOwned, storeTable, fenceTable, advanceTable, evictTable, serveAsked, serveLoad, receiveGrant, receiveRenew}
@@ -15,6 +16,9 @@ use Rattle.protocol.proofs.Reached.{recorded, onto, reached}
 use Rattle.protocol.proofs.Cases.{Row, asks-load, reads-shared, reads-dirty, reads-clean, asks-store, writes, fences, advances, evicts-shared}
 use Rattle.protocol.proofs.Cases.{evicts-owned, recalls, renews, shares, grants, gets-share, gets-own, gets-renewal, drops-none, drops-owned, yields}
 use Rattle.protocol.proofs.Cases.{takes, evict, Case, refuses, makes, case-of}
+
+pub numbered-theorem : NumberedTheorem
+numbered-theorem rs = record { loads = refl; stores = refl; fences = refl; asks = refl; shares = refl; renews = refl; owns = refl }
 
 -- ---- one row
 

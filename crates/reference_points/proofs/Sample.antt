@@ -4,13 +4,13 @@ use mathlib.Core.{Path.{_≡_, refl}, Bool.true, List.{List, [], _∷_}}
 use native.Mathlib.Omega.{arith}
 use lib.{Dec.{ltb, lit≤}, ListN.{length, take, drop}}
 use borrow.Author.Tests.{ltb-true}
-use Rattle.protocol.specs.{Pick.howMany, Buffers.Bytes, Machine.freshMachine, Run.{Entry, run}, Counts.tally}
+use Rattle.protocol.specs.{Pick.howMany, Buffers.Bytes, Machine.freshMachine, Run.{Entry, run}, Counts.{nothingMet, tally}}
 use Rattle.protocol.specs.declared.Call.{Call, the-variants.{Load, Store, Serve, Receive, Take}}
 use Rattle.spelling.specs.{Bytes.upTo, Decimal.{decimal, decimalUpTo}, Hex.hex}
-use Rattle.journal.{specs.{Journal.{inJournal, NextOf, ended as atLast}, declared.Next.the-variants.Opening}, proofs.Lines.line-answer}
+use Rattle.journal.{specs.{Journal.{inJournal, NextOf, empty, ended as atLast}, declared.Next.the-variants.Opening}, proofs.Lines.line-answer}
 use Rattle.listing.specs.Record.{recordText, endText, tallyText}
-use Rattle.driver.specs.Listing.{ended, Data, noData, someData, noLine, aLine, atEnd, lines}
-use Rattle.playing.specs.Listing.{ReadAs, Opens, opens, counted}
+use Rattle.driver.specs.Listing.{ended, Data, noData, someData, noLine, aLine, atEnd, lines, refusedFirst}
+use Rattle.playing.specs.Listing.{ReadAs, Opens, opens, counted, nothing}
 use Rattle.reference_points.specs.{Numbers.opening, Sample.{sampleJournal, SampleTheorem}}
 use Rattle.reference_points.proofs.{Rows.calling, Lines.{answer, says}}
 
@@ -70,4 +70,7 @@ sample-theorem =
       counts = tally (run calls 1 (freshMachine (opening 1 1 1 10)) .records);
       tally = counted opened;
       line = refl;
+      none = nothingMet;
+      empty = nothing (refusedFirst (empty (lit≤ tt) (lit≤ tt) refl));
+      zeros = refl;
     }

@@ -1,5 +1,5 @@
 -- The journal that 01 prints, the listing that the program prints for it, and its tally.
-use mathlib.Core.{Path._≡_, List._++_}
+use mathlib.Core.{Path._≡_, List.{[], _++_}}
 use Rattle.protocol.specs.{Buffers.Bytes, declared.Counts.Counts}
 use Rattle.spelling.specs.Text.{text}
 use Rattle.listing.specs.Record.{tallyText}
@@ -37,3 +37,7 @@ pub record SampleTheorem : Type 0 where
   pub counts : Counts
   pub tally : Tally sampleJournal counts
   pub line : tallyText counts ≡ sampleTally
+  -- an empty input opens no engine, and counts nothing
+  pub none : Counts
+  pub empty : Tally [] none
+  pub zeros : tallyText none ≡ text "loads=0 stores=0 fences=0 asks=0 shares=0 renews=0 owns=0\n"

@@ -1,14 +1,15 @@
 -- What each call counts as by its answer, and the line that `tally` prints (02, One).
 use Prim.Native.Nat.{ℕ}
-use mathlib.Core.{Path._≡_, List.{List, [], _∷_}}
-use Rattle.protocol.specs.{Stamps.stamp, Step.{load, store, fence, Reply, refused, done, commit}, Counts.classOf}
+use mathlib.Core.{Path._≡_, List.{List, [], _∷_, _++_}}
+use lib.ListN.{replicate}
+use Rattle.protocol.specs.{Stamps.stamp, Run.{Record, place}, Step.{load, store, fence, Reply, refused, done, commit}, Counts.{classOf, tally}}
 use Rattle.protocol.specs.declared.Call.{Call, the-variants.{Load, Store, Fence, Evict, Advance, Serve, Receive, Yield, Take}}
 use Rattle.protocol.specs.declared.Name.the-variants.{Ask, Recall, Share, Renew, Own, Drop, Evict as Evicted, Advance as Advanced}
 use Rattle.protocol.specs.declared.Name.the-variants.{Yield as Yielded, Take as Taken}
 use Rattle.protocol.specs.declared.Class.{Class, the-variants.{Load as ALoad, Store as AStore, Fence as AFence, Ask as AnAsk, Share as AShare, Renew as ARenew}}
-use Rattle.protocol.specs.declared.{Class.the-variants.{Own as AnOwn, Refused as ARefusal, Other}, Counts.Counts}
+use Rattle.protocol.specs.declared.Class.the-variants.{Own as AnOwn, Refused as ARefusal, Other}
 use Rattle.spelling.specs.Text.{text}
-use Rattle.listing.specs.Record.{tallyText}
+use Rattle.listing.specs.Record.{endText, tallyText}
 use Rattle.reference_points.specs.Rows.{Agree}
 
 -- a call, its answer, and what it counts as
@@ -47,12 +48,26 @@ classes =
     ∷ counts (Serve 0) (refused 21) ARefusal
     ∷ []
 
--- 70 step lines: 36 commits, 9 refusals, 10 requests, of which 7 were granted, and 8 others
-abbrev pub traffic : Counts
+-- a call with its answer, n times
+abbrev pub times : ℕ → Call → Reply → List Record
+times n call r = replicate n (record { place = place 1; entry = record { call = call; bytes = [] }; reply = r })
+
+-- records of which no two of the counts are the same
+abbrev pub traffic : List Record
 traffic =
-    record { steps = 70; commits = 36; refusals = 9; loads = 20; stores = 13; fences = 3; asks = 10; shares = 4; renews = 2; owns = 1 }
+    times 8 (Load 0 0) (commit 0 (stamp 3) (load 0 (7 ∷ [])))
+    ++ times 7 (Store 0 0) (commit 0 (stamp 3) (store 0 (7 ∷ [])))
+    ++ times 6 (Fence 0) (commit 0 (stamp 3) fence)
+    ++ times 10 (Load 0 0) (done Ask)
+    ++ times 4 (Serve 0) (done Share)
+    ++ times 3 (Serve 0) (done Renew)
+    ++ times 2 (Serve 0) (done Own)
+    ++ times 5 (Take 0) (refused 25)
+    ++ times 1 (Receive 0) (done Share)
 
 pub record CountsTheorem : Type 0 where
   pub classes : Agree classed expected classes
-  -- "one line `loads= stores= fences= asks= shares= renews= owns=`"
-  pub line : tallyText traffic ≡ text "loads=20 stores=13 fences=3 asks=10 shares=4 renews=2 owns=1\n"
+  -- "one line `loads= stores= fences= asks= shares= renews= owns=`": each of its counts is that of its own records
+  pub line : tallyText (tally traffic) ≡ text "loads=8 stores=7 fences=6 asks=10 shares=4 renews=3 owns=2\n"
+  -- and so is each of the end line's
+  pub end : endText (tally traffic) ≡ text "end=46 commits=21 refused=5\n"

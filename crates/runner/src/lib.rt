@@ -36,7 +36,7 @@ pub enum Ran {
 
 // Reads standard input into buf, until it ends or buf is full. Where a read fails, errno says why. Each pass of the
 // loop reads a byte or more, or is one of the retries.
-pub fn read_input(buf: &mut [u8]) -> Input
+fn read_all(buf: &mut [u8]) -> Input
     ensures { λ r. ⌜ ReadInto r (now (buf .exit)) ⌝ }
 {
     let mut done = 0;
@@ -60,6 +60,14 @@ pub fn read_input(buf: &mut [u8]) -> Input
         retries -= 1;
     }
     Input::Read(done)
+}
+
+// Reads a journal from standard input, to its end. One byte more than the longest that is taken suffices to tell one
+// that is too long.
+pub fn read_input(buf: &mut [u8; 65537]) -> Input
+    ensures { λ r. ⌜ ReadInto r (now (buf .exit)) ⌝ }
+{
+    read_all(buf)
 }
 
 // Whether there is more to play after a call. Neither `start` with room for its text nor `play` from a checkpoint that it

@@ -1,8 +1,5 @@
 // Plays the journal of standard input and writes its listing to standard output.
 //
-// The journal is read to its end; one byte more than the longest that is taken suffices to tell one
-// that is too long.
-//
 // A read that fails is no end: nothing is listed then. That a read or a write failed, and why, is one
 // line on standard error.
 use runner::Input;

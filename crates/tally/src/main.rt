@@ -1,7 +1,5 @@
 // Plays the journal of standard input as `steps` does, and writes the tally of its traffic to standard output: one line.
 //
-// The journal is read to its end; one byte more than the longest that is taken suffices to tell one that is too long.
-//
 // A read that fails is no end: nothing is written then. That a read or a write failed, and why, is one line on standard
 // error.
 ghost use Rattle.playing.specs.Listing.{Tally};

@@ -6,8 +6,8 @@ use lib.ListN.{length}
 use borrow.{Author.Needs.needs, Rule.Slice.PartMut.{putMid, mid-len}}
 use Rattle.protocol.specs.Buffers.{Bytes}
 use Rattle.io.proofs.Counting.{counts}
-use Rattle.runner.proofs.read_input.Statement.{statement}
-use Rattle.runner.proofs.read_input.Tie as tie
+use Rattle.runner.proofs.read_all.Statement.{statement}
+use Rattle.runner.proofs.read_all.Tie as tie
 
 abbrev Inv-loop : tie.InvT-loop
 Inv-loop buf₀ done₀ retries₀ buf done retries = (length buf ≡ length buf₀) × (done ≤ length buf)
@@ -45,8 +45,8 @@ within c =
     omega (arith, before c, c .count .ensures .0 .0, m)
 
 -- where a count is returned, that it lies in the buffer is asked of the arithmetic
-pub read-input-spec : {M : Type 1} → statement M
-read-input-spec =
+pub read-all-spec : {M : Type 1} → statement M
+read-all-spec =
     tie.close
     (tie.spec
     Inv-loop μ-loop (λ c. (refl, omega arith)) (λ c. search needs) (λ c. search needs) (λ c. search needs) (λ c κs. search needs) (λ c. search needs)
