@@ -8,7 +8,7 @@ use lib.{Dec.{leb, eqb}, ListN.length}
 use borrow.Author.Tests.{leb-true, leb-false, lt-ltb, eqb-true}
 use Rattle.protocol.specs.{Pick.{pick, both, fails}, Stamps.canAdd, Buffers.{Bytes, There}}
 use Rattle.protocol.specs.Machine.{Machine, Pieces, piecesAt, coreAt, copyAt, lineAt, slotLine, ownerOf, coreOf, lineOf, applied}
-use Rattle.protocol.specs.Refusals.{isEmpty, isAsked, isAnswered, isHeld, isOwned, hasOwner, stands, inFlight, loadAsks, storePasses, servePasses}
+use Rattle.protocol.specs.Refusals.{isEmpty, isAsked, isAnswered, isHeld, isShared, isOwned, hasOwner, stands, inFlight, loadAsks, storePasses, servePasses}
 use Rattle.protocol.specs.Refusals.{stateRules, stateRefusal, refusal}
 use Rattle.protocol.specs.Tables.{refusedRow, asking, loadOwned, loadShared, loadTable, storeTable, fenceTable, advanceTable, evictTable, sameVersion}
 use Rattle.protocol.specs.Tables.{leasedTo, serveLoad, serveAsked, serveTable, receiveRenew, receiveGrant, receiveTable, yieldTable, takeTable, tableOf}
@@ -17,17 +17,19 @@ use Rattle.protocol.specs.declared.{Stamp.Stamp, Copy.{Copy, the-variant
 use Rattle.protocol.specs.declared.{Want.{Want, the-variants.{Load as WantLoad, Store as WantStore}}, Held.Held}
 use Rattle.protocol.specs.declared.{Slot.{Slot, the-variants.{Empty, Asked, Answered}}, Manager.{Manager, the-variants.{Shared, Owned}}}
 use Rattle.protocol.specs.declared.{Writeback.{Writeback, the-variants.{None as NoWriteback, Flight}}, Opening.Opening, State.State}
-use Rattle.protocol.specs.declared.{Call.{Call, the-variants.{Load, Store, Fence, Evict, Advance, Serve, Receive, Yield, Take}}, Effect.Effect}
-use Rattle.protocol.specs.declared.Name.{Name, the-variants.Evict as Evicted}
+use Rattle.protocol.specs.declared.{Call.{Call, the-variants.{Load, Store, Fence, Evict, Drop, Writeback as WriteBack, Advance, Serve, Receive, Yield, Take}}, Effect.Effect}
+use Rattle.protocol.specs.declared.Name.{Name, the-variants.{Drop as Dropped, Evict as Evicted, Writeback as WrittenBack}}
 use Rattle.protocol.specs.declared.Grant.the-variants.{Share as GrantShare, Renew as GrantRenew, Own as GrantOwn}
 use Rattle.protocol.proofs.{Tests.{never, both-true, both-false}, Refusals.{not-true, passed, machine-fit, call-there, NotRefused, not-refused}}
 
 -- the calls that give up a shared copy, and an owned one, each with the name that it answers
 pub data Drops (c l : ℕ) : Call → Name → Type 0 where
   evict : Drops c l (Evict c l) Evicted
+  drop : Drops c l (Drop c l) Dropped
 
 pub data WritesBack (c l : ℕ) : Call → Name → Type 0 where
   evict : WritesBack c l (Evict c l) Evicted
+  writeback : WritesBack c l (WriteBack c l) WrittenBack
 
 -- a row of the table of a call about core c and line l, on the pieces p of these two
 pub data Row (c l : ℕ) (p : Pieces) (o : Opening) : Call → Effect → Type 0 where
@@ -93,6 +95,16 @@ module _ {p : Pieces} {o : Opening} where
   evict-row c l (CopyShared w r) e h = evicts-shared evict e
   evict-row c l (CopyOwned d w r) e h = evicts-owned evict e
 
+  drop-row : (c l : ℕ) (v : Copy) → p .copy ≡ v → isShared v ≡ true → Row c l p o (Drop c l) (evictTable Dropped v p)
+  drop-row c l NoCopy e h = never (sym h)
+  drop-row c l (CopyShared w r) e h = evicts-shared drop e
+  drop-row c l (CopyOwned d w r) e h = never (sym h)
+
+  writeback-row : (c l : ℕ) (v : Copy) → p .copy ≡ v → isOwned v ≡ true → Row c l p o (WriteBack c l) (evictTable WrittenBack v p)
+  writeback-row c l NoCopy e h = never (sym h)
+  writeback-row c l (CopyShared w r) e h = never (sym h)
+  writeback-row c l (CopyOwned d w r) e h = evicts-owned writeback e
+
   asked-row : (c l n : ℕ) (a : Want) (t : Stamp) (h : Held) (v : Manager) → p .core .slot ≡ Asked a l t h → p .line .manager ≡ v
       → servePasses (Asked a n t h) v o ≡ false → Row c l p o (Serve c) (serveAsked v a c l t h p o)
   unfolding serveAsked
@@ -143,7 +155,7 @@ piecesOf call s = piecesAt s (coreOf call s) (lineOf call s)
 abbrev pub RowOn : State → Call → Effect → Type 0
 RowOn s call d = Row (coreOf call s) (lineOf call s) (piecesOf call s) (s .opening) call d
 
--- a call that none of 20 to 27 refuses
+-- a call that none of 20 and up refuses
 pub row-of : (s : State) (call : Call) → stateRefusal call (piecesOf call s) (s .opening) ≡ 0
     → RowOn s call (tableOf call (piecesOf call s) (s .opening))
 unfolding tableOf stateRefusal stateRules
@@ -153,6 +165,12 @@ row-of s (Store c l) h =
     store-row c l (copyAt s c l) refl (a .0) (passed _ 27 [] (omega arith) (a .1) .0)
 row-of s (Fence c) h = fences
 row-of s (Evict c l) h = evict-row c l (copyAt s c l) refl (not-true _ (passed _ 26 [] (omega arith) h .0))
+row-of s (Drop c l) h =
+    let a = passed _ 26 _ (omega arith) h in
+    drop-row c l (copyAt s c l) refl (not-true _ (passed _ 30 [] (omega arith) (a .1) .0))
+row-of s (WriteBack c l) h =
+    let a = passed _ 26 _ (omega arith) h in
+    writeback-row c l (copyAt s c l) refl (not-true _ (passed _ 30 [] (omega arith) (a .1) .0))
 row-of s (Advance c by) h = advances (not-true _ (passed _ 27 [] (omega arith) h .0))
 row-of s (Serve c) h =
     let a = passed _ 21 _ (omega arith) h in
@@ -164,7 +182,7 @@ row-of s (Yield l) h =
     yield-row _ l (copyAt s (coreOf (Yield l) s) l) refl (not-true _ (passed _ 24 [] (omega arith) (a .1) .0)) (owner-is (lineAt s l .manager) (b .0)) (b .1)
 row-of s (Take l) h = take-row _ l (lineAt s l .writeback) refl (not-true _ (passed _ 25 [] (omega arith) h .0))
 
--- what a call makes of the pieces that it is about: a refusal of 20 to 27, or a row
+-- what a call makes of the pieces that it is about: a refusal of 20 and up, or a row
 pub effect-case : (P : Effect → Type 0) (s : State) (call : Call) → ((n : ℕ) → P (refusedRow n (piecesOf call s))) → ((d : Effect) → RowOn s call d → P d)
     → P (effectOf call (piecesOf call s) (s .opening))
 unfolding effectOf

@@ -7,6 +7,7 @@ pub mod Extents
 pub mod Moves
 pub mod Refusals
 pub mod Cases
+pub mod Evict
 pub mod Written
 pub mod Reached
 pub mod Order

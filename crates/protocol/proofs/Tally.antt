@@ -15,7 +15,7 @@ use Rattle.protocol.proofs.{Tests.never, Scan.{how-many-set, how-many-n
 use Rattle.protocol.proofs.Reached.{recorded, onto, reached}
 use Rattle.protocol.proofs.Cases.{Row, asks-load, reads-shared, reads-dirty, reads-clean, asks-store, writes, fences, advances, evicts-shared}
 use Rattle.protocol.proofs.Cases.{evicts-owned, recalls, renews, shares, grants, gets-share, gets-own, gets-renewal, drops-none, drops-owned, yields}
-use Rattle.protocol.proofs.Cases.{takes, evict, Case, refuses, makes, case-of}
+use Rattle.protocol.proofs.Cases.{takes, evict, drop, writeback, Case, refuses, makes, case-of}
 
 pub numbered-theorem : NumberedTheorem
 numbered-theorem rs = record { loads = refl; stores = refl; fences = refl; asks = refl; shares = refl; renews = refl; owns = refl }
@@ -52,7 +52,9 @@ flow b (writes e h) = refl
 flow b fences = refl
 flow b (advances h) = refl
 flow b (evicts-shared evict e) = refl
+flow b (evicts-shared drop e) = refl
 flow b (evicts-owned evict e) = refl
+flow b (evicts-owned writeback e) = refl
 flow b (recalls e i) = refl
 flow b (renews e i v h) = rw e refl
 flow b (shares e i v h) = rw e refl

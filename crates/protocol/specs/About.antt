@@ -1,7 +1,7 @@
 -- What a call is about: the core, the line, and what it does to the core's clocks, read off the headings of 01's "Steps". Everything that asks
 -- which core or line a call looks at, what 3 to 6 refuse of it, or what it commits goes by this one definition.
 use Prim.Native.Nat.{ℕ}
-use Rattle.protocol.specs.declared.Call.{Call, the-variants.{Load, Store, Fence, Evict, Advance, Serve, Receive, Yield, Take}}
+use Rattle.protocol.specs.declared.Call.{Call, the-variants.{Load, Store, Fence, Evict, Drop, Writeback as WriteBack, Advance, Serve, Receive, Yield, Take}}
 use Rattle.protocol.specs.declared.Who.{Who, the-variants.{Named as NamedCore, Owner, Nobody}}
 use Rattle.protocol.specs.declared.Which.{Which, the-variants.{Named as NamedLine, InSlot, Nothing}}
 use Rattle.protocol.specs.declared.Act.{Act, the-variants.{Load as Loads, Store as Stores, Fence as Fences, Advance as Advances, Transfer}}
@@ -11,12 +11,15 @@ abbrev pub concerns : Who → Which → Act → About
 concerns c l a = record { core = c; line = l; act = a }
 
 -- "load (core, line)", "store (core, line, bytes)", "fence (core)", "evict (core, line)", "advance (core, by)", "serve (core with an asked
--- slot)", "receive (core)", "yield (line): the owner's ..", "take (line)"
+-- slot)", "receive (core)", "yield (line): the owner's ..", "take (line)". 02, Two: "Split evict into drop (shared copies) and writeback (owned
+-- copies)"
 abbrev pub about : Call → About
 about (Load c l) = concerns (NamedCore c) (NamedLine l) Loads
 about (Store c l) = concerns (NamedCore c) (NamedLine l) Stores
 about (Fence c) = concerns (NamedCore c) Nothing Fences
 about (Evict c l) = concerns (NamedCore c) (NamedLine l) Transfer
+about (Drop c l) = concerns (NamedCore c) (NamedLine l) Transfer
+about (WriteBack c l) = concerns (NamedCore c) (NamedLine l) Transfer
 about (Advance c by) = concerns (NamedCore c) Nothing (Advances by)
 about (Serve c) = concerns (NamedCore c) InSlot Transfer
 about (Receive c) = concerns (NamedCore c) InSlot Transfer

@@ -4,9 +4,9 @@ use Prim.Native.Nat.{ℕ, _+_}
 use mathlib.Core.{Bool.{Bool, true, false}, List.List}
 use lib.{Dec.eqb, ListN.length}
 use Rattle.protocol.specs.{Pick.{pick, howMany}, Step.{Op, load, store, fence, Reply, refused, done, commit}, Run.Record, declared.Counts.Counts}
-use Rattle.protocol.specs.declared.Call.{Call, the-variants.{Load, Store, Fence, Evict, Advance, Serve, Receive, Yield, Take}}
-use Rattle.protocol.specs.declared.Name.{Name, the-variants.{Open, Ask, Recall, Share, Renew, Own, Drop, Evict as Evicted}}
-use Rattle.protocol.specs.declared.Name.the-variants.{Advance as Advanced, Yield as Yielded, Take as Taken}
+use Rattle.protocol.specs.declared.Call.{Call, the-variants.{Load, Store, Fence, Evict, Drop, Writeback as WriteBack, Advance, Serve, Receive, Yield, Take}}
+use Rattle.protocol.specs.declared.Name.{Name, the-variants.{Open, Ask, Recall, Share, Renew, Own, Drop as Dropped, Evict as Evicted}}
+use Rattle.protocol.specs.declared.Name.the-variants.{Writeback as WrittenBack, Advance as Advanced, Yield as Yielded, Take as Taken}
 use Rattle.protocol.specs.declared.Class.{Class, the-variants.{Load as ALoad, Store as AStore, Fence as AFence, Ask as AnAsk, Share as AShare}}
 use Rattle.protocol.specs.declared.Class.the-variants.{Renew as ARenew, Own as AnOwn, Refused as ARefusal, Other}
 
@@ -18,6 +18,8 @@ isServe (Load c l) = false
 isServe (Store c l) = false
 isServe (Fence c) = false
 isServe (Evict c l) = false
+isServe (Drop c l) = false
+isServe (WriteBack c l) = false
 isServe (Advance c by) = false
 isServe (Serve c) = true
 isServe (Receive c) = false
@@ -39,8 +41,9 @@ nameClass serves Recall = Other
 nameClass serves Share = pick serves AShare Other
 nameClass serves Renew = pick serves ARenew Other
 nameClass serves Own = pick serves AnOwn Other
-nameClass serves Drop = Other
+nameClass serves Dropped = Other
 nameClass serves Evicted = Other
+nameClass serves WrittenBack = Other
 nameClass serves Advanced = Other
 nameClass serves Yielded = Other
 nameClass serves Taken = Other

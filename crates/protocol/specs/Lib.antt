@@ -9,6 +9,7 @@ pub mod Machine
 pub mod Refusals
 pub mod Tables
 pub mod Step
+pub mod Evict
 pub mod Run
 pub mod Counts
 pub mod Tally

@@ -1,4 +1,4 @@
--- The refusals of the calls, in the scope document's order: "Checked in this order; first that applies."
+-- The refusals of the calls, in the scope document's order: "Checked in this order; first that applies." 30 is of 02, Two.
 use Prim.Native.Nat.{ℕ}
 use mathlib.Core.{Bool.{Bool, true, false}, List.{List, [], _∷_}}
 use lib.{Dec.{ltb, leb, eqb}, ListN.{length, take}}
@@ -11,7 +11,7 @@ use Rattle.protocol.specs.declared.Manager.{Manager, the-variants.{Share
 use Rattle.protocol.specs.declared.Recall.{Recall, the-variants.{None as NoRecall, Downgrade, Flush}}
 use Rattle.protocol.specs.declared.{Writeback.{Writeback, the-variants.{None as NoWriteback, Flight}}, ManagerLine.ManagerLine}
 use Rattle.protocol.specs.declared.{Opening.Opening, State.State}
-use Rattle.protocol.specs.declared.Call.{Call, the-variants.{Load, Store, Fence, Evict, Advance, Serve, Receive, Yield, Take}}
+use Rattle.protocol.specs.declared.Call.{Call, the-variants.{Load, Store, Fence, Evict, Drop, Writeback as WriteBack, Advance, Serve, Receive, Yield, Take}}
 use Rattle.protocol.specs.declared.Who.{Who, the-variants.{Named as NamedCore, Owner, Nobody}}
 use Rattle.protocol.specs.declared.Which.{Which, the-variants.{Named as NamedLine, InSlot, Nothing}}
 use Rattle.protocol.specs.declared.Act.{Act, the-variants.{Load as Loads, Store as Stores, Fence as Fences, Advance as Advances, Transfer}}
@@ -120,6 +120,11 @@ isHeld NoCopy = false
 isHeld (CopyShared w r) = true
 isHeld (CopyOwned d w r) = true
 
+abbrev pub isShared : Copy → Bool
+isShared NoCopy = false
+isShared (CopyShared w r) = true
+isShared (CopyOwned d w r) = false
+
 abbrev pub isOwned : Copy → Bool
 isOwned NoCopy = false
 isOwned (CopyShared w r) = false
@@ -161,16 +166,19 @@ servePasses (Asked WantLoad l t h) (Owned c) o = false
 servePasses (Asked WantStore l t h) m o = false
 servePasses (Answered g l w r) m o = false
 
--- 20 to 27, for each call those that speak of it.
+-- 20 to 27 and 30, for each call those that speak of it.
 -- 20: load or store must ask, slot not empty. 21: serve, slot not asked. 22: receive, slot not answered. 23: yield, line not owned or no
 -- recall. 24: yield, owner's copy not owned. 25: take, no writeback. 26: evict, no copy. 27: rts + 1 (store to an owned line), lts + by
--- (advance) or asked lts + lease (serve of a load on a shared line) passes the greatest timestamp
+-- (advance) or asked lts + lease (serve of a load on a shared line) passes the greatest timestamp. "30, the copy isn't of the state that the step
+-- names, straight after 26": drop names a shared copy, writeback an owned one, and evict, drop and writeback alike are 26 without a copy
 unfoldable pub stateRules : Call → Pieces → Opening → List Rule
 stateRules (Load c l) p o = (both (loadAsks (p .copy) (p .core .clocks .lts)) (fails (isEmpty (p .core .slot))) gives 20) ∷ []
 stateRules (Store c l) p o =
     (both (fails (isOwned (p .copy))) (fails (isEmpty (p .core .slot))) gives 20) ∷ (storePasses (p .copy) gives 27) ∷ []
 stateRules (Fence c) p o = []
 stateRules (Evict c l) p o = (fails (isHeld (p .copy)) gives 26) ∷ []
+stateRules (Drop c l) p o = (fails (isHeld (p .copy)) gives 26) ∷ (fails (isShared (p .copy)) gives 30) ∷ []
+stateRules (WriteBack c l) p o = (fails (isHeld (p .copy)) gives 26) ∷ (fails (isOwned (p .copy)) gives 30) ∷ []
 stateRules (Advance c by) p o = (fails (canAdd (p .core .clocks .lts) by) gives 27) ∷ []
 stateRules (Serve c) p o =
     (fails (isAsked (p .core .slot)) gives 21) ∷ (servePasses (p .core .slot) (p .line .manager) o gives 27) ∷ []
@@ -188,7 +196,7 @@ stateRefusal call p o = first (stateRules call p o)
 abbrev pub orElse : ℕ → ℕ → ℕ
 orElse a b = pick (eqb a 0) b a
 
--- the number that a call is refused with, or 0 where it is accepted: 1 and 2, then 3 to 6, then 20 to 27; n is the count of the store bytes
+-- the number that a call is refused with, or 0 where it is accepted: 1 and 2, then 3 to 6, then 20 and up; n is the count of the store bytes
 unfoldable pub refusal : Machine → Call → ℕ → ℕ
 refusal m call n =
     orElse (machineRefusal m)

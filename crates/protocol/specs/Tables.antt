@@ -1,4 +1,4 @@
--- The step tables, one for each of the nine steps, on the pieces that a step looks at: core c, its copy of line l, the manager's line l.
+-- The step tables, on the pieces that a step looks at: core c, its copy of line l, the manager's line l.
 -- A row gives the answer, the new pieces, and which line of bytes moves. They are read only where no refusal applies.
 use Prim.Native.Nat.{ℕ, _+_}
 use mathlib.Core.Bool.{Bool, true, false}
@@ -14,10 +14,10 @@ use Rattle.protocol.specs.declared.Manager.{Manager, the-variants.{Share
 use Rattle.protocol.specs.declared.Recall.{Recall, the-variants.{None as NoRecall, Downgrade, Flush}}
 use Rattle.protocol.specs.declared.{Writeback.{Writeback, the-variants.{None as NoWriteback, Flight}}, ManagerLine.ManagerLine}
 use Rattle.protocol.specs.declared.Opening.{Opening}
-use Rattle.protocol.specs.declared.Call.{Call, the-variants.{Load, Store, Fence, Evict, Advance, Serve, Receive, Yield, Take}}
+use Rattle.protocol.specs.declared.Call.{Call, the-variants.{Load, Store, Fence, Evict, Drop, Writeback as WriteBack, Advance, Serve, Receive, Yield, Take}}
 use Rattle.protocol.specs.declared.Answer.{Answer, the-variants.{Refused, Done, Commit}}
-use Rattle.protocol.specs.declared.Name.{Name, the-variants.{Ask, Recall as RecallSent, Share, Renew, Own, Drop, Evict as Evicted}}
-use Rattle.protocol.specs.declared.Name.the-variants.{Advance as Advanced, Yield as Yielded, Take as Taken}
+use Rattle.protocol.specs.declared.Name.{Name, the-variants.{Ask, Recall as RecallSent, Share, Renew, Own, Drop as Dropped, Evict as Evicted}}
+use Rattle.protocol.specs.declared.Name.the-variants.{Writeback as WrittenBack, Advance as Advanced, Yield as Yielded, Take as Taken}
 use Rattle.protocol.specs.declared.Kind.the-variants.{Load as OfLoad, Store as OfStore, Fence as OfFence}
 use Rattle.protocol.specs.declared.Move.{Move, the-variants.{Still, Store as MoveStore, Answer as MoveAnswer, Receive as MoveReceive}}
 use Rattle.protocol.specs.declared.{Move.the-variants.{Writeback as MoveWriteback, Take as MoveTake}, Effect.Effect}
@@ -98,13 +98,14 @@ fenceTable c p = row (Commit c (fenced (p .core .clocks) .lts) OfFence) Still (c
 unfoldable pub advanceTable : ℕ → Pieces → Effect
 advanceTable by p = row (Done Advanced) Still (clocked (p .core) (advanced (p .core .clocks) (plus (p .core .clocks .lts) by))) (p .copy) (p .line)
 
--- ---- evict
+-- ---- evict, drop and writeback
 
 -- the line with a writeback in flight
 abbrev pub writtenBack : ManagerLine → Stamp → Stamp → ManagerLine
 writtenBack m w r = record { manager = m .manager; recall = m .recall; writeback = Flight w r }
 
--- "shared: copy becomes none. Owned: its wts, rts and bytes become the writeback, copy none." The name is the answer's
+-- "shared: copy becomes none. Owned: its wts, rts and bytes become the writeback, copy none." 02, Two: drop is the first of these, writeback the
+-- second, and "evict does whichever fits the copy". The name is the answer's
 unfoldable pub evictTable : Name → Copy → Pieces → Effect
 evictTable n (CopyShared w r) p = row (Done n) Still (p .core) NoCopy (p .line)
 evictTable n (CopyOwned d w r) p = row (Done n) MoveWriteback (p .core) NoCopy (writtenBack (p .line) w r)
@@ -159,8 +160,8 @@ serveTable Empty c p o = refusedRow 21 p
 -- "Renew: a shared copy takes the slot's rts, answer renew; no copy, or an owned one: no copy changes, answer drop."
 unfoldable pub receiveRenew : Copy → Stamp → Pieces → Effect
 receiveRenew (CopyShared w r) rts p = row (Done Renew) Still (slotted (p .core) Empty) (CopyShared w rts) (p .line)
-receiveRenew (CopyOwned d w r) rts p = row (Done Drop) Still (slotted (p .core) Empty) (p .copy) (p .line)
-receiveRenew NoCopy rts p = row (Done Drop) Still (slotted (p .core) Empty) (p .copy) (p .line)
+receiveRenew (CopyOwned d w r) rts p = row (Done Dropped) Still (slotted (p .core) Empty) (p .copy) (p .line)
+receiveRenew NoCopy rts p = row (Done Dropped) Still (slotted (p .core) Empty) (p .copy) (p .line)
 
 -- "share or own: copy becomes shared or owned with the slot's wts, rts and bytes, not dirty; answer share or own. .. Slot becomes empty."
 unfoldable pub receiveGrant : Grant → Stamp → Stamp → Pieces → Effect
@@ -196,7 +197,7 @@ takeTable (Flight w r) p =
     row (Done Taken) MoveTake (p .core) (p .copy) (record { manager = Shared w r; recall = NoRecall; writeback = NoWriteback })
 takeTable NoWriteback p = refusedRow 25 p
 
--- ---- the nine
+-- ---- all of them
 
 -- the table of a call
 unfoldable pub tableOf : Call → Pieces → Opening → Effect
@@ -204,13 +205,15 @@ tableOf (Load c l) p o = loadTable (p .copy) c l p
 tableOf (Store c l) p o = storeTable (p .copy) c l p
 tableOf (Fence c) p o = fenceTable c p
 tableOf (Evict c l) p o = evictTable Evicted (p .copy) p
+tableOf (Drop c l) p o = evictTable Dropped (p .copy) p
+tableOf (WriteBack c l) p o = evictTable WrittenBack (p .copy) p
 tableOf (Advance c by) p o = advanceTable by p
 tableOf (Serve c) p o = serveTable (p .core .slot) c p o
 tableOf (Receive c) p o = receiveTable (p .core .slot) p
 tableOf (Yield l) p o = yieldTable (p .copy) p
 tableOf (Take l) p o = takeTable (p .line .writeback) p
 
--- what a call makes of the pieces: its table's row, or, with the pieces as they are, the number that it is refused with (20 to 27)
+-- what a call makes of the pieces: its table's row, or, with the pieces as they are, the number that it is refused with (20 and up)
 unfoldable pub effectOf : Call → Pieces → Opening → Effect
 effectOf call p o =
     pick (eqb (stateRefusal call p o) 0) (tableOf call p o) (refusedRow (stateRefusal call p o) p)

@@ -361,12 +361,15 @@ impl State {
     }
 }
 
-// The nine steps. A store's bytes are given beside the call.
+// The calls. A store's bytes are given beside the call. Evict gives up whatever copy there is; drop a shared one, writeback an
+// owned one.
 pub enum Call {
     Load { core: usize, line: usize },
     Store { core: usize, line: usize },
     Fence { core: usize },
     Evict { core: usize, line: usize },
+    Drop { core: usize, line: usize },
+    Writeback { core: usize, line: usize },
     Advance { core: usize, by: u32 },
     Serve { core: usize },
     Receive { core: usize },
@@ -421,6 +424,12 @@ impl Call {
             Call::Evict { core, line } => {
                 concerns(Who::Named(core), Which::Named(line), Act::Transfer)
             }
+            Call::Drop { core, line } => {
+                concerns(Who::Named(core), Which::Named(line), Act::Transfer)
+            }
+            Call::Writeback { core, line } => {
+                concerns(Who::Named(core), Which::Named(line), Act::Transfer)
+            }
             Call::Advance { core, by } => {
                 concerns(Who::Named(core), Which::Nothing, Act::Advance(by))
             }
@@ -449,6 +458,7 @@ pub enum Name {
     Own,
     Drop,
     Evict,
+    Writeback,
     Advance,
     Yield,
     Take,
@@ -492,6 +502,8 @@ fn is_serve(call: Call) -> bool
         Call::Store { .. } => false,
         Call::Fence { .. } => false,
         Call::Evict { .. } => false,
+        Call::Drop { .. } => false,
+        Call::Writeback { .. } => false,
         Call::Advance { .. } => false,
         Call::Serve { .. } => true,
         Call::Receive { .. } => false,
@@ -523,6 +535,7 @@ fn name_class(serves: bool, name: Name) -> Class
         Name::Own => served(serves, Class::Own),
         Name::Drop => Class::Other,
         Name::Evict => Class::Other,
+        Name::Writeback => Class::Other,
         Name::Advance => Class::Other,
         Name::Yield => Class::Other,
         Name::Take => Class::Other,
