@@ -156,6 +156,26 @@ pub fn evict(s: State, private: &mut [u8], shared: &mut [u8], core: usize, line:
     step(s, private, shared, Call::Evict { core, line }, b"")
 }
 
+// A core gives its shared copy of a line up.
+pub fn drop(s: State, private: &mut [u8], shared: &mut [u8], core: usize, line: usize) -> Returned
+    ensures { λ r. ⌜ Makes (Call.Drop core line) [] s («private» .entry) (shared .entry) r («private» .exit) (shared .exit) ⌝ }
+{
+    step(s, private, shared, Call::Drop { core, line }, b"")
+}
+
+// A core gives its owned copy of a line up, which becomes the line's writeback.
+pub fn writeback(
+    s: State,
+    private: &mut [u8],
+    shared: &mut [u8],
+    core: usize,
+    line: usize,
+) -> Returned
+    ensures { λ r. ⌜ Makes (Call.Writeback core line) [] s («private» .entry) (shared .entry) r («private» .exit) (shared .exit) ⌝ }
+{
+    step(s, private, shared, Call::Writeback { core, line }, b"")
+}
+
 // A core's clock of loads grows.
 pub fn advance(s: State, private: &mut [u8], shared: &mut [u8], core: usize, by: u32) -> Returned
     ensures { λ r. ⌜ Makes (Call.Advance core by) [] s («private» .entry) (shared .entry) r («private» .exit) (shared .exit) ⌝ }

@@ -3,13 +3,13 @@ use Prim.Native.Nat.{ℕ, _+_, _*_, _≤_}
 use mathlib.Core.List.{List}
 use native.Mathlib.Omega.{arith}
 use lib.ListN.{length, length-append}
-use Rattle.protocol.specs.declared.{Place.Place, Name.{Name, the-variants.{Open, Ask, Recall, Share, Renew, Own, Drop, Evict, Advance, Yield, Take}}}
+use Rattle.protocol.specs.declared.{Place.Place, Name.{Name, the-variants.{Open, Ask, Recall, Share, Renew, Own, Drop, Evict, Writeback, Advance, Yield, Take}}}
 use Rattle.protocol.specs.declared.{Counts.Counts, Answer.{Answer, the-variants.{Refused, Done, Commit}}, Kind.the-variants.{Load, Store, Fence}}
 use Rattle.protocol.specs.Step.{meaning}
 use Rattle.spelling.proofs.{DecimalLaws.decimal-short, HexLaws.hex-length}
 use Rattle.listing.specs.{Record.{nameText, recordText, endText, tallyText}, Back.doneEnd}
 
-name-length : (d : Name) → length (nameText d) ≤ 7
+name-length : (d : Name) → length (nameText d) ≤ 9
 name-length Open = omega arith
 name-length Ask = omega arith
 name-length Recall = omega arith
@@ -18,11 +18,12 @@ name-length Renew = omega arith
 name-length Own = omega arith
 name-length Drop = omega arith
 name-length Evict = omega arith
+name-length Writeback = omega arith
 name-length Advance = omega arith
 name-length Yield = omega arith
 name-length Take = omega arith
 
-pub done-length : (d : Name) → length (doneEnd d) ≤ 14
+pub done-length : (d : Name) → length (doneEnd d) ≤ 16
 done-length d = simp length-append (omega (arith, name-length d))
 
 -- a record has at most 118 bytes beside its data

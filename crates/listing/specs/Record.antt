@@ -3,10 +3,10 @@
 use Prim.Native.Nat.{ℕ}
 use mathlib.Core.List.{List, [], _++_}
 use Rattle.spelling.specs.{Text.text, Decimal.decimal, Hex.hex}
-use Rattle.protocol.specs.declared.{Place.Place, Name.{Name, the-variants.{Open, Ask, Recall, Share, Renew, Own, Drop, Evict, Advance, Yield, Take}}}
+use Rattle.protocol.specs.declared.{Place.Place, Name.{Name, the-variants.{Open, Ask, Recall, Share, Renew, Own, Drop, Evict, Writeback, Advance, Yield, Take}}}
 use Rattle.protocol.specs.{declared.Counts.Counts, Step.{Op, load, store, fence, Reply, refused, done, commit}}
 
--- "done is open, ask, recall, share, renew, own, drop, evict, advance, yield or take"
+-- "done is open, ask, recall, share, renew, own, drop, evict, advance, yield or take"; 02, Two: "they print `done=drop` and `done=writeback`"
 abbrev pub nameText : Name → List ℕ
 nameText Open = text "open"
 nameText Ask = text "ask"
@@ -16,6 +16,7 @@ nameText Renew = text "renew"
 nameText Own = text "own"
 nameText Drop = text "drop"
 nameText Evict = text "evict"
+nameText Writeback = text "writeback"
 nameText Advance = text "advance"
 nameText Yield = text "yield"
 nameText Take = text "take"

@@ -1,6 +1,6 @@
 // The step tables as code, on one core, one private copy and one manager's line by value.
 //
-// `effect` is the table of a call with its refusals 20 to 27: what the call answers, what becomes of
+// `effect` is the table of a call with its refusals 20 and up: what the call answers, what becomes of
 // the three pieces, and which line of bytes moves. The definitions that it is equal to are those of
 // `protocol`; there are no arrays and no buffers here. A core's clocks are changed only by the
 // methods of `Clocks`.
@@ -30,7 +30,7 @@ pub struct Span {
 }
 
 // What a call makes of the pieces that it looks at, those of the line of this number: the row of its
-// table, or, with the pieces as they are, one of 20 to 27. Each row decides.
+// table, or, with the pieces as they are, one of 20 and up. Each row decides.
 fn row(
     call: Call,
     number: usize,
@@ -46,6 +46,8 @@ fn row(
         Call::Store { core: c, line: l } => core_rows::store(c, l, core, copy, line),
         Call::Fence { core: c } => core_rows::fence(c, core, copy, line),
         Call::Evict { .. } => transfer_rows::evict(core, copy, line),
+        Call::Drop { .. } => transfer_rows::drop(core, copy, line),
+        Call::Writeback { .. } => transfer_rows::writeback(core, copy, line),
         Call::Advance { by, .. } => core_rows::advance(by, core, copy, line),
         Call::Serve { core: c } => transfer_rows::serve(c, core, copy, line, opening),
         Call::Receive { .. } => transfer_rows::receive(core, copy, line),

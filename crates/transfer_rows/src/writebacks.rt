@@ -1,4 +1,4 @@
-// The rows of evict, yield and take.
+// The rows of evict, drop and writeback, of yield and of take.
 ghost use Prim.Native.Nat.{ℕ};
 ghost use mathlib.Core.Path.{_≡_};
 ghost use Rattle.protocol.specs.{Pick.both, Refusals.{hasOwner, stands}, Machine.pieces, Tables.{writtenBack, evictTable, yielded, effectOf}};
@@ -60,6 +60,28 @@ pub fn evict(core: Core, copy: Copy, line: ManagerLine) -> Effect
     ensures { λ r. ⌜ ((c l n : ℕ) (o : Opening) → r ≡ effectOf (Call.Evict c l) (pieces n core copy line) o) ⌝ }
 {
     give_up(Name::Evict, core, copy, line)
+}
+
+// drop: a shared copy goes; 26 where there is none, 30 where it is owned.
+pub fn drop(core: Core, copy: Copy, line: ManagerLine) -> Effect
+    ensures { λ r. ⌜ ((c l n : ℕ) (o : Opening) → r ≡ effectOf (Call.Drop c l) (pieces n core copy line) o) ⌝ }
+{
+    match copy {
+        Copy::None => give_up(Name::Drop, core, copy, line),
+        Copy::Shared { .. } => give_up(Name::Drop, core, copy, line),
+        Copy::Owned { .. } => refusals::refused(30, core, copy, line),
+    }
+}
+
+// writeback: an owned copy becomes the writeback; 26 where there is none, 30 where it is shared.
+pub fn writeback(core: Core, copy: Copy, line: ManagerLine) -> Effect
+    ensures { λ r. ⌜ ((c l n : ℕ) (o : Opening) → r ≡ effectOf (Call.Writeback c l) (pieces n core copy line) o) ⌝ }
+{
+    match copy {
+        Copy::None => give_up(Name::Writeback, core, copy, line),
+        Copy::Shared { .. } => refusals::refused(30, core, copy, line),
+        Copy::Owned { .. } => give_up(Name::Writeback, core, copy, line),
+    }
 }
 
 // What a recall leaves of the owner's copy.
