@@ -21,7 +21,8 @@ pub record Ranged (form : ℕ) : Type 0 where
 pub ranged : (form : ℕ) → Ranged form
 ranged zero = record { order = lit≤ tt; high = lit≤ tt; count = refl; same = refl }
 ranged (suc zero) = record { order = lit≤ tt; high = lit≤ tt; count = refl; same = refl }
-ranged (suc (suc form)) = record { order = lit≤ tt; high = lit≤ tt; count = refl; same = refl }
+ranged (suc (suc zero)) = record { order = lit≤ tt; high = lit≤ tt; count = refl; same = refl }
+ranged (suc (suc (suc form))) = record { order = lit≤ tt; high = lit≤ tt; count = refl; same = refl }
 
 -- the row at an index of a form's rows, as a row of the table
 module _ (form k : ℕ) (h : k < length (rowsOf form)) where
@@ -44,7 +45,8 @@ in-table form {s} {k} {vs} f = subst (λ (r : Row). Has s (r .form) vs) (row-in 
 pub no-row : (form : ℕ) (s : List ℕ) → formCount ≤ form → (k : ℕ) (vs : List (List ℕ)) → Matches (rowsOf form) s k vs → ⊥
 no-row zero s h k vs f = absurd (omega arith)
 no-row (suc zero) s h k vs f = absurd (omega arith)
-no-row (suc (suc form)) s h k vs f = omega (arith, f .listed)
+no-row (suc (suc zero)) s h k vs f = absurd (omega arith)
+no-row (suc (suc (suc form))) s h k vs f = omega (arith, f .listed)
 
 -- ---- the first lines
 
@@ -54,7 +56,8 @@ sizesOf n = record { cores = n 0; lines = n 1; width = n 2; lease = n 3 }
 
 opening-at : (j : ℕ) (n : Numbered) → j < openingCount → rowAt table (stepCount + j) .says n ≡ opens (j + 1) (sizesOf n)
 opening-at zero n h = refl
-opening-at (suc j) n h = absurd (omega arith)
+opening-at (suc zero) n h = refl
+opening-at (suc (suc j)) n h = absurd (omega arith)
 
 -- the first lines open the forms in turn
 pub opening-row : (row : ℕ) (n : Numbered) → stepCount ≤ row → row < rowCount → rowAt table row .says n ≡ opens (row - stepCount + 1) (sizesOf n)
@@ -85,7 +88,8 @@ says-in (suc form) (calls c) e = λ z. omega (arith, z)
 rows-say : (form : ℕ) (n : Numbered) → every (λ k r. saysIn form (r .says n)) 0 (rowsOf form) ≡ true
 rows-say zero n = refl
 rows-say (suc zero) n = refl
-rows-say (suc (suc form)) n = refl
+rows-say (suc (suc zero)) n = refl
+rows-say (suc (suc (suc form))) n = refl
 
 pub row-says : (form k : ℕ) (n : Numbered) → k < length (rowsOf form) → SaysIn form (rowAt (rowsOf form) k .says n)
 row-says form k n h = says-in form _ (every-at (λ k r. saysIn form (r .says n)) (rowsOf form) 0 (rows-say form n) k h)

@@ -1,10 +1,10 @@
--- The grammar of 01, "Journal and driver": the first line, and the nine step lines. Assumes nothing.
+-- The grammar of 01, "Journal and driver": the first line and the step lines; and of 02, Two, the form `fabric=2`. Assumes nothing.
 use Prim.Native.{Nat.{ℕ, zero, suc, _+_}, String.String}
 use mathlib.Core.List.{List, [], _∷_, _++_}
 use lib.ListN.{getD}
 use Rattle.spelling.specs.Text.{text}
 use Rattle.protocol.specs.declared.Opening.{Opening as Sizes}
-use Rattle.protocol.specs.declared.Call.{Call, the-variants.{Load, Store, Fence, Evict, Advance, Serve, Receive, Yield, Take}}
+use Rattle.protocol.specs.declared.Call.{Call, the-variants.{Load, Store, Fence, Evict, Drop, Writeback, Advance, Serve, Receive, Yield, Take}}
 use Rattle.grammar.specs.Form.{Part, parts}
 
 -- the numbers of a line, in their order: n 0 is the first
@@ -28,13 +28,13 @@ row t f = record { form = parts (text t); says = f }
 abbrev pub openings : List Row
 openings =
     row "fabric=1 cores=N lines=N width=N lease=N" (λ n. opens 1 (record { cores = n 0; lines = n 1; width = n 2; lease = n 3 }))
+    ∷ row "fabric=2 cores=N lines=N width=N lease=N" (λ n. opens 2 (record { cores = n 0; lines = n 1; width = n 2; lease = n 3 }))
     ∷ []
 
--- THE STEPS of a journal of form 1. Evict is first: a form without it can then have the others as one part of the table
+-- THE STEPS of every form of journal
 abbrev pub steps : List Row
 steps =
-    row "op=evict core=N line=N" (λ n. calls (Evict (n 0) (n 1)))
-    ∷ row "op=load core=N line=N" (λ n. calls (Load (n 0) (n 1)))
+    row "op=load core=N line=N" (λ n. calls (Load (n 0) (n 1)))
     ∷ row "op=store core=N line=N data=H" (λ n. calls (Store (n 0) (n 1)))
     ∷ row "op=fence core=N" (λ n. calls (Fence (n 0)))
     ∷ row "op=serve core=N" (λ n. calls (Serve (n 0)))
@@ -44,11 +44,23 @@ steps =
     ∷ row "op=take line=N" (λ n. calls (Take (n 0)))
     ∷ []
 
--- the rows that a line may have: in form 0 the first line is due; form 1 is `fabric=1`; there is no other yet
+-- the step of `fabric=1` alone
+abbrev pub evictStep : List Row
+evictStep = row "op=evict core=N line=N" (λ n. calls (Evict (n 0) (n 1))) ∷ []
+
+-- "A first line `fabric=2`, same keys, has these two steps in place of evict"
+abbrev pub splitSteps : List Row
+splitSteps =
+    row "op=drop core=N line=N" (λ n. calls (Drop (n 0) (n 1)))
+    ∷ row "op=writeback core=N line=N" (λ n. calls (Writeback (n 0) (n 1)))
+    ∷ []
+
+-- the rows that a line may have: in form 0 the first line is due; form 1 is `fabric=1`, form 2 `fabric=2`; there is no other yet
 abbrev pub rowsOf : ℕ → List Row
 rowsOf zero = openings
-rowsOf (suc zero) = steps
-rowsOf (suc (suc f)) = []
+rowsOf (suc zero) = evictStep ++ steps
+rowsOf (suc (suc zero)) = steps ++ splitSteps
+rowsOf (suc (suc (suc f))) = []
 
 -- what is past the rows; no definition looks there
 abbrev pub noRow : Row
@@ -60,30 +72,34 @@ rowAt rows k = getD rows k noRow
 
 -- ---- the rows as the code has them: one table, and a part of it for each form of journal
 
--- all rows, in the order of the code's table: the first lines last, so that a new one moves no other row
+-- all rows, in the order of the code's table: the rows of each form are one part of it, and the first lines are last, so that a new one moves
+-- no other row
 abbrev pub table : List Row
-table = steps ++ openings
+table = evictStep ++ steps ++ splitSteps ++ openings
 
--- how many numbers a line has at most, how many of the rows are steps and first lines, and how many forms of journal there are (form
--- 0, where the first line is due, counted)
+-- how many numbers a line has at most, where the two steps in place of evict start, how many of the rows are steps and first lines, and how
+-- many forms of journal there are (form 0, where the first line is due, counted)
 abbrev pub numberCount : ℕ
 numberCount = 4
 
+abbrev pub splitStart : ℕ
+splitStart = 9
+
 abbrev pub stepCount : ℕ
-stepCount = 9
+stepCount = 11
 
 abbrev pub openingCount : ℕ
-openingCount = 1
+openingCount = 2
 
 abbrev pub rowCount : ℕ
 rowCount = stepCount + openingCount
 
 abbrev pub formCount : ℕ
-formCount = 2
+formCount = 3
 
 -- the rows of a form of journal are those from one up to another
 abbrev pub fromOf : ℕ → ℕ
-fromOf form = getD (stepCount ∷ 0 ∷ []) form 0
+fromOf form = getD (stepCount ∷ 0 ∷ 1 ∷ []) form 0
 
 abbrev pub toOf : ℕ → ℕ
-toOf form = getD (rowCount ∷ stepCount ∷ []) form 0
+toOf form = getD (rowCount ∷ splitStart ∷ stepCount ∷ []) form 0

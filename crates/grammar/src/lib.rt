@@ -17,7 +17,7 @@ use spelling::Number;
 
 // What a line says: it opens an engine, it is a step, or it is refused with the scope's number 10 to 13.
 pub enum Line {
-    // The first line: the journal's form (1 for `fabric=1`), and the opening sizes and lease.
+    // The first line: the journal's form (1 for `fabric=1`, 2 for `fabric=2`), and the opening sizes and lease.
     Opening {
         form: u32,
         opening: Opening,
@@ -32,24 +32,27 @@ pub enum Line {
     Refused(u32),
 }
 
-// How many of the rows are steps, and how many there are with the first lines; how many numbers a line has at most; how many forms of
-// journal there are, where the first line is due counted as one (`stepCount`, `rowCount`, `numberCount`, `formCount` of specs/Table.antt).
-const STEPS: usize = 9;
+// Where the rows start that have a place in `fabric=2` alone; how many of the rows are steps, and how many there are with the first lines;
+// how many numbers a line has at most; how many forms of journal there are, where the first line is due counted as one (`splitStart`,
+// `stepCount`, `rowCount`, `numberCount`, `formCount` of specs/Table.antt).
+const SPLIT: usize = 9;
 
-const ROWS: usize = STEPS + 1;
+const STEPS: usize = 11;
+
+const ROWS: usize = STEPS + 2;
 
 const NUMBERS: usize = 4;
 
-const FORMS: u32 = 2;
+const FORMS: u32 = 3;
 
 // The rows of each form of journal: from one up to another.
-const FROM: [usize; 2] = [STEPS, 0];
+const FROM: [usize; 3] = [STEPS, 0, 1];
 
-const TO: [usize; 2] = [ROWS, STEPS];
+const TO: [usize; 3] = [ROWS, SPLIT, STEPS];
 
 // The row of each tag, as a letter from a on; ~, which is no row's, where there is none. The tag of a line or a form is 15 times its
 // seventh byte and its eighth, modulo 32: no two rows have the same.
-const ROWS_BY_TAG: [u8; 32] = *b"~a~~j~~~~~~i~~~e~~dcf~~~h~~~bg~~";
+const ROWS_BY_TAG: [u8; 32] = *b"~a~~lm~~~~~i~~~ejkdcf~~~h~~~bg~~";
 
 // What was read of a line by a form: 0 or the refusal, the numbers so far and how many, and where the data start (the line's
 // end, if there are none).
@@ -209,7 +212,10 @@ fn fill_row(line: &[u8], row: usize) -> Values
         6 => fill(line, after(line, 0, b"op=advance"), 2, 0x20),
         7 => fill(line, after(line, 0, b"op=yield"), 1, 0x1),
         8 => fill(line, after(line, 0, b"op=take"), 1, 0x1),
-        _ => fill(line, after(line, 0, b"fabric=1"), 4, 0x7654),
+        9 => fill(line, after(line, 0, b"op=drop"), 2, 0x10),
+        10 => fill(line, after(line, 0, b"op=writeback"), 2, 0x10),
+        11 => fill(line, after(line, 0, b"fabric=1"), 4, 0x7654),
+        _ => fill(line, after(line, 0, b"fabric=2"), 4, 0x7654),
     }
 }
 
@@ -302,7 +308,9 @@ fn call_of(row: usize, number: [u32; NUMBERS]) -> Call
         5 => Call::Receive { core: a },
         6 => Call::Advance { core: a, by },
         7 => Call::Yield { line: a },
-        _ => Call::Take { line: a },
+        8 => Call::Take { line: a },
+        9 => Call::Drop { core: a, line: b },
+        _ => Call::Writeback { core: a, line: b },
     }
 }
 
@@ -337,7 +345,7 @@ fn answer(f: Found, end: usize) -> Line
 }
 
 // What one line says, newline not counted. Form 0 expects the first line of a journal; form 1 is a journal that began with
-// `fabric=1`; no line has a form beyond.
+// `fabric=1`, form 2 one that began with `fabric=2`; no line has a form beyond.
 pub fn read_line(line: &[u8], form: u32) -> Line
     ensures { λ r. ⌜ LineOf (rowsOf form) (now (line .entry)) r ⌝ }
 {
