@@ -20,7 +20,7 @@ abbrev pub left : Made → Machine
 left e = machine (e .returned .state) (e .private) (e .shared)
 
 -- calls made one after the other, the first on the machine m: "Each call gets the state and both buffers that the call before returned".
--- `Performs` is what `step` and the nine functions ensure: of the state and the buffers that it got, its call and the bytes given to it, what it
+-- `Performs` is what `step` and the functions of the calls ensure: of the state and the buffers that it got, its call and the bytes given to it, what it
 -- returned, and the buffers on its return
 pub data MadeFrom : Machine → List Made → Type 0 where
   none : {m : Machine} → MadeFrom m []

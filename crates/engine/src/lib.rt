@@ -1,10 +1,10 @@
-// The engine: opening it, `step`, which makes any of the nine calls, a function for each of them, and the
+// The engine: opening it, `step`, which makes any of the calls, a function for each of them, and the
 // bytes of a line or of a commit.
 //
 // Every function takes any values at all and has no `requires`. What each promises is an equation with
 // `opened`, `step`, `shown` or `part` of crate `protocol`; of a part that is returned, where it points too.
 // Callers write `d = load(d.state, ..)`, which saves a copy of the state against one by way of a local.
-// `step` saves another copy against the nine.
+// `step` saves another copy against those functions.
 ghost use mathlib.Core.{Path._≡_, List.[]};
 ghost use Rattle.protocol.specs.{Machine.pieces, Refusals.isHeld};
 ghost use Rattle.engine.specs.{Pieces.OnPieces, Calls.{Makes, Opens, Shows, PartOf}};

@@ -140,7 +140,7 @@ module _ {m : Machine} (f : Fit m) where
 
 -- ---- all refusals
 
--- an accepted call: none of 1 and 2, of 3 to 6, of 20 to 27
+-- an accepted call: none of 1 and 2, of 3 to 6, of 20 and up
 pub record NotRefused (m : Machine) (call : Call) (n : ℕ) : Type 0 where
   pub machineOk : machineRefusal m ≡ 0
   pub callOk : callRefusal call (m .state .opening) n ≡ 0

@@ -3,8 +3,9 @@ use Prim.Native.Nat.{ℕ}
 use mathlib.Core.{Path._≡_, List.{List, [], _∷_, map}}
 use Rattle.protocol.specs.{Stamps.stamp, Buffers.Bytes, Machine.freshMachine, Run.{Entry, Record, Commit, place, run}}
 use Rattle.protocol.specs.{Step.{Op, load, store, fence, Reply, refused, done, commit}, Order.commitsOf, declared.Opening.Opening}
-use Rattle.protocol.specs.declared.Call.{Call, the-variants.{Load, Store, Fence, Evict, Advance, Serve, Receive, Take}}
-use Rattle.protocol.specs.declared.Name.the-variants.{Ask as ask, Share as share, Own as own, Evict as evict, Advance as advance}
+use Rattle.protocol.specs.declared.Call.{Call, the-variants.{Load, Store, Fence, Evict, Drop, Writeback as WriteBack, Advance, Serve, Receive, Take}}
+use Rattle.protocol.specs.declared.Name.the-variants.{Ask as ask, Share as share, Own as own, Drop as dropped, Evict as evict, Writeback as writeback}
+use Rattle.protocol.specs.declared.Name.the-variants.{Take as taken, Advance as advance}
 use Rattle.reference_points.specs.Numbers.{opening}
 
 -- 2 cores, 3 lines, a width of 2 and a lease of 10
@@ -21,7 +22,8 @@ entryOf (exchange k bs r) = record { call = k; bytes = bs }
 abbrev pub replyOf : Exchange → Reply
 replyOf (exchange k bs r) = r
 
--- core 1 stores to line 2, loads from it and makes a fence; core 0 loads line 0. Only a store takes the bytes given to it
+-- core 1 stores to line 2, loads from it and makes a fence; core 0 loads line 0. Core 1 writes line 2 back, and core 0 loads it from the manager.
+-- Only a store takes the bytes given to it
 abbrev pub exchanges : List Exchange
 exchanges =
     exchange (Store 1 2) (7 ∷ 8 ∷ []) (done ask)
@@ -39,6 +41,16 @@ exchanges =
     ∷ exchange (Evict 0 0) [] (done evict)
     ∷ exchange (Take 0) [] (refused 25)
     ∷ exchange (Fence 0) [] (commit 0 (stamp 3) fence)
+    ∷ exchange (Drop 1 2) [] (refused 30)
+    ∷ exchange (WriteBack 1 2) [] (done writeback)
+    ∷ exchange (WriteBack 1 2) [] (refused 26)
+    ∷ exchange (Take 2) [] (done taken)
+    ∷ exchange (Load 0 2) [] (done ask)
+    ∷ exchange (Serve 0) [] (done share)
+    ∷ exchange (Receive 0) [] (done share)
+    ∷ exchange (WriteBack 0 2) [] (refused 30)
+    ∷ exchange (Load 0 2) [] (commit 0 (stamp 3) (load 2 (5 ∷ 6 ∷ [])))
+    ∷ exchange (Drop 0 2) [] (done dropped)
     ∷ []
 
 -- a commit: its place in the list of calls, core, timestamp, and what it did
@@ -53,6 +65,7 @@ committed =
     ∷ aCommit 7 1 1 fence
     ∷ aCommit 12 0 3 (load 0 (0 ∷ 0 ∷ []))
     ∷ aCommit 15 0 3 fence
+    ∷ aCommit 24 0 3 (load 2 (5 ∷ 6 ∷ []))
     ∷ []
 
 pub record CommitsTheorem : Type 0 where

@@ -1,4 +1,4 @@
--- The refusals 1 to 7 and 20 to 27 of 01: each alone, and each two that can apply to one call at once, where the smaller comes first.
+-- The refusals 1 to 7 and 20 to 27 of 01, and 30 of 02: each alone, and each two that can apply to one call at once, where the smaller comes first.
 --
 -- Two numbers of which one speaks of another call (21 and 22, say) never meet. Nor do 6 and 27 (lts + 0 passes nothing), 20 and 27 (a store asks
 -- only where its copy is not owned), 21 and 27 (only an asked slot has an asked lts). 7 is an opening's alone.
@@ -6,7 +6,7 @@ use Prim.Native.Nat.{ℕ}
 use mathlib.Core.List.{List, [], _∷_, _++_, map}
 use lib.ListN.{drop, replicate}
 use Rattle.protocol.specs.{Stamps.stamp, Buffers.Bytes, Machine.{Machine, machine, freshMachine, Pieces}}
-use Rattle.protocol.specs.declared.{Call.{Call, the-variants.{Load, Store, Fence, Evict, Advance, Serve, Receive, Yield, Take}}, Opening.Opening}
+use Rattle.protocol.specs.declared.{Call.{Call, the-variants.{Load, Store, Fence, Evict, Drop, Writeback as WriteBack, Advance, Serve, Receive, Yield, Take}}, Opening.Opening}
 use Rattle.protocol.specs.declared.{Name.the-variants.Open, Copy.the-variants.None as NoCopy, State.State}
 use Rattle.protocol.specs.declared.{Want.the-variants.{Load as WantLoad, Store as WantStore}, Held.the-variants.{None as NothingHeld, Version}}
 use Rattle.protocol.specs.declared.{Grant.the-variants.{Share as GrantShare, Own as GrantOwn}, Slot.the-variants.{Empty, Asked, Answered}}
@@ -30,7 +30,7 @@ called (refusal n m call bs) = step m call bs
 abbrev pub turnedAway : Refusal → Outcome
 turnedAway (refusal n m call bs) = record { reply = refused n; machine = m }
 
--- ---- 3 to 6 and 20 to 27, by what a call is given and the pieces that it finds, with nothing else amiss
+-- ---- 3 to 6, 20 to 27 and 30, by what a call is given and the pieces that it finds, with nothing else amiss
 
 abbrev pub cause : ℕ → Pieces → Call → Refusal
 cause n p call = refusal n (usual p) call given
@@ -55,31 +55,39 @@ full = pieces (core 7 9 Empty) (dirtyCopy 6 greatest) (ownedLine 1 NoRecall)
 
 abbrev pub causes : List Refusal
 causes =
-    -- 3 core ≥ cores. Cores 3 and 4 would be refused for their slots, copies and clocks too: with 20, 20, 26, 27, 21, 27, 22
+    -- 3 core ≥ cores. Cores 3 and 4 would be refused for their slots, copies and clocks too: with 20, 20, 26, 26, 26, 27, 21, 27, 22
     cause 3 idle (Load 3 0)
     ∷ cause 3 idle (Store 3 0)
     ∷ cause 3 idle (Fence 3)
     ∷ cause 3 idle (Evict 3 0)
+    ∷ cause 3 idle (Drop 3 0)
+    ∷ cause 3 idle (WriteBack 3 0)
     ∷ cause 3 idle (Advance 3 5)
     ∷ cause 3 idle (Serve 3)
     ∷ cause 3 idle (Serve 4)
     ∷ cause 3 idle (Receive 4)
-    -- 3 and 27 of a store; 3 and 4; 3 and 5; 3 and 6
+    -- 3 and 27 of a store; 3 and 30; 3 and 4; 3 and 5; 3 and 6
     ∷ cause 3 idle (Store 3 2)
+    ∷ cause 3 idle (Drop 3 2)
     ∷ cause 3 idle (Load 3 4)
     ∷ cause 3 idle (Store 3 4)
     ∷ cause 3 idle (Evict 3 4)
+    ∷ cause 3 idle (Drop 3 4)
+    ∷ cause 3 idle (WriteBack 3 4)
     ∷ storeOf 3 idle 3 2 (counting 4 200)
     ∷ cause 3 idle (Advance 3 0)
-    -- 4 line ≥ lines. Lines 4 and 5 would be refused for what they hold too: with 20, 20, 26, 23, 24, 25
+    -- 4 line ≥ lines. Lines 4 and 5 would be refused for what they hold too: with 20, 20, 26, 26, 26, 23, 24, 25
     ∷ cause 4 waiting (Load 1 5)
     ∷ cause 4 waiting (Store 1 5)
     ∷ cause 4 idle (Evict 1 5)
+    ∷ cause 4 idle (Drop 1 5)
+    ∷ cause 4 idle (WriteBack 1 5)
     ∷ cause 4 idle (Yield 4)
     ∷ cause 4 idle (Yield 5)
     ∷ cause 4 idle (Take 4)
-    -- 4 and 27 of a store; 4 and 5
+    -- 4 and 27 of a store; 4 and 30; 4 and 5
     ∷ cause 4 idle (Store 1 4)
+    ∷ cause 4 idle (Drop 1 4)
     ∷ storeOf 4 idle 1 4 (counting 4 200)
     -- 5 store bytes not width in count; 5 and 20; 5 and 27
     ∷ storeOf 5 idle 1 2 []
@@ -118,9 +126,13 @@ causes =
     -- 25 take, no writeback
     ∷ cause 25 idle (Take 2)
     ∷ cause 25 (pieces (core 7 9 Empty) (dirtyCopy 6 8) (ownedLine 1 Flush)) (Take 2)
-    -- 26 evict, no copy
+    -- 26 evict, drop or writeback, no copy; of the last two, 26 and 30
     ∷ cause 26 idle (Evict 1 2)
     ∷ cause 26 (pieces (core 7 9 (answered GrantOwn 4 9)) NoCopy (busy (ownedLine 1 NoRecall))) (Evict 1 2)
+    ∷ cause 26 idle (Drop 1 2)
+    ∷ cause 26 granted (Drop 1 2)
+    ∷ cause 26 idle (WriteBack 1 2)
+    ∷ cause 26 (pieces (core 7 9 Empty) NoCopy (busy (ownedLine 1 NoRecall))) (WriteBack 1 2)
     -- 27 rts + 1 (store to an owned line), lts + by (advance) or asked lts + lease (serve of a load on a shared line) passes 4,294,967,295
     ∷ cause 27 full (Store 1 2)
     ∷ cause 27 (pieces (core 7 9 askedElsewhere) (cleanCopy 6 greatest) (busy (ownedLine 1 NoRecall))) (Store 1 2)
@@ -128,6 +140,11 @@ causes =
     ∷ cause 27 (pieces (core 1 9 askedElsewhere) (sharedCopy 4 9) (sharedLine 4 9)) (Advance 1 greatest)
     ∷ cause 27 (pieces (core 7 9 (asked WantLoad 4294967286 NothingHeld)) NoCopy (sharedLine 4 greatest)) (Serve 1)
     ∷ cause 27 (pieces (core 7 9 (asked WantLoad greatest (Version (stamp 4)))) (sharedCopy 4 9) (busy (sharedLine 4 9))) (Serve 1)
+    -- "30, the copy isn't of the state that the step names"
+    ∷ cause 30 (pieces (core 7 9 Empty) (cleanCopy 3 7) (ownedLine 1 NoRecall)) (Drop 1 2)
+    ∷ cause 30 (pieces (core 7 9 askedElsewhere) (dirtyCopy 6 8) (busy (ownedLine 1 NoRecall))) (Drop 1 2)
+    ∷ cause 30 (pieces (core 7 9 Empty) (sharedCopy 4 9) (sharedLine 4 9)) (WriteBack 1 2)
+    ∷ cause 30 (pieces (core 7 9 (answered GrantOwn 4 9)) (sharedCopy 4 9) (busy (ownedLine 1 NoRecall))) (WriteBack 1 2)
     ∷ []
 
 -- with 2 as well: the private buffer is a byte short

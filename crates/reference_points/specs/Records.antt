@@ -1,8 +1,8 @@
--- The lines that the program prints, byte for byte (01, "Journal and driver").
+-- The lines that the program prints, byte for byte (01, "Journal and driver"; 02, Two).
 use Prim.Native.Nat.{ℕ}
 use mathlib.Core.{Path._≡_, List.{List, [], _∷_, _++_}}
 use Rattle.protocol.specs.{Stamps.stamp, Buffers.Bytes, Step.{load, store, fence, Reply, refused, done, commit}, Run.place}
-use Rattle.protocol.specs.declared.{Counts.Counts, Name.the-variants.{Open, Ask, Recall, Share, Renew, Own, Drop, Evict, Advance, Yield, Take}}
+use Rattle.protocol.specs.declared.{Counts.Counts, Name.the-variants.{Open, Ask, Recall, Share, Renew, Own, Drop, Evict, Writeback, Advance, Yield, Take}}
 use Rattle.spelling.specs.Text.{text}
 use Rattle.listing.specs.Record.{recordText, endText}
 use Rattle.driver.specs.Listing.{ended, stopped, lastLines, notOpened}
@@ -19,7 +19,8 @@ recorded (printed n r s) = recordText (place n) r
 abbrev pub printedLine : Printed → Bytes
 printedLine (printed n r s) = s
 
--- "n is the place; done is open, ask, recall, share, renew, own, drop, evict, advance, yield or take; a fence prints core and ts"
+-- "n is the place; done is open, ask, recall, share, renew, own, drop, evict, advance, yield or take; a fence prints core and ts";
+-- 02: "they print `done=drop` and `done=writeback`"
 abbrev pub records : List Printed
 records =
     printed 7 (commit 3 (stamp 45) (load 6 (171 ∷ 205 ∷ []))) (text "n=7 commit=load core=3 line=6 ts=45 data=abcd\n")
@@ -39,7 +40,9 @@ records =
     ∷ printed 8 (done Advance) (text "n=8 done=advance\n")
     ∷ printed 9 (done Yield) (text "n=9 done=yield\n")
     ∷ printed 10 (done Take) (text "n=10 done=take\n")
+    ∷ printed 11 (done Writeback) (text "n=11 done=writeback\n")
     ∷ printed 9 (refused 27) (text "n=9 refused=27\n")
+    ∷ printed 12 (refused 30) (text "n=12 refused=30\n")
     ∷ []
 
 -- 12 steps were met, of which 3 committed and 4 were refused

@@ -1,4 +1,4 @@
--- The step tables of 01, row by row: beside the reference points, what each step does to the core, its copy, the manager's line and the bytes.
+-- The step tables of 01 and of 02, Two, row by row: beside the reference points, what each step does to the core, its copy, the manager's line and the bytes.
 -- What it leaves shows where there is something to leave: a slot in use, a copy held, a recall and a writeback. So does a number that comes early.
 use Prim.Native.Nat.{ℕ}
 use mathlib.Core.{Path._≡_, List.{List, [], _∷_, _++_, map}}
@@ -7,10 +7,10 @@ use Rattle.protocol.specs.declared.{Copy.{Copy, the-variants.None as NoCopy}, W
 use Rattle.protocol.specs.declared.Held.{Held, the-variants.{None as NothingHeld, Version}}
 use Rattle.protocol.specs.declared.{Grant.the-variants.{Share as GrantShare, Renew as GrantRenew, Own as GrantOwn}, Slot.{Slot, the-variants.{Empty, Answered}}}
 use Rattle.protocol.specs.declared.{Recall.{Recall, the-variants.{None as NoRecall, Downgrade, Flush}}, ManagerLine.ManagerLine, State.State}
-use Rattle.protocol.specs.declared.Call.{Call, the-variants.{Load, Store, Fence, Evict, Advance, Serve, Receive, Yield, Take}}
+use Rattle.protocol.specs.declared.Call.{Call, the-variants.{Load, Store, Fence, Evict, Drop, Writeback as WriteBack, Advance, Serve, Receive, Yield, Take}}
 use Rattle.protocol.specs.declared.Name.{Name}
 use Rattle.protocol.specs.declared.Name.the-variants.{Ask as ask, Recall as recall, Share as share, Renew as renew, Own as own, Drop as dropped, Evict as evict}
-use Rattle.protocol.specs.declared.Name.the-variants.{Advance as advance, Yield as yield, Take as taken}
+use Rattle.protocol.specs.declared.Name.the-variants.{Writeback as writeback, Advance as advance, Yield as yield, Take as taken}
 use Rattle.reference_points.specs.Rows.{core, asked, answered, askedElsewhere, answeredElsewhere, sharedCopy, cleanCopy, dirtyCopy, pieces, sharedLine}
 use Rattle.reference_points.specs.Rows.{ownedLine, withRecall, withWriteback, busy, greatest, Row, row, AllHold, Places, places, copyBytes, managerBytes}
 use Rattle.reference_points.specs.Rows.{writebackBytes, answerBytes, unmoved, given, counting, private, shared, stateOf, withCore, withLine}
@@ -124,27 +124,36 @@ advanceRows =
     ∷ advancing askedElsewhere 7 9 4294967288 greatest
     ∷ []
 
--- ---- evict
+-- ---- evict, drop and writeback
 
--- the slot, which stays; the copy and the manager's line before it; the line and the bytes after it
-abbrev pub evicting : Slot → Copy → ManagerLine → ManagerLine → Places → Row
-evicting s x m m′ b = doing (pieces (core 7 9 s) x m) (Evict 1 2) evict (pieces (core 7 9 s) NoCopy m′) b
+-- a call that gives the copy up, and its name; the slot, which stays; the copy and the manager's line before it; the line and the bytes after it
+abbrev pub givingUp : Call → Name → Slot → Copy → ManagerLine → ManagerLine → Places → Row
+givingUp call d s x m m′ b = doing (pieces (core 7 9 s) x m) call d (pieces (core 7 9 s) NoCopy m′) b
 
 -- the copy's bytes as the writeback
 abbrev pub writtenBack : Places
 writtenBack = places copyBytes managerBytes copyBytes answerBytes
 
+-- "shared: copy becomes none"
+abbrev pub sharedGoes : Call → Name → List Row
+sharedGoes call d =
+    givingUp call d Empty (sharedCopy 4 9) (sharedLine 4 9) (sharedLine 4 9) unmoved
+    ∷ givingUp call d (asked WantStore 3 (Version (stamp 4))) (sharedCopy 4 9) (busy (ownedLine 0 NoRecall)) (busy (ownedLine 0 NoRecall)) unmoved
+    ∷ givingUp call d (answered GrantRenew 4 15) (sharedCopy 4 9) (busy (sharedLine 4 15)) (busy (sharedLine 4 15)) unmoved
+    ∷ []
+
+-- "Owned: its wts, rts and bytes become the writeback, copy none."
+abbrev pub ownedGoes : Call → Name → List Row
+ownedGoes call d =
+    givingUp call d Empty (cleanCopy 3 7) (ownedLine 1 NoRecall) (withWriteback 3 7 (ownedLine 1 NoRecall)) writtenBack
+    ∷ givingUp call d askedElsewhere (dirtyCopy 6 8) (ownedLine 1 Flush) (withWriteback 6 8 (ownedLine 1 Flush)) writtenBack
+    ∷ givingUp call d answeredElsewhere (cleanCopy 3 7) (busy (ownedLine 1 NoRecall)) (withWriteback 3 7 (ownedLine 1 Downgrade)) writtenBack
+    ∷ []
+
+-- "evict does whichever fits the copy"; "drop (shared copies) and writeback (owned copies)"
 abbrev pub evictRows : List Row
 evictRows =
-    -- "shared: copy becomes none"
-    evicting Empty (sharedCopy 4 9) (sharedLine 4 9) (sharedLine 4 9) unmoved
-    ∷ evicting (asked WantStore 3 (Version (stamp 4))) (sharedCopy 4 9) (busy (ownedLine 0 NoRecall)) (busy (ownedLine 0 NoRecall)) unmoved
-    ∷ evicting (answered GrantRenew 4 15) (sharedCopy 4 9) (busy (sharedLine 4 15)) (busy (sharedLine 4 15)) unmoved
-    -- "Owned: its wts, rts and bytes become the writeback, copy none."
-    ∷ evicting Empty (cleanCopy 3 7) (ownedLine 1 NoRecall) (withWriteback 3 7 (ownedLine 1 NoRecall)) writtenBack
-    ∷ evicting askedElsewhere (dirtyCopy 6 8) (ownedLine 1 Flush) (withWriteback 6 8 (ownedLine 1 Flush)) writtenBack
-    ∷ evicting answeredElsewhere (cleanCopy 3 7) (busy (ownedLine 1 NoRecall)) (withWriteback 3 7 (ownedLine 1 Downgrade)) writtenBack
-    ∷ []
+    sharedGoes (Evict 1 2) evict ++ ownedGoes (Evict 1 2) evict ++ sharedGoes (Drop 1 2) dropped ++ ownedGoes (WriteBack 1 2) writeback
 
 -- ---- serve
 

@@ -3,9 +3,9 @@ use Prim.Native.Nat.{ℕ}
 use mathlib.Core.{Path._≡_, List.{List, [], _∷_, _++_}}
 use lib.ListN.{replicate}
 use Rattle.protocol.specs.{Stamps.stamp, Run.{Record, place}, Step.{load, store, fence, Reply, refused, done, commit}, Counts.{classOf, tally}}
-use Rattle.protocol.specs.declared.Call.{Call, the-variants.{Load, Store, Fence, Evict, Advance, Serve, Receive, Yield, Take}}
-use Rattle.protocol.specs.declared.Name.the-variants.{Ask, Recall, Share, Renew, Own, Drop, Evict as Evicted, Advance as Advanced}
-use Rattle.protocol.specs.declared.Name.the-variants.{Yield as Yielded, Take as Taken}
+use Rattle.protocol.specs.declared.Call.{Call, the-variants.{Load, Store, Fence, Evict, Drop, Writeback as WriteBack, Advance, Serve, Receive, Yield, Take}}
+use Rattle.protocol.specs.declared.Name.the-variants.{Ask, Recall, Share, Renew, Own, Drop as Dropped, Evict as Evicted, Advance as Advanced}
+use Rattle.protocol.specs.declared.Name.the-variants.{Writeback as WrittenBack, Yield as Yielded, Take as Taken}
 use Rattle.protocol.specs.declared.Class.{Class, the-variants.{Load as ALoad, Store as AStore, Fence as AFence, Ask as AnAsk, Share as AShare, Renew as ARenew}}
 use Rattle.protocol.specs.declared.Class.the-variants.{Own as AnOwn, Refused as ARefusal, Other}
 use Rattle.spelling.specs.Text.{text}
@@ -39,13 +39,16 @@ classes =
     ∷ counts (Receive 0) (done Share) Other
     ∷ counts (Receive 0) (done Renew) Other
     ∷ counts (Receive 0) (done Own) Other
-    ∷ counts (Receive 0) (done Drop) Other
+    ∷ counts (Receive 0) (done Dropped) Other
     ∷ counts (Evict 0 0) (done Evicted) Other
+    ∷ counts (Drop 0 0) (done Dropped) Other
+    ∷ counts (WriteBack 0 0) (done WrittenBack) Other
     ∷ counts (Advance 0 1) (done Advanced) Other
     ∷ counts (Yield 0) (done Yielded) Other
     ∷ counts (Take 0) (done Taken) Other
     ∷ counts (Load 0 0) (refused 20) ARefusal
     ∷ counts (Serve 0) (refused 21) ARefusal
+    ∷ counts (Drop 0 0) (refused 30) ARefusal
     ∷ []
 
 -- a call with its answer, n times

@@ -44,7 +44,7 @@ unfolding accepted applied meaning movedPrivate movedShared
 row-refused m call given c l n =
     rw (set-getD (m .state .core) c freshCore, set-getD (m .state .cell) (c * 64 + l) freshCell, set-getD (m .state .line) l freshLine)
 
--- a call that none of 1 to 6 refuses: the effect of its table, a refusal of 20 to 27 among them
+-- a call that none of 1 to 6 refuses: the effect of its table, a refusal of 20 and up among them
 pub step-accepted : (m : Machine) (call : Call) (given : Bytes) → inputRefusal m call (length given) ≡ 0 → step m call given ≡ accepted m call given (coreOf call (m .state)) (lineOf call (m .state)) (effectOf call (piecesAt (m .state) (coreOf call (m .state)) (lineOf call (m .state))) (m .state .opening))
 unfolding step refusal effectOf
 step-accepted m call given e =

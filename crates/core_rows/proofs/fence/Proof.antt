@@ -1,4 +1,4 @@
--- The clocks after a fence, which none of 20 to 27 refuses.
+-- The clocks after a fence, which none of 20 and up refuses.
 use borrow.Author.Needs.{needs}
 use Rattle.protocol.specs.{Pick.first, Refusals.{stateRules, stateRefusal}, Tables.{fenceTable, tableOf, effectOf}}
 use Rattle.core_rows.proofs.fence.Statement.{statement}
