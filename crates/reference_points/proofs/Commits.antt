@@ -1,9 +1,16 @@
 -- The commits are as the definitions give them: antt runs the calls.
 use mathlib.Core.Path.{refl}
 use Rattle.protocol.specs.Run.{run, commits}
-use Rattle.reference_points.specs.Commits.{CommitsTheorem}
+use Rattle.reference_points.specs.Commits.{exchanges, committed, givenUp, givenUpCommits, Commits, CommitsTheorem}
 use Rattle.reference_points.proofs.Rows.{calling}
 
-pub commits-theorem : CommitsTheorem
+first : Commits exchanges committed
 unfolding calling run commits
-commits-theorem = record { replies = refl; committed = refl }
+first = record { replies = refl; committed = refl }
+
+second : Commits givenUp givenUpCommits
+unfolding calling run commits
+second = record { replies = refl; committed = refl }
+
+pub commits-theorem : CommitsTheorem
+commits-theorem = (first, second)

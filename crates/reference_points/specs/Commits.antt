@@ -1,4 +1,4 @@
--- The commits of a short list of calls: which calls commit, and what a commit carries (01, demand 3).
+-- The commits of two short lists of calls: which calls commit, and what a commit carries (01, demand 3).
 use Prim.Native.Nat.{ℕ}
 use mathlib.Core.{Path._≡_, List.{List, [], _∷_, map}}
 use Rattle.protocol.specs.{Stamps.stamp, Buffers.Bytes, Machine.freshMachine, Run.{Entry, Record, Commit, place, run}}
@@ -22,8 +22,7 @@ entryOf (exchange k bs r) = record { call = k; bytes = bs }
 abbrev pub replyOf : Exchange → Reply
 replyOf (exchange k bs r) = r
 
--- core 1 stores to line 2, loads from it and makes a fence; core 0 loads line 0. Core 1 writes line 2 back, and core 0 loads it from the manager.
--- Only a store takes the bytes given to it
+-- core 1 stores to line 2, loads from it and makes a fence; core 0 loads line 0. Only a store takes the bytes given to it
 abbrev pub exchanges : List Exchange
 exchanges =
     exchange (Store 1 2) (7 ∷ 8 ∷ []) (done ask)
@@ -41,6 +40,15 @@ exchanges =
     ∷ exchange (Evict 0 0) [] (done evict)
     ∷ exchange (Take 0) [] (refused 25)
     ∷ exchange (Fence 0) [] (commit 0 (stamp 3) fence)
+    ∷ []
+
+-- core 1 stores to line 2 and writes it back; core 0 loads it from the manager and drops it (02, Two)
+abbrev pub givenUp : List Exchange
+givenUp =
+    exchange (Store 1 2) (7 ∷ 8 ∷ []) (done ask)
+    ∷ exchange (Serve 1) [] (done own)
+    ∷ exchange (Receive 1) [] (done own)
+    ∷ exchange (Store 1 2) (5 ∷ 6 ∷ []) (commit 1 (stamp 1) (store 2 (5 ∷ 6 ∷ [])))
     ∷ exchange (Drop 1 2) [] (refused 30)
     ∷ exchange (WriteBack 1 2) [] (done writeback)
     ∷ exchange (WriteBack 1 2) [] (refused 26)
@@ -49,7 +57,7 @@ exchanges =
     ∷ exchange (Serve 0) [] (done share)
     ∷ exchange (Receive 0) [] (done share)
     ∷ exchange (WriteBack 0 2) [] (refused 30)
-    ∷ exchange (Load 0 2) [] (commit 0 (stamp 3) (load 2 (5 ∷ 6 ∷ [])))
+    ∷ exchange (Load 0 2) [] (commit 0 (stamp 1) (load 2 (5 ∷ 6 ∷ [])))
     ∷ exchange (Drop 0 2) [] (done dropped)
     ∷ []
 
@@ -65,9 +73,15 @@ committed =
     ∷ aCommit 7 1 1 fence
     ∷ aCommit 12 0 3 (load 0 (0 ∷ 0 ∷ []))
     ∷ aCommit 15 0 3 fence
-    ∷ aCommit 24 0 3 (load 2 (5 ∷ 6 ∷ []))
     ∷ []
 
-pub record CommitsTheorem : Type 0 where
-  pub replies : map (λ (r : Record). r .reply) (run (map entryOf exchanges) 1 (freshMachine small) .records) ≡ map replyOf exchanges
-  pub committed : commitsOf small (map entryOf exchanges) ≡ committed
+abbrev pub givenUpCommits : List (Commit Bytes)
+givenUpCommits = aCommit 4 1 1 (store 2 (5 ∷ 6 ∷ [])) ∷ aCommit 13 0 1 (load 2 (5 ∷ 6 ∷ [])) ∷ []
+
+-- a list answers so, and has these commits
+pub record Commits (xs : List Exchange) (cs : List (Commit Bytes)) : Type 0 where
+  pub replies : map (λ (r : Record). r .reply) (run (map entryOf xs) 1 (freshMachine small) .records) ≡ map replyOf xs
+  pub committed : commitsOf small (map entryOf xs) ≡ cs
+
+abbrev pub CommitsTheorem : Type 0
+CommitsTheorem = Commits exchanges committed × Commits givenUp givenUpCommits
