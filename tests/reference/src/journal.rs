@@ -66,6 +66,7 @@ impl Form {
         }
     }
 
+    /// The other one of the two.
     pub fn other(self) -> Form {
         match self {
             Form::One => Form::Two,
