@@ -1,5 +1,5 @@
 /*
- * host.c: checks step lines, as a simulator would before it writes them into a journal.
+ * host.c: checks step lines, as a simulator would before it writes them into a `fabric=1` journal.
  *
  * Reads step lines from standard input, each with its newline, and prints of each one that can't stand in a journal its number in the
  * input, the number that it is refused with, and why. Exits with 0 if every line can, with 1 if one can't, and with 2 if reading or
@@ -28,7 +28,7 @@ static const char *reason(uint32_t number)
     case FABRIC_LINE_TOO_LONG:
         return "over 200 bytes, or no newline at its end";
     case FABRIC_LINE_NO_FORM:
-        return "not a step line";
+        return "not a step line of a fabric=1 journal";
     case FABRIC_LINE_WRONG_NUMBER:
         return "a number without digits, with another byte, with a leading zero, or above 4294967295";
     case FABRIC_LINE_WRONG_DATA:

@@ -9,6 +9,9 @@
  *
  *     cc -I/usr/local/include host.c -L/usr/local/lib -lfabric
  *
+ * A journal has one of two forms, which its first line names. This check keeps to the first, `fabric=1`. The second, `fabric=2`, has the
+ * steps op=drop and op=writeback in the place of op=evict; here both are 11, and a writer of such a journal has to see to them itself.
+ *
  * The journal is played by the program `steps`, and its format is in the manual page steps(1). examples/host.c of the repository is a
  * whole program.
  */
@@ -28,13 +31,13 @@ extern "C" {
 enum fabric_line {
     FABRIC_LINE_STEP = 0,          /* a step line of a `fabric=1` journal */
     FABRIC_LINE_TOO_LONG = 10,     /* over 200 bytes */
-    FABRIC_LINE_NO_FORM = 11,      /* none of the forms below; an empty line and a journal's first line are none either */
+    FABRIC_LINE_NO_FORM = 11,      /* none of the lines below; nor is an empty one, a journal's first, or an op=drop or op=writeback */
     FABRIC_LINE_WRONG_NUMBER = 12, /* a number without digits, with another byte, with a leading zero, or above 4294967295 */
     FABRIC_LINE_WRONG_DATA = 13    /* data that are empty, odd in count, or have a byte other than 0-9 a-f */
 };
 
 /*
- * Checks the `len` bytes at `line` as one step line of a `fabric=1` journal, without its newline. The forms are
+ * Checks the `len` bytes at `line` as one step line of a `fabric=1` journal, without its newline. Such a line is one of
  *
  *     op=load core=N line=N                op=evict core=N line=N
  *     op=store core=N line=N data=H        op=advance core=N by=N

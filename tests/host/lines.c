@@ -78,7 +78,7 @@ size_t damaged_line(struct random *r, uint8_t *line, size_t len)
                                           " by=1", " data=00", "op=load", "4294967296", "99999999999999999999", "1e3", "\303\251" };
     static const uint8_t odd_bytes[] = { 0, ' ', '\t', '\n', '\r', '0', '9', ':', '/', '=', 'A', 'F', 'G', 'N', 'H', '`', 'g', 127, 128, 255 };
     size_t at = random_below(r, (uint32_t)len + 1);
-    switch (random_below(r, 8)) {
+    switch (random_below(r, 9)) {
     case 0: /* a byte changed */
         if (at < len)
             line[at] = odd_bytes[random_below(r, sizeof odd_bytes)];
@@ -114,6 +114,13 @@ size_t damaged_line(struct random *r, uint8_t *line, size_t len)
             end++;
         memmove(line + at, line + end, len - end);
         return len - (end - at);
+    }
+    case 7: /* the kind changed to one that only a fabric=2 journal has */ {
+        const char *kind = random_below(r, 2) == 0 ? "op=drop" : "op=writeback";
+        const uint8_t *blank = memchr(line, ' ', len);
+        size_t end = blank != NULL ? (size_t)(blank - line) : len;
+        memmove(line, line + end, len - end);
+        return put_in(line, len - end, 0, kind, strlen(kind));
     }
     default: /* made long: around 200 bytes, and now and then far over */ {
         size_t to = random_below(r, 8) == 0 ? 800 : 196 + random_below(r, 10);

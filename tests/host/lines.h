@@ -15,10 +15,11 @@ struct random {
 /* A number below `n`. */
 uint32_t random_below(struct random *r, uint32_t n);
 
-/* A step line that the grammar has, of any kind; data of `bytes` bytes at most. The line's length. */
+/* A step line that a fabric=1 journal has, of any kind; data of `bytes` bytes at most. The line's length. */
 size_t right_line(struct random *r, uint8_t *line, uint32_t bytes);
 
-/* The line after one accident: a byte changed, put in, left out or doubled, a piece cut off, put on or moved, a number spoilt. */
+/* The line after one accident: a byte changed, put in or left out, a piece cut off or put in, a value left out, bytes put on, or the step's
+   kind changed to one of a fabric=2 journal. */
 size_t damaged_line(struct random *r, uint8_t *line, size_t len);
 
 #endif

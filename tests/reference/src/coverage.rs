@@ -1,6 +1,6 @@
-//! Which rows of 01 a run meets: every answer, every row of the step tables,
-//! every refusal with each of its reasons, every place where one can end a run.
-//! `rows` lists them; generated journals have to meet them all.
+//! Which rows of 01 and 02 a run meets: every answer, every row of the step
+//! tables, every refusal with each of its reasons, every place where one can end a
+//! run, in both forms. `rows` lists them; generated journals have to meet them all.
 //!
 //! Rows that no list of calls reaches are left out: refusals 1 and 2, which
 //! need a broken state or buffer, and answers that find an owned copy. A core's
@@ -9,7 +9,7 @@
 
 use std::collections::BTreeMap;
 
-use crate::journal::{self, has_unknown_kind, kind_name, MAX_JOURNAL, MAX_LINE};
+use crate::journal::{self, kind_name, unknown_kind, Form, MAX_JOURNAL, MAX_LINE};
 use crate::listing::done_name;
 use crate::machine::*;
 use crate::run::{Record, Run};
@@ -24,6 +24,7 @@ const ANSWERS: &[&str] = &[
     "done own",
     "done drop",
     "done evict",
+    "done writeback",
     "done advance",
     "done yield",
     "done take",
@@ -63,6 +64,16 @@ const STEPS: &[&str] = &[
     "evict: owned, no recall",
     "evict: owned, downgrade",
     "evict: owned, flush",
+    "drop: shared",
+    "drop: shared, a request for the line under way",
+    "drop: shared, a writeback of the line in flight",
+    "writeback: clean, no recall",
+    "writeback: clean, downgrade",
+    "writeback: clean, flush",
+    "writeback: dirty, no recall",
+    "writeback: dirty, downgrade",
+    "writeback: dirty, flush",
+    "writeback: rts past wts",
     "advance",
     "serve: owned, load, no recall",
     "serve: owned, load, downgrade",
@@ -104,6 +115,11 @@ const REFUSALS: &[&str] = &[
     "refused 11: empty journal",
     "refused 11: opening",
     "refused 11: unknown step kind",
+    "refused 11: evict under fabric=2",
+    "refused 11: drop under fabric=1",
+    "refused 11: writeback under fabric=1",
+    "refused 11: a first line of the journal's form",
+    "refused 11: a first line of the other form",
     "refused 11: another form",
     "refused 12: no digits",
     "refused 12: another byte",
@@ -124,6 +140,8 @@ const REFUSALS: &[&str] = &[
     "refused 3: store",
     "refused 3: fence",
     "refused 3: evict",
+    "refused 3: drop",
+    "refused 3: writeback",
     "refused 3: advance",
     "refused 3: serve",
     "refused 3: receive",
@@ -132,6 +150,8 @@ const REFUSALS: &[&str] = &[
     "refused 4: load",
     "refused 4: store",
     "refused 4: evict",
+    "refused 4: drop",
+    "refused 4: writeback",
     "refused 4: yield",
     "refused 4: take",
     "refused 4: and the data do not fit",
@@ -158,7 +178,15 @@ const REFUSALS: &[&str] = &[
     "refused 24: the owner has no copy, a writeback in flight",
     "refused 25: line shared",
     "refused 25: line owned",
-    "refused 26",
+    "refused 26: evict",
+    "refused 26: drop",
+    "refused 26: writeback",
+    "refused 26: drop, a writeback in flight",
+    "refused 26: writeback, a writeback in flight",
+    "refused 30: drop, owned clean",
+    "refused 30: drop, owned dirty",
+    "refused 30: writeback, shared",
+    "refused 30: writeback, shared, the line's owner",
     "refused 27: store",
     "refused 27: advance",
     "refused 27: serve",
@@ -190,6 +218,34 @@ const JOURNALS: &[&str] = &[
     "ended by 13: last step",
 ];
 
+/// 02, "Evict becomes drop and writeback": the second form, also where the rows
+/// above could be met in the first one alone.
+const FORM_2: &[&str] = &[
+    "fabric=2: receive: renew, no copy",
+    "fabric=2: serve: owned, a writeback in flight",
+    "fabric=2: refused 24: the owner has no copy, a writeback in flight",
+    "fabric=2: take: no recall",
+    "fabric=2: take: downgrade",
+    "fabric=2: take: flush",
+    "fabric=2: read to its end",
+    "fabric=2: ended by 7: opening",
+    "fabric=2: ended by 10: opening",
+    "fabric=2: ended by 11: opening",
+    "fabric=2: ended by 12: opening",
+    "fabric=2: ended by 10: first step",
+    "fabric=2: ended by 10: middle step",
+    "fabric=2: ended by 10: last step",
+    "fabric=2: ended by 11: first step",
+    "fabric=2: ended by 11: middle step",
+    "fabric=2: ended by 11: last step",
+    "fabric=2: ended by 12: first step",
+    "fabric=2: ended by 12: middle step",
+    "fabric=2: ended by 12: last step",
+    "fabric=2: ended by 13: first step",
+    "fabric=2: ended by 13: middle step",
+    "fabric=2: ended by 13: last step",
+];
+
 /// 02, "A tally of the traffic": counts that are not 0, and how runs end.
 const TALLIES: &[&str] = &[
     "tally: loads",
@@ -209,18 +265,26 @@ const TALLIES: &[&str] = &[
 
 /// Every row that generated journals must meet.
 pub fn rows() -> impl Iterator<Item = &'static str> {
-    [ANSWERS, STEPS, REFUSALS, JOURNALS, TALLIES].into_iter().flatten().copied()
+    [ANSWERS, STEPS, REFUSALS, JOURNALS, FORM_2, TALLIES].into_iter().flatten().copied()
 }
 
 /// How often each row was met.
 #[derive(Default)]
 pub struct Coverage {
     counts: BTreeMap<String, u64>,
+    /// Whether the journal that is played starts as one of the second form.
+    second: bool,
 }
 
 impl Coverage {
+    /// Counts a row, and in the second form also its row of `FORM_2`, if it has one.
     fn count(&mut self, row: impl Into<String>) {
-        *self.counts.entry(row.into()).or_insert(0) += 1;
+        let row = row.into();
+        let of_form_2 = format!("fabric=2: {row}");
+        if self.second && FORM_2.contains(&of_form_2.as_str()) {
+            *self.counts.entry(of_form_2).or_insert(0) += 1;
+        }
+        *self.counts.entry(row).or_insert(0) += 1;
     }
 
     pub fn add(&mut self, other: &Coverage) {
@@ -246,6 +310,7 @@ impl Coverage {
     /// Runs a journal, counts what occurs and gives the records. A second
     /// machine follows one step behind, to tell which row of a table applied.
     pub fn run(&mut self, journal: &[u8]) -> Vec<Record> {
+        self.second = journal.starts_with(Form::Two.start().as_bytes());
         self.count_limits(journal);
         let mut records = Vec::new();
         let mut run = Run::new(journal);
@@ -262,7 +327,7 @@ impl Coverage {
             }
             records.push(record);
         }
-        self.count_end(journal, &records);
+        self.count_end(journal, run.form(), &records);
         self.count_tally(&records, run.machine());
         records
     }
@@ -297,7 +362,7 @@ impl Coverage {
     }
 
     /// The number that ended the run, its reason and its place.
-    fn count_end(&mut self, journal: &[u8], records: &[Record]) {
+    fn count_end(&mut self, journal: &[u8], form: Option<Form>, records: &[Record]) {
         let Some(Record { place, step: None, answer: Answer::Refused(number) }) = records.last() else {
             return self.count("read to its end");
         };
@@ -315,6 +380,7 @@ impl Coverage {
             14 => self.count("refused 14"),
             11 if journal.is_empty() => self.count("refused 11: empty journal"),
             11 if *place == 0 => self.count("refused 11: opening"),
+            11 => self.count(format!("refused 11: {}", no_form(form.unwrap_or(Form::One), line))),
             _ => self.count(format!("refused {number}: {}", reason(*number, line))),
         }
     }
@@ -349,7 +415,7 @@ impl Coverage {
 
     /// Which sizes of an opening line lie outside the limits.
     fn count_limits_of(&mut self, line: &[u8]) {
-        let Ok(Sizes { cores, lines, width, lease }) = journal::opening(line) else {
+        let Ok((_, Sizes { cores, lines, width, lease })) = journal::opening(line) else {
             return;
         };
         let most = [MAX_CORES, MAX_LINES, MAX_WIDTH, MAX_LEASE as usize];
@@ -367,7 +433,10 @@ impl Coverage {
     fn count_step(&mut self, step: &Step, answer: Answer, before: &State) {
         match answer {
             Answer::Refused(number @ 3..=6) => self.count_input_refusal(number, step, before),
-            Answer::Refused(number) => self.count(state_refusal(number, step, before)),
+            Answer::Refused(number) => {
+                self.count(state_refusal(number, step, before));
+                self.count_eviction_refusal(number, step, before);
+            }
             _ => {
                 self.count(step_row(step, before));
                 self.count_asides(step, before);
@@ -382,16 +451,40 @@ impl Coverage {
     /// What else is to be met where a step is performed.
     fn count_asides(&mut self, step: &Step, before: &State) {
         match *step {
-            Step::Evict { core, line } if matches!(copy(before, core, line), PrivateCopy::Shared { .. }) => {
+            Step::Evict { core, line } | Step::Drop { core, line }
+                if matches!(copy(before, core, line), PrivateCopy::Shared { .. }) =>
+            {
+                let kind = kind_name(step);
                 if slot_is_on(before.cores[core as usize].slot, line) {
-                    self.count("evict: shared, a request for the line under way");
+                    self.count(format!("{kind}: shared, a request for the line under way"));
                 }
                 if before.lines[line as usize].writeback.is_some() {
-                    self.count("evict: shared, a writeback of the line in flight");
+                    self.count(format!("{kind}: shared, a writeback of the line in flight"));
+                }
+            }
+            Step::Writeback { core, line } => {
+                if matches!(copy(before, core, line), PrivateCopy::Owned { wts, rts, .. } if rts > wts) {
+                    self.count("writeback: rts past wts");
                 }
             }
             Step::Serve { core } => self.count_serve(core, before),
             _ => {}
+        }
+    }
+
+    /// Where a drop or writeback is refused beside a writeback in flight, and where
+    /// the line's owner holds a shared copy.
+    fn count_eviction_refusal(&mut self, number: u32, step: &Step, before: &State) {
+        let (Step::Drop { core, line } | Step::Writeback { core, line }) = *step else {
+            return;
+        };
+        let manager = before.lines[line as usize];
+        if number == 26 && manager.writeback.is_some() {
+            self.count(format!("refused 26: {}, a writeback in flight", kind_name(step)));
+        }
+        let shared = matches!(copy(before, core, line), PrivateCopy::Shared { .. });
+        if number == 30 && shared && manager.holder == (Holder::Owned { core }) {
+            self.count("refused 30: writeback, shared, the line's owner");
         }
     }
 
@@ -450,15 +543,27 @@ impl Coverage {
     }
 }
 
-/// The reason of a line's refusal by 10 to 13.
+/// Why a step line has no form of a journal's grammar.
+fn no_form(form: Form, line: &[u8]) -> &'static str {
+    match (unknown_kind(form, line), journal::opening(line)) {
+        (Some(b"evict"), _) => "evict under fabric=2",
+        (Some(b"drop"), _) => "drop under fabric=1",
+        (Some(b"writeback"), _) => "writeback under fabric=1",
+        (Some(_), _) => "unknown step kind",
+        (None, Ok((named, _))) if named == form => "a first line of the journal's form",
+        (None, Ok(_)) => "a first line of the other form",
+        (None, Err(_)) => "another form",
+    }
+}
+
+/// The reason of a line's refusal by 10, 12 or 13.
 fn reason(number: u32, line: &[u8]) -> &'static str {
     match number {
         10 if line.len() > MAX_LINE => "line over 200 bytes",
         10 => "no last newline",
-        11 if has_unknown_kind(line) => "unknown step kind",
         12 => numbers(line).find_map(wrong_number).unwrap_or("?"),
         13 => values(line).find(|(key, _)| *key == b"data").map_or("?", |(_, value)| wrong_data(value)),
-        _ => "another form",
+        _ => "?",
     }
 }
 
@@ -521,6 +626,10 @@ fn step_row(step: &Step, before: &State) -> String {
             PrivateCopy::Owned { .. } => format!("evict: owned, {}", recall_name(before, line)),
             _ => "evict: shared".into(),
         },
+        Step::Drop { core, line } => format!("drop: {}", state_name(copy(before, core, line))),
+        Step::Writeback { core, line } => {
+            format!("writeback: {}, {}", cleanness(copy(before, core, line)), recall_name(before, line))
+        }
         Step::Advance { .. } => "advance".into(),
         Step::Serve { core } => format!("serve: {}", serve_row(clocks(core).slot, before)),
         Step::Receive { core } => format!("receive: {}", receive_row(core, before)),
@@ -528,10 +637,27 @@ fn step_row(step: &Step, before: &State) -> String {
             let Holder::Owned { core } = before.lines[line as usize].holder else {
                 return "yield: line not owned".into();
             };
-            let dirty = matches!(copy(before, core, line), PrivateCopy::Owned { dirty: true, .. });
-            format!("yield: {}, {}", recall_name(before, line), if dirty { "dirty" } else { "clean" })
+            format!("yield: {}, {}", recall_name(before, line), cleanness(copy(before, core, line)))
         }
         Step::Take { line } => format!("take: {}", recall_name(before, line)),
+    }
+}
+
+/// What state a copy has.
+fn state_name(copy: PrivateCopy) -> &'static str {
+    match copy {
+        PrivateCopy::None => "no copy",
+        PrivateCopy::Shared { .. } => "shared",
+        PrivateCopy::Owned { .. } => "owned",
+    }
+}
+
+/// Whether an owned copy was stored to.
+fn cleanness(copy: PrivateCopy) -> &'static str {
+    match copy {
+        PrivateCopy::Owned { dirty: true, .. } => "dirty",
+        PrivateCopy::Owned { dirty: false, .. } => "clean",
+        _ => "not owned",
     }
 }
 
@@ -605,18 +731,14 @@ fn receive_row(core: u32, before: &State) -> String {
     }
 }
 
-/// 20 to 27 with the reason.
+/// 20 to 27 or 30 with the reason.
 fn state_refusal(number: u32, step: &Step, before: &State) -> String {
     let slot_of = |core: u32| match before.cores[core as usize].slot {
         Slot::Empty => "slot empty",
         Slot::Asked { .. } => "slot asked",
         Slot::Answered { .. } => "slot answered",
     };
-    let held = |core, line| match copy(before, core, line) {
-        PrivateCopy::None => "no copy",
-        PrivateCopy::Shared { .. } => "shared",
-        PrivateCopy::Owned { .. } => "owned",
-    };
+    let held = |core, line| state_name(copy(before, core, line));
     let owner = |line: u32| match before.lines[line as usize].holder {
         Holder::Owned { core } => Some(core),
         Holder::Shared { .. } => None,
@@ -641,7 +763,8 @@ fn state_refusal(number: u32, step: &Step, before: &State) -> String {
             Some(_) => "line owned".into(),
             None => "line shared".into(),
         },
-        (26, _) => return "refused 26".into(),
+        (30, Step::Drop { core, line }) => format!("drop, owned {}", cleanness(copy(before, core, line))),
+        (30, Step::Writeback { core, line }) => format!("writeback, {}", held(core, line)),
         _ => kind_name(step).into(),
     };
     format!("refused {number}: {reason}")

@@ -1,22 +1,23 @@
 //! Damage to journals: every refusal number that a journal can reach, at every
 //! position, and the edges of every limit.
 
-use crate::journal::{write_opening, MAX_JOURNAL};
+use crate::journal::{write_opening, Form, MAX_JOURNAL};
 use crate::machine::Sizes;
 use crate::random::Random;
 
-/// Damages a good journal in one of many ways.
-pub fn damage(random: &mut Random, text: Vec<u8>) -> Vec<u8> {
+/// Damages a good journal of a form in one of many ways.
+pub fn damage(random: &mut Random, form: Form, text: Vec<u8>) -> Vec<u8> {
     match random.below(100) {
-        0..=57 => with_bad_line(random, text),
-        58..=67 => with_bad_bytes(random, text),
-        68..=72 => without_last_newline(text),
-        73..=76 => cut(random, text),
-        77..=82 => with_sizes_outside(random, text),
-        83..=89 => of_length(random, text),
-        90..=93 => whole_oddity(random),
-        94..=95 => with_carriage_returns(random, text),
-        96..=97 => without_opening(text),
+        0..=54 => with_bad_line(random, form, text),
+        55..=63 => with_bad_bytes(random, text),
+        64..=68 => without_last_newline(text),
+        69..=72 => cut(random, text),
+        73..=78 => with_sizes_outside(random, form, text),
+        79..=85 => of_length(random, text),
+        86..=88 => whole_oddity(random, form),
+        89..=90 => with_carriage_returns(random, text),
+        91..=92 => without_opening(text),
+        93..=96 => with_other_start(form, text),
         _ => with_second_opening(random, text),
     }
 }
@@ -39,10 +40,10 @@ fn position(random: &mut Random, lines: usize) -> usize {
 }
 
 /// Puts a bad line somewhere, instead of a good one or between two.
-fn with_bad_line(random: &mut Random, text: Vec<u8>) -> Vec<u8> {
+fn with_bad_line(random: &mut Random, form: Form, text: Vec<u8>) -> Vec<u8> {
     let mut lines = lines(&text);
     let at = position(random, lines.len());
-    let mut bad = if at == 0 { bad_opening(random) } else { bad_step(random) };
+    let mut bad = if at == 0 { bad_opening(random, form) } else { bad_step(random, form) };
     bad.push(b'\n');
     if at < lines.len() && (at == 0 || random.percent(50)) {
         lines[at] = bad;
@@ -52,37 +53,50 @@ fn with_bad_line(random: &mut Random, text: Vec<u8>) -> Vec<u8> {
     lines.concat()
 }
 
-/// A step line with something wrong; in a few cases it turns out to be right.
-pub fn bad_step(random: &mut Random) -> Vec<u8> {
-    match random.below(7) {
+/// A step line of a form with something wrong; in a few cases it turns out to be
+/// right.
+pub fn bad_step(random: &mut Random, form: Form) -> Vec<u8> {
+    match random.below(8) {
         0 => long_line(random),
         1 | 2 => no_form(random),
-        3 | 4 => bad_number(random),
-        5 => bad_data(random),
+        3 => of_other_form(random, form),
+        4 | 5 => bad_number(random, form),
+        6 => bad_data(random),
         _ => several_wrongs(random),
     }
 }
 
-/// An opening line with something wrong.
-fn bad_opening(random: &mut Random) -> Vec<u8> {
+/// An opening line with something wrong, of a form where it has one.
+fn bad_opening(random: &mut Random, form: Form) -> Vec<u8> {
     const NO_FORM: &[&str] = &[
         "",
         " ",
         "fabric=1",
-        "fabric=2 cores=1 lines=1 width=1 lease=1",
+        "fabric=2",
+        "fabric=0 cores=1 lines=1 width=1 lease=1",
+        "fabric=6 cores=1 lines=1 width=1 lease=1",
         "fabric=11 cores=1 lines=1 width=1 lease=1",
+        "fabric=12 cores=1 lines=1 width=1 lease=1",
         "fabric=01 cores=1 lines=1 width=1 lease=1",
+        "fabric=02 cores=1 lines=1 width=1 lease=1",
         "fabric= cores=1 lines=1 width=1 lease=1",
         "fabric=1 cores=1 lines=1 width=1",
+        "fabric=2 cores=1 lines=1 width=1",
         "fabric=1 cores=1 lines=1 width=1 lease=1 ",
+        "fabric=2 cores=1 lines=1 width=1 lease=1 ",
         " fabric=1 cores=1 lines=1 width=1 lease=1",
         "fabric=1  cores=1 lines=1 width=1 lease=1",
+        "fabric=2  cores=1 lines=1 width=1 lease=1",
         "fabric=1 lines=1 cores=1 width=1 lease=1",
+        "fabric=2 cores=1 width=1 lines=1 lease=1",
         "fabric=1 cores=1 lines=1 width=1 lease=1 x=1",
+        "fabric=1 cores=1 lines=1 width=1 lease=1 cap=1",
+        "fabric=2 cores=1 lines=1 width=1 lease=1 cap=1",
         "fabric=1\tcores=1\tlines=1\twidth=1\tlease=1",
         "FABRIC=1 cores=1 lines=1 width=1 lease=1",
         "op=take line=0",
     ];
+    let start = form.start();
     match random.below(4) {
         0 => random.pick(NO_FORM).as_bytes().to_vec(),
         1 => long_line(random),
@@ -92,11 +106,12 @@ fn bad_opening(random: &mut Random) -> Vec<u8> {
                 values[random.below(4) as usize] = wrong_number(random);
             }
             let [cores, lines, width, lease] = values;
-            format!("fabric=1 cores={cores} lines={lines} width={width} lease={lease}").into_bytes()
+            format!("{start} cores={cores} lines={lines} width={width} lease={lease}").into_bytes()
         }
         _ => {
-            let value = long_value(random, "fabric=1 cores=1 lines=1 width=1 lease=".len(), b"0123456789");
-            [b"fabric=1 cores=1 lines=1 width=1 lease=", &value[..]].concat()
+            let keys = format!("{start} cores=1 lines=1 width=1 lease=");
+            let value = long_value(random, keys.len(), b"0123456789");
+            [keys.as_bytes(), &value[..]].concat()
         }
     }
 }
@@ -180,10 +195,27 @@ fn no_form(random: &mut Random) -> Vec<u8> {
         "op=load core=0 core=0 line=0",
         "op=load\0core=0 line=0",
         "op=load core=0 lines=0",
-        "op=drop core=0 line=0",
+        "op=drop core=0",
+        "op=drop line=0 core=0",
+        "op=drop core=0 line=0 ",
+        "op=drops core=0 line=0",
         "op=writeback line=0",
+        "op=writeback core=0 line=0 data=00",
+        "op=write core=0 line=0",
+        "op=writeback  core=0 line=0",
+        "fabric=2",
     ];
     random.pick(NO_FORM).as_bytes().to_vec()
+}
+
+/// A line of the other form that is none of this one.
+fn of_other_form(random: &mut Random, form: Form) -> Vec<u8> {
+    let (core, line) = (fair_number(random), fair_number(random));
+    let kind = match form {
+        Form::One => random.pick(&["drop", "writeback"]),
+        Form::Two => "evict",
+    };
+    format!("op={kind} core={core} line={line}").into_bytes()
 }
 
 /// A value that is no number.
@@ -238,8 +270,8 @@ fn fair_number(random: &mut Random) -> String {
     random.pick(&["0", "0", "0", "1", "2", "15", "63", "4294967295", "100"]).to_string()
 }
 
-/// A line of a known form with one number wrong.
-fn bad_number(random: &mut Random) -> Vec<u8> {
+/// A line of a known kind with one number wrong.
+fn bad_number(random: &mut Random, form: Form) -> Vec<u8> {
     let mut values = [fair_number(random), fair_number(random)];
     let kind = random.below(9);
     let wrong = if kind < 4 { random.below(2) } else { 0 };
@@ -247,7 +279,13 @@ fn bad_number(random: &mut Random) -> Vec<u8> {
     let [one, two] = values;
     let text = match kind {
         0 => format!("op=load core={one} line={two}"),
-        1 => format!("op=evict core={one} line={two}"),
+        1 => {
+            let eviction = match form {
+                Form::One => "evict",
+                Form::Two => random.pick(&["drop", "writeback"]),
+            };
+            format!("op={eviction} core={one} line={two}")
+        }
         2 => format!("op=store core={one} line={two} data=00"),
         3 => format!("op=advance core={one} by={two}"),
         4 => format!("op=fence core={one}"),
@@ -307,7 +345,7 @@ fn cut(random: &mut Random, mut text: Vec<u8>) -> Vec<u8> {
 }
 
 /// An opening with one or more sizes outside the limits, or just inside.
-fn with_sizes_outside(random: &mut Random, text: Vec<u8>) -> Vec<u8> {
+fn with_sizes_outside(random: &mut Random, form: Form, text: Vec<u8>) -> Vec<u8> {
     let mut sizes = Sizes { cores: 1, lines: 1, width: 1, lease: 1 };
     for _ in 0..random.between(1, 2) {
         match random.below(4) {
@@ -319,7 +357,7 @@ fn with_sizes_outside(random: &mut Random, text: Vec<u8>) -> Vec<u8> {
     }
     let mut lines = lines(&text);
     lines[0].clear();
-    write_opening(&mut lines[0], &sizes);
+    write_opening(&mut lines[0], form, &sizes);
     lines[0].push(b'\n');
     lines.concat()
 }
@@ -356,8 +394,8 @@ fn of_length(random: &mut Random, mut text: Vec<u8>) -> Vec<u8> {
     text
 }
 
-/// Whole inputs of a few bytes.
-fn whole_oddity(random: &mut Random) -> Vec<u8> {
+/// Whole inputs of a few bytes, of a form where they have one.
+fn whole_oddity(random: &mut Random, form: Form) -> Vec<u8> {
     const ODD: &[&str] = &[
         "",
         "",
@@ -373,7 +411,7 @@ fn whole_oddity(random: &mut Random) -> Vec<u8> {
         "fabric=1 cores=1 lines=1 width=1 lease=1\n ",
         "fabric=1 cores=0 lines=1 width=1 lease=1",
     ];
-    random.pick(ODD).as_bytes().to_vec()
+    random.pick(ODD).replace(Form::One.start(), form.start()).into_bytes()
 }
 
 /// Ends every line, or every line after the opening, with a carriage return.
@@ -390,10 +428,17 @@ fn without_opening(text: Vec<u8>) -> Vec<u8> {
     lines(&text)[1..].concat()
 }
 
+/// Lets a journal start as one of the other form.
+fn with_other_start(form: Form, text: Vec<u8>) -> Vec<u8> {
+    [form.other().start().as_bytes(), &text[form.start().len()..]].concat()
+}
+
+/// Puts a first line of either form between two lines.
 fn with_second_opening(random: &mut Random, text: Vec<u8>) -> Vec<u8> {
     let mut lines = lines(&text);
     let at = position(random, lines.len());
-    let opening = lines[0].clone();
+    let rest = &lines[0][Form::One.start().len()..];
+    let opening = [random.pick(&Form::ALL).start().as_bytes(), rest].concat();
     lines.insert(at, opening);
     lines.concat()
 }

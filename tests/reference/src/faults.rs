@@ -7,7 +7,7 @@
 use std::borrow::Cow;
 use std::ops::Range;
 
-use crate::journal::{has_unknown_kind, kind_name};
+use crate::journal::{self, kind_name, unknown_kind, Form};
 use crate::listing::Counts;
 use crate::machine::*;
 use crate::run::Record;
@@ -63,6 +63,8 @@ faults! {
     SkipStore "skip-store" "store steps are skipped in silence"
     SkipFence "skip-fence" "fence steps are skipped in silence"
     SkipEvict "skip-evict" "evict steps are skipped in silence"
+    SkipDrop "skip-drop" "drop steps are skipped in silence"
+    SkipWriteback "skip-writeback" "writeback steps are skipped in silence"
     SkipAdvance "skip-advance" "advance steps are skipped in silence"
     SkipServe "skip-serve" "serve steps are skipped in silence"
     SkipReceive "skip-receive" "receive steps are skipped in silence"
@@ -73,6 +75,8 @@ faults! {
     IdleStore "idle-store" "a store answers rightly and changes nothing"
     IdleFence "idle-fence" "a fence answers rightly and changes nothing"
     IdleEvict "idle-evict" "an evict answers rightly and changes nothing"
+    IdleDrop "idle-drop" "a drop answers rightly and changes nothing"
+    IdleWriteback "idle-writeback" "a writeback answers rightly and changes nothing"
     IdleAdvance "idle-advance" "an advance answers rightly and changes nothing"
     IdleServe "idle-serve" "a serve answers rightly and changes nothing"
     IdleReceive "idle-receive" "a receive answers rightly and changes nothing"
@@ -98,6 +102,25 @@ faults! {
     WritebacksAtLine0 "writebacks-at-line-0" "the bytes of every writeback lie at line 0's place"
     RefusalChangesClock "refusal-changes-clock" "a refused step changes a timestamp"
     RefusalChangesBytes "refusal-changes-bytes" "a refused step changes a byte"
+    // Drop and writeback.
+    Early30 "early-30" "30 for a drop or writeback without a copy"
+    Early30Evict "early-30-evict" "30 for an evict of an owned copy"
+    Refusal26For30 "26-for-30" "26 for a drop or writeback of a copy of the other state"
+    Refusal30LosesCopy "30-loses-copy" "a drop or writeback that is refused with 30 loses the copy"
+    DropTakesOwned "drop-takes-owned" "a drop takes an owned copy too, whose bytes are lost"
+    WritebackTakesShared "writeback-takes-shared" "a writeback takes a shared copy too"
+    WritebackLosesRts "writeback-loses-rts" "a writeback has its wts in the place of its rts"
+    WritebackLosesWts "writeback-loses-wts" "a writeback has a wts of 0"
+    WritebackLosesBytes "writeback-loses-bytes" "a writeback moves no bytes"
+    WritebackLeavesCopy "writeback-leaves-copy" "a writeback leaves the owned copy"
+    WritebackLeavesShared "writeback-leaves-shared" "a writeback leaves a shared copy, as a downgrade does"
+    WritebackTakenAtOnce "writeback-taken-at-once" "a writeback needs no take"
+    WritebackClearsRecall "writeback-clears-recall" "a writeback clears the recall"
+    DropAsEvict "drop-as-evict" "a drop is read as an evict"
+    WritebackAsEvict "writeback-as-evict" "a writeback is read as an evict"
+    DropAnswersEvict "drop-answers-evict" "a drop answers evict"
+    WritebackAnswersEvict "writeback-answers-evict" "a writeback answers evict"
+    EvictAnswersByCopy "evict-answers-by-copy" "an evict answers drop or writeback, whichever it did"
     // The driver.
     RefusalAsCommit "refusal-as-commit" "the end line counts a refusal as a commit"
     OtherCoreTs "other-core-ts" "a commit prints the lts of core 0"
@@ -105,7 +128,7 @@ faults! {
     Takes65537 "takes-65537" "a journal of 65,537 bytes is taken"
     StopsAfter64K "stops-after-64k" "the listing ends after its first 65,536 bytes"
     LeaseAboveTaken "lease-above-taken" "a lease above 1,000 is taken"
-    WidthAboveTaken "width-above-taken" "a width above 64 is taken"
+    WidthAboveTaken "width-above-taken" "a width of 65 is taken"
     ZeroLinesTaken "zero-lines-taken" "an engine without lines is opened"
     // The reader.
     UnknownStepSkipped "unknown-step-skipped" "a line with an unknown step kind is passed over"
@@ -115,11 +138,21 @@ faults! {
     TabSkipped "tab-skipped" "a tab is passed over"
     EmptyDataTaken "empty-data-taken" "empty data are one zero byte"
     OddDataCut "odd-data-cut" "the last digit of odd data is left out"
+    // The reader's two forms.
+    EvictInForm2 "evict-in-form-2" "evict is a step of fabric=2 too"
+    DropInForm1 "drop-in-form-1" "drop is a step of fabric=1 too"
+    WritebackInForm1 "writeback-in-form-1" "writeback is a step of fabric=1 too"
+    Form2AsForm1 "form-2-as-form-1" "a first line fabric=2 opens a journal of fabric=1"
+    Form1AsForm2 "form-1-as-form-2" "a first line fabric=1 opens a journal of fabric=2"
+    CapPassedOver "cap-passed-over" "a cap after the lease of a first line is passed over"
+    LaterOpeningPassedOver "later-opening-passed-over" "a first line further on is passed over"
     // The tally.
     TallyReceivedShare "tally-received-share" "the tally counts a share where it is received too"
     TallyReceivedRenew "tally-received-renew" "the tally counts a renewal where it is received too"
     TallyReceivedOwn "tally-received-own" "the tally counts a grant of ownership where it is received too"
     TallyDropAsRenew "tally-drop-as-renew" "the tally counts a renewal that is dropped as one more"
+    TallyDropStepAsRenew "tally-drop-step-as-renew" "the tally counts a drop step as a renewal"
+    TallyWritebackAsOwn "tally-writeback-as-own" "the tally counts a writeback as a grant of ownership"
     TallyRecallAsAsk "tally-recall-as-ask" "the tally counts a recall as a request"
     TallyRefusalAsAsk "tally-refusal-as-ask" "the tally counts a load or store that is refused with 20 as a request"
     TallySwapsCommits "tally-swaps-commits" "the tally counts loads as stores, and stores as loads"
@@ -183,6 +216,12 @@ impl Fault {
             (Fault::TallyDropAsRenew, Step::Receive { core }, Answer::Drop) => {
                 taken_for(Step::Serve { core }, Answer::Renew)
             }
+            (Fault::TallyDropStepAsRenew, Step::Drop { core, .. }, Answer::Drop) => {
+                taken_for(Step::Serve { core }, Answer::Renew)
+            }
+            (Fault::TallyWritebackAsOwn, Step::Writeback { core, .. }, Answer::Writeback) => {
+                taken_for(Step::Serve { core }, Answer::Own)
+            }
             (Fault::TallyRecallAsAsk, _, Answer::Recall)
             | (Fault::TallyRefusalAsAsk, _, Answer::Refused(20)) => taken_for(step, Answer::Ask),
             (Fault::TallySwapsCommits, _, Answer::Commit(Commit::Load { core, line, ts, data })) => {
@@ -195,23 +234,62 @@ impl Fault {
         }
     }
 
-    /// Whether these sizes are taken although they lie outside the limits.
+    /// Whether these sizes are taken although one of them lies outside its limits.
     pub fn takes_sizes(self, sizes: Sizes) -> bool {
+        let (taken, inside) = match self {
+            Fault::LeaseAboveTaken => (sizes.lease > MAX_LEASE, Sizes { lease: 1, ..sizes }),
+            Fault::WidthAboveTaken => (sizes.width as usize == MAX_WIDTH + 1, Sizes { width: 1, ..sizes }),
+            Fault::ZeroLinesTaken => (sizes.lines == 0, Sizes { lines: 1, ..sizes }),
+            _ => return false,
+        };
+        taken && inside.inside_limits()
+    }
+
+    /// Whether a step line of a journal of this form is passed over, place and all.
+    pub fn passes_over(self, form: Form, line: &[u8]) -> bool {
         match self {
-            Fault::LeaseAboveTaken => sizes.lease > MAX_LEASE,
-            Fault::WidthAboveTaken => sizes.width as usize > MAX_WIDTH,
-            Fault::ZeroLinesTaken => sizes.lines == 0,
+            Fault::UnknownStepSkipped => unknown_kind(form, line).is_some(),
+            Fault::LaterOpeningPassedOver => journal::opening(line).is_ok(),
             _ => false,
         }
     }
 
-    /// Whether a step line is passed over, place and all.
-    pub fn passes_over(self, line: &[u8]) -> bool {
-        self == Fault::UnknownStepSkipped && has_unknown_kind(line)
+    /// The line that a reader with this fault takes a first line for.
+    pub fn opens_as(self, line: &[u8]) -> Cow<'_, [u8]> {
+        let with_start = |from: Form, to: Form| match line.strip_prefix(from.start().as_bytes()) {
+            Some(rest) => Cow::Owned([to.start().as_bytes(), rest].concat()),
+            None => Cow::Borrowed(line),
+        };
+        match self {
+            Fault::Form2AsForm1 => with_start(Form::Two, Form::One),
+            Fault::Form1AsForm2 => with_start(Form::One, Form::Two),
+            Fault::CapPassedOver => {
+                let mut words: Vec<&[u8]> = line.split(|&byte| byte == b' ').collect();
+                words.truncate(words.len() - usize::from(words[words.len() - 1].starts_with(b"cap=")));
+                Cow::Owned(words.join(&b' '))
+            }
+            _ => Cow::Borrowed(line),
+        }
+    }
+
+    /// What a reader with this fault reads in a step line of a journal of this form.
+    pub fn step(self, form: Form, line: &[u8]) -> Result<Step, u32> {
+        let line = self.reads_as(line);
+        let takes = match self {
+            Fault::EvictInForm2 => "evict",
+            Fault::DropInForm1 => "drop",
+            Fault::WritebackInForm1 => "writeback",
+            _ => "",
+        };
+        let form = match unknown_kind(form, &line) {
+            Some(kind) if kind == takes.as_bytes() => form.other(),
+            _ => form,
+        };
+        journal::step(form, &line)
     }
 
     /// The line that a reader with this fault takes a step line for.
-    pub fn reads_as(self, line: &[u8]) -> Cow<'_, [u8]> {
+    fn reads_as(self, line: &[u8]) -> Cow<'_, [u8]> {
         let words = |change: &dyn Fn(&mut Vec<u8>)| {
             let changed = line.split(|&byte| byte == b' ').map(|word| {
                 let mut word = word.to_vec();
@@ -249,6 +327,15 @@ impl Fault {
         }
     }
 
+    /// The step that is made in the place of a step.
+    fn made_as(self, step: Step) -> Step {
+        match (self, step) {
+            (Fault::DropAsEvict, Step::Drop { core, line })
+            | (Fault::WritebackAsEvict, Step::Writeback { core, line }) => Step::Evict { core, line },
+            _ => step,
+        }
+    }
+
     /// Whether this fault skips a step of this kind.
     fn skips(self, step: &Step) -> bool {
         self.name().strip_prefix("skip-") == Some(kind_name(step))
@@ -274,6 +361,7 @@ impl Faulty {
 
     /// One step. Nothing comes back if the fault skips it.
     pub fn step(&mut self, step: &Step) -> Option<Answer> {
+        let step = &self.fault.made_as(*step);
         if self.fault == Fault::None {
             return Some(self.machine.step(step));
         }
@@ -301,7 +389,10 @@ impl Faulty {
             Fault::LaterServesMoveNothing => self.serve_moves_nothing(step, before, answer, 1),
             Fault::MovesNothing => self.moves_nothing(step, before, answer),
             Fault::Early20 => self.early_20(step, before, answer),
-            Fault::Early22 => self.refuse_if(answer == Answer::Drop, before, 22, answer),
+            Fault::Early22 => {
+                let late = matches!(step, Step::Receive { .. }) && answer == Answer::Drop;
+                self.refuse_if(late, before, 22, answer)
+            }
             Fault::Early27Store | Fault::Early27Advance | Fault::Early27Serve => {
                 self.early_27(step, before, answer)
             }
@@ -337,6 +428,27 @@ impl Faulty {
             }
             Fault::AnswersOverWritebacks => self.answers_at(step, before, answer, Machine::writeback_place),
             Fault::WritebacksAtLine0 => self.writebacks_at_line_0(step, before, answer),
+            Fault::Early30 | Fault::Refusal26For30 => self.other_number(step, answer),
+            Fault::Early30Evict => {
+                let owned = matches!(Self::evicted(step, before), Some((_, _, PrivateCopy::Owned { .. })));
+                self.refuse_if(owned && answer == Answer::Evict, before, 30, answer)
+            }
+            Fault::Refusal30LosesCopy => self.refusal_30_loses_copy(step, answer),
+            Fault::DropTakesOwned | Fault::WritebackTakesShared => {
+                self.takes_other_state(step, before, answer)
+            }
+            Fault::WritebackLosesRts
+            | Fault::WritebackLosesWts
+            | Fault::WritebackLosesBytes
+            | Fault::WritebackLeavesCopy
+            | Fault::WritebackLeavesShared
+            | Fault::WritebackTakenAtOnce => self.bad_writeback(step, before, answer),
+            Fault::WritebackClearsRecall => {
+                self.clears_recall(answer == Answer::Writeback, step.line(), answer)
+            }
+            Fault::DropAnswersEvict | Fault::WritebackAnswersEvict | Fault::EvictAnswersByCopy => {
+                self.other_answer(step, before, answer)
+            }
             Fault::RefusalChangesClock => self.refusal_changes_clock(step, answer),
             Fault::RefusalChangesBytes => self.refusal_changes_bytes(answer),
             Fault::OtherCoreTs => self.other_core_ts(answer),
@@ -408,7 +520,7 @@ impl Faulty {
     }
 
     fn renewal_revives(&mut self, step: &Step, before: &Machine, answer: Answer) -> Answer {
-        let (Answer::Drop, Some(core)) = (answer, step.core()) else {
+        let (Answer::Drop, Step::Receive { core }) = (answer, *step) else {
             return answer;
         };
         if let Slot::Answered { line, wts, rts, .. } = before.state.cores[core as usize].slot {
@@ -534,7 +646,7 @@ impl Faulty {
         let Some((core, line, PrivateCopy::Shared { wts, rts })) = Self::copy_before(step, before) else {
             return answer;
         };
-        if answer == Answer::Evict {
+        if matches!(answer, Answer::Evict | Answer::Drop) {
             self.machine.state.lines[line as usize].writeback = makes.then_some(Writeback { wts, rts });
             let to = before.writeback_place(line);
             self.machine.shared[to].copy_from_slice(&before.private[before.private_place(core, line)]);
@@ -585,7 +697,11 @@ impl Faulty {
         let owned = matches!(Self::copy_before(step, before), Some((_, _, PrivateCopy::Owned { .. })));
         let place = before.writeback_place(0);
         match (*step, answer) {
-            (Step::Evict { line, .. }, Answer::Evict) if owned => self.write_back_at(place, line, before),
+            (Step::Evict { line, .. }, Answer::Evict) | (Step::Writeback { line, .. }, Answer::Writeback)
+                if owned =>
+            {
+                self.write_back_at(place, line, before)
+            }
             (Step::Yield { line }, Answer::Yield) => self.write_back_at(place, line, before),
             (Step::Take { line }, Answer::Take) => {
                 let to = before.manager_place(line);
@@ -670,6 +786,87 @@ impl Faulty {
             }
         }
         answer
+    }
+
+    /// The copy that an evict, drop or writeback named, before it.
+    fn evicted(step: &Step, before: &Machine) -> Option<(u32, u32, PrivateCopy)> {
+        let evicts = matches!(step, Step::Evict { .. } | Step::Drop { .. } | Step::Writeback { .. });
+        Self::copy_before(step, before).filter(|_| evicts)
+    }
+
+    /// 30 in the place of 26, or the other way round; evict keeps its own.
+    fn other_number(&self, step: &Step, answer: Answer) -> Answer {
+        let evict = matches!(step, Step::Evict { .. });
+        match (self.fault, answer) {
+            (Fault::Early30, Answer::Refused(26)) if !evict => Answer::Refused(30),
+            (Fault::Refusal26For30, Answer::Refused(30)) => Answer::Refused(26),
+            _ => answer,
+        }
+    }
+
+    fn refusal_30_loses_copy(&mut self, step: &Step, answer: Answer) -> Answer {
+        if let (Answer::Refused(30), Some(core), Some(line)) = (answer, step.core(), step.line()) {
+            self.machine.set_copy(core, line, PrivateCopy::None);
+        }
+        answer
+    }
+
+    /// A drop of an owned copy just forgets it; a writeback of a shared one writes
+    /// it back.
+    fn takes_other_state(&mut self, step: &Step, before: &Machine, answer: Answer) -> Answer {
+        let (Some((core, line, copy)), Answer::Refused(30)) = (Self::evicted(step, before), answer) else {
+            return answer;
+        };
+        match (self.fault, copy) {
+            (Fault::DropTakesOwned, PrivateCopy::Owned { .. }) => {
+                self.machine.set_copy(core, line, PrivateCopy::None);
+                Answer::Drop
+            }
+            (Fault::WritebackTakesShared, PrivateCopy::Shared { wts, rts }) => {
+                self.machine.set_copy(core, line, PrivateCopy::Owned { wts, rts, dirty: false });
+                self.machine.step(step)
+            }
+            _ => answer,
+        }
+    }
+
+    /// A writeback that loses a part of what it brings, leaves a copy, or is taken
+    /// at once.
+    fn bad_writeback(&mut self, step: &Step, before: &Machine, answer: Answer) -> Answer {
+        let (Some((core, line, PrivateCopy::Owned { wts, rts, dirty })), Answer::Writeback) =
+            (Self::evicted(step, before), answer)
+        else {
+            return answer;
+        };
+        let in_flight = &mut self.machine.state.lines[line as usize].writeback;
+        match self.fault {
+            Fault::WritebackLosesRts => *in_flight = Some(Writeback { wts, rts: wts }),
+            Fault::WritebackLosesWts => *in_flight = Some(Writeback { wts: 0, rts }),
+            Fault::WritebackLosesBytes => self.machine.shared.copy_from_slice(&before.shared),
+            Fault::WritebackLeavesCopy => {
+                self.machine.set_copy(core, line, PrivateCopy::Owned { wts, rts, dirty })
+            }
+            Fault::WritebackLeavesShared => {
+                self.machine.set_copy(core, line, PrivateCopy::Shared { wts, rts })
+            }
+            _ => drop(self.machine.step(&Step::Take { line })),
+        }
+        answer
+    }
+
+    /// The right step under another name.
+    fn other_answer(&self, step: &Step, before: &Machine, answer: Answer) -> Answer {
+        let Some((_, _, copy)) = Self::evicted(step, before) else {
+            return answer;
+        };
+        let owned = matches!(copy, PrivateCopy::Owned { .. });
+        match (self.fault, answer) {
+            (Fault::DropAnswersEvict, Answer::Drop) => Answer::Evict,
+            (Fault::WritebackAnswersEvict, Answer::Writeback) => Answer::Evict,
+            (Fault::EvictAnswersByCopy, Answer::Evict) if owned => Answer::Writeback,
+            (Fault::EvictAnswersByCopy, Answer::Evict) => Answer::Drop,
+            _ => answer,
+        }
     }
 
     fn refusal_changes_clock(&mut self, step: &Step, answer: Answer) -> Answer {

@@ -6,22 +6,38 @@
 //! flight. Some steps are wild, and some journals are damaged afterwards.
 
 use crate::damage;
-use crate::journal::{write_opening, write_step, MAX_JOURNAL};
+use crate::journal::{write_opening, write_step, Form, MAX_JOURNAL};
 use crate::machine::*;
 use crate::random::Random;
 
 /// The journal of a seed.
 pub fn journal(seed: u64) -> Vec<u8> {
     let mut random = Random::new(seed);
+    let form = random.pick(&Form::ALL);
     let damaged = random.percent(35);
     let length = length(&mut random, damaged);
-    let mut traffic = Traffic::new(&mut random);
+    let mut traffic = Traffic::new(&mut random, form);
     let text = traffic.journal(length);
     if damaged {
-        damage::damage(&mut random, text)
+        damage::damage(&mut random, form, text)
     } else {
         text
     }
+}
+
+/// A list of calls of a seed, on an engine of these sizes. It mixes evict, drop and
+/// writeback, which no journal can.
+pub fn calls(seed: u64, count: usize) -> (Sizes, Vec<Step>) {
+    let mut random = Random::new(seed);
+    let mut traffic = Traffic::new(&mut random, Form::One);
+    traffic.mixed = true;
+    let steps = (0..count).map(|_| {
+        let step = traffic.mostly_fruitful_step();
+        traffic.play(&step);
+        step
+    });
+    let steps = steps.collect();
+    (traffic.sizes(), steps)
 }
 
 /// How long a journal is to be.
@@ -72,7 +88,7 @@ struct Mood {
     wild: u32,
     pending: u32,
     mischief: u32,
-    /// Weights of load, store, fence, evict and advance.
+    /// Weights of load, store, fence, eviction and advance.
     weights: [u32; 5],
     /// Whether timestamps go near the greatest one.
     high: bool,
@@ -103,6 +119,9 @@ impl Mood {
 /// A source of steps that belong together.
 pub struct Traffic<'a> {
     random: &'a mut Random,
+    form: Form,
+    /// Whether it has the evictions of both forms.
+    mixed: bool,
     mood: Mood,
     machine: Machine,
     /// What each core wants to do until it commits.
@@ -110,16 +129,16 @@ pub struct Traffic<'a> {
 }
 
 impl<'a> Traffic<'a> {
-    pub fn new(random: &'a mut Random) -> Traffic<'a> {
+    pub fn new(random: &'a mut Random, form: Form) -> Traffic<'a> {
         let sizes = sizes(random);
-        Traffic::of_sizes(random, sizes)
+        Traffic::of_sizes(random, form, sizes)
     }
 
     /// Traffic for an engine of given sizes, which lie inside the limits.
-    pub fn of_sizes(random: &'a mut Random, sizes: Sizes) -> Traffic<'a> {
+    pub fn of_sizes(random: &'a mut Random, form: Form, sizes: Sizes) -> Traffic<'a> {
         let mood = Mood::new(random, &sizes);
         let machine = Machine::open(sizes).expect("sizes inside the limits");
-        Traffic { random, mood, machine, wishes: [None; MAX_CORES] }
+        Traffic { random, form, mixed: false, mood, machine, wishes: [None; MAX_CORES] }
     }
 
     /// Only reasonable traffic, of all cores on all lines: no wild steps and low
@@ -140,7 +159,7 @@ impl<'a> Traffic<'a> {
     /// A whole journal.
     pub fn journal(&mut self, length: Length) -> Vec<u8> {
         let mut text = Vec::new();
-        write_opening(&mut text, &self.machine.state.sizes);
+        write_opening(&mut text, self.form, &self.machine.state.sizes);
         text.push(b'\n');
         let (steps, limit) = match length {
             Length::Steps(steps) => (steps, MAX_JOURNAL),
@@ -272,7 +291,7 @@ impl<'a> Traffic<'a> {
                 self.slot(core)
             {
                 if self.machine.copy(core, line) != PrivateCopy::None {
-                    steps.push(Step::Evict { core, line });
+                    steps.push(self.eviction(core, line));
                 }
             }
         }
@@ -283,20 +302,43 @@ impl<'a> Traffic<'a> {
             };
             let owned = matches!(self.machine.copy(core, line), PrivateCopy::Owned { .. });
             if owned && self.random.percent(if manager.recall == Recall::None { 10 } else { 50 }) {
-                steps.push(Step::Evict { core, line });
+                steps.push(self.eviction(core, line));
             } else if !owned {
                 let data = self.some_data(self.sizes().width as usize);
-                steps.push(self.random.pick(&[
-                    Step::Yield { line },
-                    Step::Load { core, line },
-                    Step::Store { core, line, data },
-                ]));
+                let late =
+                    [Step::Yield { line }, Step::Load { core, line }, Step::Store { core, line, data }];
+                steps.push(match self.form {
+                    Form::Two if self.random.percent(25) => self.any_eviction(core, line),
+                    _ => self.random.pick(&late),
+                });
             }
         }
         if steps.is_empty() {
             None
         } else {
             Some(self.random.pick(&steps))
+        }
+    }
+
+    /// A step that gives up a copy: in the second form mostly the one that fits it.
+    fn eviction(&mut self, core: u32, line: u32) -> Step {
+        if self.form == Form::One || self.random.percent(40) {
+            return self.any_eviction(core, line);
+        }
+        match self.machine.copy(core, line) {
+            PrivateCopy::Owned { .. } => Step::Writeback { core, line },
+            _ => Step::Drop { core, line },
+        }
+    }
+
+    /// A step of the form that gives up a copy, whatever the copy is.
+    fn any_eviction(&mut self, core: u32, line: u32) -> Step {
+        let evict = Step::Evict { core, line };
+        let by_state = [Step::Drop { core, line }, Step::Writeback { core, line }];
+        match self.form {
+            _ if self.mixed => self.random.pick(&[evict, by_state[0], by_state[1]]),
+            Form::One => evict,
+            Form::Two => self.random.pick(&by_state),
         }
     }
 
@@ -353,7 +395,10 @@ impl<'a> Traffic<'a> {
             0 => Step::Load { core, line },
             1 => Step::Store { core, line, data: self.some_data(self.sizes().width as usize) },
             2 => Step::Fence { core },
-            3 => Step::Evict { core, line: self.held_line(core, line) },
+            3 => {
+                let line = self.held_line(core, line);
+                self.eviction(core, line)
+            }
             _ => Step::Advance { core, by: self.some_advance(core, line) },
         }
     }
@@ -404,7 +449,7 @@ impl<'a> Traffic<'a> {
                 Step::Store { core, line, data: self.some_data(count) }
             }
             2 => Step::Fence { core },
-            3 => Step::Evict { core, line },
+            3 => self.any_eviction(core, line),
             4 => {
                 let by = self.random.pick(&[0, 0, 1, 2, GREATEST, GREATEST - 1, 1 << 31]);
                 Step::Advance { core, by }

@@ -1,5 +1,6 @@
-//! The journal: its lines, its grammar and the refusals 10 to 14 (01, "Journal
-//! and driver"), and the text of a step, which the generator writes.
+//! The journal: its two forms, its lines, their grammar and the refusals 10 to 14
+//! (01, "Journal and driver"; 02, "Evict becomes drop and writeback"), and the
+//! text of a step, which the generator writes.
 
 use crate::machine::{Bytes, Sizes, Step};
 
@@ -36,21 +37,65 @@ impl<'a> Iterator for Lines<'a> {
     }
 }
 
-/// Reads the opening line: the sizes and the lease, or 11 or 12. Their limits
-/// are not looked at here.
-pub fn opening(line: &[u8]) -> Result<Sizes, u32> {
-    let rest = line.strip_prefix(b"fabric=1").ok_or(11u32)?;
-    let [cores, lines, width, lease] = fields(rest, [" cores=", " lines=", " width=", " lease="])?;
-    Ok(Sizes { cores: number(cores)?, lines: number(lines)?, width: number(width)?, lease: number(lease)? })
+/// The forms of a journal, which its first line names.
+#[derive(Clone, Copy, PartialEq, Eq, Debug)]
+pub enum Form {
+    /// `fabric=1`: a copy is given up by evict.
+    One,
+    /// `fabric=2`: drop and writeback stand in the place of evict.
+    Two,
 }
 
-/// Reads a step line: the step, or 11, 12 or 13.
-pub fn step(line: &[u8]) -> Result<Step, u32> {
-    let rest = line.strip_prefix(b"op=").ok_or(11u32)?;
-    let (kind, rest) = rest.split_at(value_length(rest));
+impl Form {
+    pub const ALL: [Form; 2] = [Form::One, Form::Two];
+
+    /// The text that a first line of this form starts with.
+    pub fn start(self) -> &'static str {
+        match self {
+            Form::One => "fabric=1",
+            Form::Two => "fabric=2",
+        }
+    }
+
+    /// Whether the form has steps of this kind.
+    pub fn has_kind(self, kind: &[u8]) -> bool {
+        match kind {
+            b"evict" => self == Form::One,
+            b"drop" | b"writeback" => self == Form::Two,
+            _ => KINDS.iter().any(|known| known.as_bytes() == kind),
+        }
+    }
+
+    /// The other one of the two.
+    pub fn other(self) -> Form {
+        match self {
+            Form::One => Form::Two,
+            Form::Two => Form::One,
+        }
+    }
+}
+
+/// The kinds of steps that both forms have.
+const KINDS: [&str; 8] = ["load", "store", "fence", "advance", "serve", "receive", "yield", "take"];
+
+/// Reads the opening line: the form, the sizes and the lease, or 11 or 12. The
+/// limits of the sizes are not looked at here.
+pub fn opening(line: &[u8]) -> Result<(Form, Sizes), u32> {
+    let after = |form: Form| Some((form, line.strip_prefix(form.start().as_bytes())?));
+    let (form, rest) = Form::ALL.into_iter().find_map(after).ok_or(11u32)?;
+    let [cores, lines, width, lease] = fields(rest, [" cores=", " lines=", " width=", " lease="])?;
+    let (cores, lines, width, lease) = (number(cores)?, number(lines)?, number(width)?, number(lease)?);
+    Ok((form, Sizes { cores, lines, width, lease }))
+}
+
+/// Reads a step line of a journal of this form: the step, or 11, 12 or 13.
+pub fn step(form: Form, line: &[u8]) -> Result<Step, u32> {
+    let (kind, rest) = kind(line).filter(|(kind, _)| form.has_kind(kind)).ok_or(11u32)?;
     match kind {
         b"load" => core_and_line(rest).map(|(core, line)| Step::Load { core, line }),
         b"evict" => core_and_line(rest).map(|(core, line)| Step::Evict { core, line }),
+        b"drop" => core_and_line(rest).map(|(core, line)| Step::Drop { core, line }),
+        b"writeback" => core_and_line(rest).map(|(core, line)| Step::Writeback { core, line }),
         b"store" => {
             let [core, line, data] = fields(rest, [" core=", " line=", " data="])?;
             let (core, line) = (number(core)?, number(line)?);
@@ -70,12 +115,18 @@ pub fn step(line: &[u8]) -> Result<Step, u32> {
 }
 
 /// What the host simulator gets for one step line without newline: 0, 10, 11,
-/// 12 or 13.
+/// 12 or 13. It keeps to `fabric=1`.
 pub fn check_line(line: &[u8]) -> u32 {
     if line.len() > MAX_LINE {
         return 10;
     }
-    step(line).err().unwrap_or(0)
+    step(Form::One, line).err().unwrap_or(0)
+}
+
+/// The word after `op=`, and what comes after it.
+fn kind(line: &[u8]) -> Option<(&[u8], &[u8])> {
+    let rest = line.strip_prefix(b"op=")?;
+    Some(rest.split_at(value_length(rest)))
 }
 
 fn core_and_line(rest: &[u8]) -> Result<(u32, u32), u32> {
@@ -179,23 +230,19 @@ pub fn write_field(out: &mut Vec<u8>, key: &str, number: u32) {
 }
 
 /// Writes an opening line without newline.
-pub fn write_opening(out: &mut Vec<u8>, sizes: &Sizes) {
-    out.extend_from_slice(b"fabric=1");
+pub fn write_opening(out: &mut Vec<u8>, form: Form, sizes: &Sizes) {
+    out.extend_from_slice(form.start().as_bytes());
     write_field(out, " cores=", sizes.cores);
     write_field(out, " lines=", sizes.lines);
     write_field(out, " width=", sizes.width);
     write_field(out, " lease=", sizes.lease);
 }
 
-/// Whether a line starts like a step, with a word that is none of the nine kinds.
-pub fn has_unknown_kind(line: &[u8]) -> bool {
-    const KINDS: [&str; 9] =
-        ["load", "store", "fence", "evict", "advance", "serve", "receive", "yield", "take"];
-    let Some(rest) = line.strip_prefix(b"op=") else {
-        return false;
-    };
-    let kind = &rest[..value_length(rest)];
-    !kind.is_empty() && !KINDS.iter().any(|known| known.as_bytes() == kind)
+/// The word of a line that starts like a step, if the form has no steps of that
+/// kind.
+pub fn unknown_kind(form: Form, line: &[u8]) -> Option<&[u8]> {
+    let (kind, _) = kind(line)?;
+    (!kind.is_empty() && !form.has_kind(kind)).then_some(kind)
 }
 
 /// The name of a step's kind.
@@ -205,6 +252,8 @@ pub fn kind_name(step: &Step) -> &'static str {
         Step::Store { .. } => "store",
         Step::Fence { .. } => "fence",
         Step::Evict { .. } => "evict",
+        Step::Drop { .. } => "drop",
+        Step::Writeback { .. } => "writeback",
         Step::Advance { .. } => "advance",
         Step::Serve { .. } => "serve",
         Step::Receive { .. } => "receive",

@@ -90,6 +90,7 @@ pub fn done_name(answer: &Answer) -> &'static str {
         Answer::Own => "own",
         Answer::Drop => "drop",
         Answer::Evict => "evict",
+        Answer::Writeback => "writeback",
         Answer::Advance => "advance",
         Answer::Yield => "yield",
         Answer::Take => "take",

@@ -1,4 +1,5 @@
-//! The machine of document 01: its parts, its nine steps and its refusals.
+//! The machine of document 01: its parts, its steps and its refusals; with drop
+//! and writeback and their refusal 30, of 02, "Evict becomes drop and writeback".
 //!
 //! The file follows 01's sections: "Parts of the machine", "Refused because of
 //! the input", "Refused because of the state", "Steps".
@@ -220,6 +221,8 @@ pub enum Step {
     Store { core: u32, line: u32, data: Bytes },
     Fence { core: u32 },
     Evict { core: u32, line: u32 },
+    Drop { core: u32, line: u32 },
+    Writeback { core: u32, line: u32 },
     Advance { core: u32, by: u32 },
     Serve { core: u32 },
     Receive { core: u32 },
@@ -235,6 +238,8 @@ impl Step {
             | Step::Store { core, .. }
             | Step::Fence { core }
             | Step::Evict { core, .. }
+            | Step::Drop { core, .. }
+            | Step::Writeback { core, .. }
             | Step::Advance { core, .. }
             | Step::Serve { core }
             | Step::Receive { core } => Some(core),
@@ -248,6 +253,8 @@ impl Step {
             Step::Load { line, .. }
             | Step::Store { line, .. }
             | Step::Evict { line, .. }
+            | Step::Drop { line, .. }
+            | Step::Writeback { line, .. }
             | Step::Yield { line }
             | Step::Take { line } => Some(line),
             _ => None,
@@ -263,7 +270,8 @@ pub enum Commit {
     Fence { core: u32, ts: u32 },
 }
 
-/// The answer to an opening or a step.
+/// The answer to an opening or a step. Drop answers a drop, and the receipt of a
+/// renewal whose copy is gone.
 #[derive(Clone, Copy, PartialEq, Debug)]
 pub enum Answer {
     Open,
@@ -274,6 +282,7 @@ pub enum Answer {
     Own,
     Drop,
     Evict,
+    Writeback,
     Advance,
     Yield,
     Take,
@@ -422,13 +431,13 @@ impl Machine {
 
     // ---- Refused because of the state ----
 
-    /// Refusals 20 to 27.
+    /// Refusals 20 to 27 and 30.
     fn state_refusal(&self, step: &Step) -> Option<u32> {
         match *step {
             Step::Load { core, line } => self.load_refusal(core, line),
             Step::Store { core, line, .. } => self.store_refusal(core, line),
             Step::Fence { .. } => None,
-            Step::Evict { core, line } => (self.copy(core, line) == PrivateCopy::None).then_some(26),
+            Step::Evict { .. } | Step::Drop { .. } | Step::Writeback { .. } => self.eviction_refusal(step),
             Step::Advance { core, by } => passes_greatest(self.core(core).lts, by).then_some(27),
             Step::Serve { core } => self.serve_refusal(core),
             Step::Receive { core } => match self.core(core).slot {
@@ -485,6 +494,17 @@ impl Machine {
         }
     }
 
+    /// 26 without a copy; then 30 where the step names the other state of a copy.
+    fn eviction_refusal(&self, step: &Step) -> Option<u32> {
+        let copy = self.copy(step.core()?, step.line()?);
+        match (copy, step) {
+            (PrivateCopy::None, _) => Some(26),
+            (PrivateCopy::Owned { .. }, Step::Drop { .. })
+            | (PrivateCopy::Shared { .. }, Step::Writeback { .. }) => Some(30),
+            _ => None,
+        }
+    }
+
     // ---- Steps ----
 
     /// Performs a step that is not refused.
@@ -493,7 +513,9 @@ impl Machine {
             Step::Load { core, line } => self.load(core, line),
             Step::Store { core, line, data } => self.store(core, line, data),
             Step::Fence { core } => self.fence(core),
-            Step::Evict { core, line } => self.evict(core, line),
+            Step::Evict { core, line } => self.give_up(core, line, Answer::Evict),
+            Step::Drop { core, line } => self.give_up(core, line, Answer::Drop),
+            Step::Writeback { core, line } => self.give_up(core, line, Answer::Writeback),
             Step::Advance { core, by } => self.advance(core, by),
             Step::Serve { core } => self.serve(core),
             Step::Receive { core } => self.receive(core),
@@ -554,13 +576,14 @@ impl Machine {
         Answer::Commit(Commit::Fence { core, ts: clocks.lts })
     }
 
-    /// Drops a copy; an owned one goes back to the manager as a writeback.
-    fn evict(&mut self, core: u32, line: u32) -> Answer {
+    /// The steps evict, drop and writeback, each with its own answer: a copy goes,
+    /// and an owned one goes back to the manager as a writeback.
+    fn give_up(&mut self, core: u32, line: u32, answer: Answer) -> Answer {
         if let PrivateCopy::Owned { wts, rts, .. } = self.copy(core, line) {
             self.write_back(core, line, Writeback { wts, rts });
         }
         self.set_copy(core, line, PrivateCopy::None);
-        Answer::Evict
+        answer
     }
 
     /// Puts a core's bytes of a line, and their timestamps, in flight.

@@ -2,7 +2,7 @@
 //! out (01, "Journal and driver").
 
 use crate::faults::{Fault, Faulty};
-use crate::journal::{self, Lines, MAX_JOURNAL};
+use crate::journal::{self, Form, Lines, MAX_JOURNAL};
 use crate::machine::{Answer, Machine, Step};
 
 /// What happened at one place of the list. The step is there if the line was
@@ -25,7 +25,7 @@ impl Record {
 pub struct Run<'a> {
     journal: &'a [u8],
     lines: Lines<'a>,
-    machine: Option<Faulty>,
+    opened: Option<(Form, Faulty)>,
     place: u32,
     over: bool,
     fault: Fault,
@@ -39,25 +39,30 @@ impl<'a> Run<'a> {
     /// A run with a fault switched on.
     pub fn with_fault(journal: &'a [u8], fault: Fault) -> Run<'a> {
         let lines = Lines::new(journal);
-        Run { journal, lines, machine: None, place: 0, over: false, fault }
+        Run { journal, lines, opened: None, place: 0, over: false, fault }
     }
 
     /// The machine as it stands now, if the opening was good.
     pub fn machine(&self) -> Option<&Machine> {
-        self.machine.as_ref().map(|faulty| &faulty.machine)
+        self.opened.as_ref().map(|(_, faulty)| &faulty.machine)
+    }
+
+    /// The journal's form, if the opening was good.
+    pub fn form(&self) -> Option<Form> {
+        self.opened.as_ref().map(|(form, _)| *form)
     }
 
     /// The opening: 14, then 10 to 12 of the first line, then 7.
-    fn open(&mut self) -> Result<Machine, u32> {
+    fn open(&mut self) -> Result<(Form, Machine), u32> {
         if self.journal.len() > MAX_JOURNAL + self.fault.journal_excess() {
             return Err(14);
         }
         let line = self.lines.next().unwrap_or(Err(11))?;
-        let sizes = journal::opening(line)?;
+        let (form, sizes) = journal::opening(&self.fault.opens_as(line))?;
         if self.fault.takes_sizes(sizes) {
-            return Ok(Machine::fresh(sizes));
+            return Ok((form, Machine::fresh(sizes)));
         }
-        Machine::open(sizes)
+        Ok((form, Machine::open(sizes)?))
     }
 
     /// The record of a bad line or opening, which ends the run.
@@ -74,27 +79,28 @@ impl Iterator for Run<'_> {
         if self.over {
             return None;
         }
-        if self.machine.is_none() {
+        let Some(form) = self.form() else {
             return Some(match self.open() {
                 Err(number) => self.end_with(number),
-                Ok(machine) => {
-                    self.machine = Some(Faulty::new(machine, self.fault));
+                Ok((form, machine)) => {
+                    self.opened = Some((form, Faulty::new(machine, self.fault)));
                     Record { place: 0, step: None, answer: Answer::Open }
                 }
             });
-        }
+        };
         loop {
             let line = self.lines.next()?;
-            if line.is_ok_and(|line| self.fault.passes_over(line)) {
+            if line.is_ok_and(|line| self.fault.passes_over(form, line)) {
                 continue;
             }
             self.place += 1;
-            let step = match line.and_then(|line| journal::step(&self.fault.reads_as(line))) {
+            let step = match line.and_then(|line| self.fault.step(form, line)) {
                 Err(number) => return Some(self.end_with(number)),
                 Ok(step) => step,
             };
             // A step gives no answer only if a fault skips it.
-            if let Some(answer) = self.machine.as_mut()?.step(&step) {
+            let (_, machine) = self.opened.as_mut()?;
+            if let Some(answer) = machine.step(&step) {
                 return Some(Record { place: self.place, step: Some(step), answer });
             }
         }

@@ -2,6 +2,7 @@
 //! number of bytes.
 
 use crate::generate::{Length, Traffic};
+use crate::journal::Form;
 use crate::machine::Sizes;
 use crate::random::Random;
 
@@ -59,5 +60,5 @@ fn repeated(start: &str, lines: &[String], bytes: usize) -> Vec<u8> {
 fn mixed(bytes: usize) -> Vec<u8> {
     let mut random = Random::new(1);
     let sizes = Sizes { cores: 8, lines: 16, width: 8, lease: 10 };
-    Traffic::of_sizes(&mut random, sizes).tame().journal(Length::Exactly(bytes))
+    Traffic::of_sizes(&mut random, Form::One, sizes).tame().journal(Length::Exactly(bytes))
 }

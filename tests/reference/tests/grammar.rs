@@ -1,8 +1,9 @@
 //! The grammar of journal lines: 0, 10, 11, 12 and 13 for step lines, and the
-//! opening line.
+//! opening line, of both forms.
 
 use reference::generate;
-use reference::journal::{check_line, opening, step, write_step, Lines};
+use reference::journal::{check_line, opening, step, write_step, Form, Lines};
+use reference::machine::{Sizes, Step};
 
 #[test]
 fn good_lines() {
@@ -18,6 +19,52 @@ fn good_lines() {
         "op=take line=63",
     ] {
         assert_eq!(check_line(line.as_bytes()), 0, "{line}");
+    }
+}
+
+#[test]
+fn each_form_has_its_own_steps() {
+    let (core, line) = (15, 4_294_967_295);
+    for (text, form, made) in [
+        ("op=evict core=15 line=4294967295", Form::One, Step::Evict { core, line }),
+        ("op=drop core=15 line=4294967295", Form::Two, Step::Drop { core, line }),
+        ("op=writeback core=15 line=4294967295", Form::Two, Step::Writeback { core, line }),
+    ] {
+        assert_eq!(step(form, text.as_bytes()), Ok(made));
+        assert_eq!(step(form.other(), text.as_bytes()), Err(11), "{text}");
+        // 11 comes before a wrong number.
+        assert_eq!(step(form.other(), &text.as_bytes()[..text.len() - 10]), Err(11), "{text}");
+    }
+    for text in ["op=load core=0 line=0", "op=fence core=0", "op=advance core=0 by=1", "op=yield line=0"] {
+        assert_eq!(step(Form::One, text.as_bytes()), step(Form::Two, text.as_bytes()));
+        assert!(step(Form::Two, text.as_bytes()).is_ok(), "{text}");
+    }
+}
+
+#[test]
+fn drop_and_writeback_lines() {
+    for kind in ["drop", "writeback"] {
+        for (rest, number) in [
+            ("", 11),
+            (" ", 11),
+            (" core=0", 11),
+            (" line=0", 11),
+            (" line=0 core=0", 11),
+            (" core=0 line=0 ", 11),
+            ("  core=0 line=0", 11),
+            (" core=0 line=0 data=00", 11),
+            ("s core=0 line=0", 11),
+            (" core= line=0", 12),
+            (" core=0 line=00", 12),
+            (" core=4294967296 line=0", 12),
+            (" core=0 line=0\r", 12),
+        ] {
+            let line = format!("op={kind}{rest}");
+            assert_eq!(step(Form::Two, line.as_bytes()), Err(number), "{line:?}");
+            // The host's check keeps to fabric=1.
+            assert_eq!(check_line(line.as_bytes()), 11, "{line:?}");
+        }
+        assert_eq!(check_line(format!("op={kind} core=0 line=0").as_bytes()), 11);
     }
 }
 
@@ -109,9 +156,19 @@ fn lines_of_a_journal() {
 
 #[test]
 fn openings() {
-    assert!(opening(b"fabric=1 cores=0 lines=99 width=4294967295 lease=7").is_ok());
+    let sizes = Sizes { cores: 0, lines: 99, width: 4_294_967_295, lease: 7 };
+    assert_eq!(opening(b"fabric=1 cores=0 lines=99 width=4294967295 lease=7"), Ok((Form::One, sizes)));
+    assert_eq!(opening(b"fabric=2 cores=0 lines=99 width=4294967295 lease=7"), Ok((Form::Two, sizes)));
     for (line, number) in [
-        ("fabric=2 cores=1 lines=1 width=1 lease=1", 11),
+        ("fabric=0 cores=1 lines=1 width=1 lease=1", 11),
+        ("fabric=6 cores=1 lines=1 width=1 lease=1", 11),
+        ("fabric=02 cores=1 lines=1 width=1 lease=1", 11),
+        ("fabric=21 cores=1 lines=1 width=1 lease=1", 11),
+        ("fabric=2 cores=1 lines=1 width=1", 11),
+        ("fabric=2 cores=1 lines=1 width=1 lease=1 cap=1", 11),
+        ("fabric=2 cores=x lines=1 width=1 lease=1 cap=1", 11),
+        ("fabric=2 lines=1 cores=1 width=1 lease=1", 11),
+        ("fabric=2 cores=1 lines=1 width=1 lease=01", 12),
         ("fabric=10 cores=1 lines=1 width=1 lease=1", 11),
         ("fabric=1 cores=1 lines=1 width=1", 11),
         ("fabric=1 cores=1 lines=1 width=1 lease=1 ", 11),
@@ -129,7 +186,7 @@ fn text_and_reader_agree() {
     for seed in 1..300 {
         let text = generate::journal(seed);
         for line in Lines::new(&text).skip(1).flatten() {
-            if let Ok(step) = step(line) {
+            for step in Form::ALL.into_iter().filter_map(|form| step(form, line).ok()) {
                 let mut again = Vec::new();
                 write_step(&mut again, &step);
                 assert_eq!(again, line);

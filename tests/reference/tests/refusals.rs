@@ -1,4 +1,4 @@
-//! Refusals 1 to 7 and 20 to 27, their order, and that a refused call changes
+//! Refusals 1 to 7, 20 to 27 and 30, their order, and that a refused call changes
 //! nothing.
 
 use reference::generate;
@@ -104,9 +104,65 @@ fn numbers_3_to_6_in_their_order() {
         (Step::Serve { core: 2 }, 3),
         (Step::Receive { core: 2 }, 3),
         (Step::Evict { core: 1, line: 2 }, 4),
+        (Step::Drop { core: 2, line: 2 }, 3),
+        (Step::Drop { core: 1, line: 2 }, 4),
+        (Step::Writeback { core: 2, line: 2 }, 3),
+        (Step::Writeback { core: 1, line: 2 }, 4),
     ] {
         assert_eq!(refusal(&mut machine, step), Some(number), "{step:?}");
     }
+}
+
+const EVICT: Step = Step::Evict { core: 1, line: 1 };
+const DROP: Step = Step::Drop { core: 1, line: 1 };
+const WRITEBACK: Step = Step::Writeback { core: 1, line: 1 };
+
+#[test]
+fn number_26_then_30_and_neither_outside_its_condition() {
+    let shared = PrivateCopy::Shared { wts: 1, rts: 2 };
+    let owned = |dirty| PrivateCopy::Owned { wts: 1, rts: 2, dirty };
+    for (copy, evict, drop, writeback) in [
+        (PrivateCopy::None, Some(26), Some(26), Some(26)),
+        (shared, None, None, Some(30)),
+        (owned(false), None, Some(30), None),
+        (owned(true), None, Some(30), None),
+    ] {
+        for (step, number) in [(EVICT, evict), (DROP, drop), (WRITEBACK, writeback)] {
+            // Whoever owns the line, and whatever is in flight.
+            for holder in
+                [Holder::Shared { wts: 0, rts: 0 }, Holder::Owned { core: 0 }, Holder::Owned { core: 1 }]
+            {
+                for in_flight in [None, Some(Writeback { wts: 0, rts: 0 })] {
+                    let mut machine = machine();
+                    machine.set_copy(1, 1, copy);
+                    machine.state.lines[1] = Line { holder, recall: Recall::Flush, writeback: in_flight };
+                    assert_eq!(refusal(&mut machine, step), number, "{step:?} of {copy:?}");
+                }
+            }
+        }
+    }
+}
+
+#[test]
+fn a_drop_moves_nothing_and_a_writeback_all() {
+    let before = |copy| {
+        let mut machine = machine();
+        machine.set_copy(1, 1, copy);
+        machine.private = (1..=8).collect();
+        machine.shared = (11..=22).collect();
+        machine.state.lines[1].recall = Recall::Downgrade;
+        machine
+    };
+    let mut dropped = before(PrivateCopy::Shared { wts: 3, rts: 7 });
+    assert_eq!(dropped.call(&DROP), Answer::Drop);
+    assert_eq!(dropped, before(PrivateCopy::None));
+    let mut written = before(PrivateCopy::Owned { wts: 3, rts: 7, dirty: true });
+    assert_eq!(written.call(&WRITEBACK), Answer::Writeback);
+    let mut expected = before(PrivateCopy::None);
+    expected.state.lines[1].writeback = Some(Writeback { wts: 3, rts: 7 });
+    // Line 1 of core 1 is the private buffer's last, its writeback the shared buffer's fourth.
+    expected.shared[6..8].copy_from_slice(&[7, 8]);
+    assert_eq!(written, expected);
 }
 
 #[test]
@@ -144,7 +200,9 @@ fn writable(machine: &Machine, step: &Step) -> (Option<u32>, Option<u32>) {
     let private = |core: u32, line: u32| Some(core * lines + line);
     match *step {
         Step::Store { core, line, .. } => (private(core, line), None),
-        Step::Evict { line, .. } | Step::Yield { line } => (None, Some(lines + line)),
+        Step::Evict { line, .. } | Step::Writeback { line, .. } | Step::Yield { line } => {
+            (None, Some(lines + line))
+        }
         Step::Take { line } => (None, Some(line)),
         Step::Serve { core } => (None, Some(2 * lines + core)),
         Step::Receive { core } => match machine.state.cores[core as usize].slot {
@@ -167,14 +225,15 @@ fn steps_keep_to_their_places() {
     for seed in 1..200 {
         let text = generate::journal(seed);
         let mut lines = Lines::new(&text);
-        let Some(Ok(Ok(opening))) = lines.next().map(|line| line.map(journal::opening)) else {
+        let Some(Ok(Ok((form, sizes)))) = lines.next().map(|line| line.map(journal::opening)) else {
             continue;
         };
-        let Ok(mut machine) = Machine::open(opening) else {
+        let Ok(mut machine) = Machine::open(sizes) else {
             continue;
         };
-        let width = opening.width as usize;
-        for step in lines.map_while(|line| line.and_then(journal::step).ok()).take(300) {
+        let width = sizes.width as usize;
+        let steps = lines.map_while(|line| line.and_then(|line| journal::step(form, line)).ok());
+        for step in steps.take(300) {
             let before = machine.clone();
             let answer = machine.call(&step);
             if let Answer::Refused(_) = answer {

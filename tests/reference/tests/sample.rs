@@ -33,6 +33,47 @@ fn the_sample() {
     assert_eq!(text(JOURNAL), LISTING);
 }
 
+/// The sample's line given back and lent again, in both forms. Core 0's store at 1
+/// comes back as (1, 1); asked at lts 0, the lease of the copy ends at 10.
+const GIVEN_BACK: &str = "\
+fabric=2 cores=1 lines=1 width=1 lease=10
+op=store core=0 line=0 data=07
+op=serve core=0
+op=receive core=0
+op=store core=0 line=0 data=07
+op=writeback core=0 line=0
+op=take line=0
+op=load core=0 line=0
+op=serve core=0
+op=receive core=0
+op=load core=0 line=0
+op=drop core=0 line=0
+";
+
+const GIVEN_BACK_LISTING: &str = "\
+n=0 done=open
+n=1 done=ask
+n=2 done=own
+n=3 done=own
+n=4 commit=store core=0 line=0 ts=1 data=07
+n=5 done=writeback
+n=6 done=take
+n=7 done=ask
+n=8 done=share
+n=9 done=share
+n=10 commit=load core=0 line=0 ts=1 data=07
+n=11 done=drop
+end=11 commits=2 refused=0
+";
+
+#[test]
+fn the_second_form_prints_drop_and_writeback_where_the_first_prints_evict() {
+    assert_eq!(text(GIVEN_BACK), GIVEN_BACK_LISTING);
+    let evict = |text: &str| text.replace("drop", "evict").replace("writeback", "evict");
+    let first = evict(GIVEN_BACK).replace("fabric=2", "fabric=1");
+    assert_eq!(text(&first), evict(GIVEN_BACK_LISTING));
+}
+
 #[test]
 fn a_bad_opening_ends_at_0() {
     for (journal, number) in [
@@ -43,6 +84,11 @@ fn a_bad_opening_ends_at_0() {
         ("fabric=1 cores= lines=1 width=1 lease=1\nop=take line=0\n", 12),
         ("fabric=1 cores=0 lines=1 width=1 lease=1\nop=take line=0\n", 7),
         ("fabric=1 cores=17 lines=1 width=1 lease=x\n", 12),
+        ("fabric=2 cores=1 lines=1 width=1 lease=1", 10),
+        ("fabric=2 cores=17 lines=1 width=1 lease=1\nop=take line=0\n", 7),
+        ("fabric=2 cores=1 lines=1 width=1 lease=1 cap=1\n", 11),
+        ("fabric=0 cores=1 lines=1 width=1 lease=1\n", 11),
+        ("fabric=6 cores=1 lines=1 width=1 lease=1\n", 11),
     ] {
         assert_eq!(text(journal), format!("n=0 refused={number}\nend=0 commits=0 refused=1\n"), "{journal}");
     }

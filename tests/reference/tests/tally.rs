@@ -75,6 +75,26 @@ fn a_drop_counts_nowhere() {
 }
 
 #[test]
+fn the_second_form_counts_the_same_and_its_own_steps_nowhere() {
+    let second = |steps: &[&str]| line(&(OPENING.replace("fabric=1", "fabric=2") + &steps.concat()));
+    assert_eq!(second(&[]), ZEROS);
+    let (drop, writeback) = ("op=drop core=0 line=0\n", "op=writeback core=1 line=0\n");
+    let both = "loads=0 stores=0 fences=0 asks=2 shares=1 renews=0 owns=1\n";
+    assert_eq!(second(&[SHARED, OWNED]), both);
+    assert_eq!(second(&[SHARED, drop, OWNED, writeback]), both);
+    // 26 and 30, before and after.
+    assert_eq!(second(&[drop, writeback, SHARED, "op=writeback core=0 line=0\n", OWNED, drop, drop]), both);
+    assert_eq!(second(&[SHARED, OWNED, "op=drop core=1 line=0\n", writeback, writeback]), both);
+    // A late renewal prints drop as well.
+    let late = "op=advance core=0 by=11\nop=load core=0 line=0\nop=serve core=0\n";
+    let renewed = "loads=0 stores=0 fences=0 asks=2 shares=1 renews=1 owns=0\n";
+    assert_eq!(second(&[SHARED, late, drop, "op=receive core=0\n"]), renewed);
+    // The other form's step ends the run.
+    assert_eq!(second(&[SHARED, "op=evict core=0 line=0\n", OWNED]), line_of(&[SHARED]));
+    assert_eq!(line_of(&[SHARED, drop, OWNED]), line_of(&[SHARED]));
+}
+
+#[test]
 fn a_recall_counts_nowhere_and_its_core_still_asks() {
     let asked = "loads=0 stores=0 fences=0 asks=2 shares=0 renews=0 owns=1\n";
     let load = "op=load core=0 line=0\n";
@@ -138,7 +158,9 @@ fn a_refused_opening_gives_zeros() {
     for opening in [
         "fabric=1 cores=17 lines=1 width=1 lease=1\n",
         "fabric=1 cores=1 lines=0 width=1 lease=1\n",
-        "fabric=2 cores=1 lines=1 width=1 lease=1\n",
+        "fabric=0 cores=1 lines=1 width=1 lease=1\n",
+        "fabric=2 cores=17 lines=1 width=1 lease=1\n",
+        "fabric=2 cores=1 lines=1 width=1\n",
         "fabric=1 cores=01 lines=1 width=1 lease=1\n",
         "op=fence core=0\n",
         "\n",

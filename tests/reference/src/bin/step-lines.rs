@@ -8,7 +8,7 @@ use std::process::ExitCode;
 
 use reference::damage;
 use reference::generate;
-use reference::journal::{check_line, write_hex, write_number};
+use reference::journal::{check_line, write_hex, write_number, Form};
 use reference::random::Random;
 
 fn main() -> ExitCode {
@@ -30,7 +30,8 @@ fn main() -> ExitCode {
     }
 }
 
-/// So many lines: by turns a bad one and one of a generated journal.
+/// So many lines: by turns a bad one and one of a generated journal, whose form may
+/// be the other one, which the line check does not know.
 fn lines(count: usize) -> Vec<Vec<u8>> {
     let mut random = Random::new(1);
     let mut lines = Vec::new();
@@ -39,7 +40,7 @@ fn lines(count: usize) -> Vec<Vec<u8>> {
         seed += 1;
         for line in generate::journal(seed).split(|&byte| byte == b'\n').skip(1).take(20) {
             lines.push(line.to_vec());
-            lines.push(damage::bad_step(&mut random));
+            lines.push(damage::bad_step(&mut random, Form::One));
         }
     }
     lines.truncate(count);
