@@ -72,10 +72,10 @@ fn done_tail(line: &mut [u8; 128], name: Name) -> usize
         Name::Own => tail(line, b" done=own\n"),
         Name::Drop => tail(line, b" done=drop\n"),
         Name::Evict => tail(line, b" done=evict\n"),
-        Name::Writeback => tail(line, b" done=writeback\n"),
         Name::Advance => tail(line, b" done=advance\n"),
         Name::Yield => tail(line, b" done=yield\n"),
         Name::Take => tail(line, b" done=take\n"),
+        Name::Writeback => tail(line, b" done=writeback\n"),
     }
 }
 

@@ -362,19 +362,19 @@ impl State {
 }
 
 // The calls. A store's bytes are given beside the call. Evict gives up whatever copy there is; drop a shared one, writeback an
-// owned one.
+// owned one. A new call is last, here and in each match: the others then take no instruction more.
 pub enum Call {
     Load { core: usize, line: usize },
     Store { core: usize, line: usize },
     Fence { core: usize },
     Evict { core: usize, line: usize },
-    Drop { core: usize, line: usize },
-    Writeback { core: usize, line: usize },
     Advance { core: usize, by: u32 },
     Serve { core: usize },
     Receive { core: usize },
     Yield { line: usize },
     Take { line: usize },
+    Drop { core: usize, line: usize },
+    Writeback { core: usize, line: usize },
 }
 
 // The core that a call is about: the one that it names, the owner of its line, or none.
@@ -424,12 +424,6 @@ impl Call {
             Call::Evict { core, line } => {
                 concerns(Who::Named(core), Which::Named(line), Act::Transfer)
             }
-            Call::Drop { core, line } => {
-                concerns(Who::Named(core), Which::Named(line), Act::Transfer)
-            }
-            Call::Writeback { core, line } => {
-                concerns(Who::Named(core), Which::Named(line), Act::Transfer)
-            }
             Call::Advance { core, by } => {
                 concerns(Who::Named(core), Which::Nothing, Act::Advance(by))
             }
@@ -437,6 +431,12 @@ impl Call {
             Call::Receive { core } => concerns(Who::Named(core), Which::InSlot, Act::Transfer),
             Call::Yield { line } => concerns(Who::Owner, Which::Named(line), Act::Transfer),
             Call::Take { line } => concerns(Who::Nobody, Which::Named(line), Act::Transfer),
+            Call::Drop { core, line } => {
+                concerns(Who::Named(core), Which::Named(line), Act::Transfer)
+            }
+            Call::Writeback { core, line } => {
+                concerns(Who::Named(core), Which::Named(line), Act::Transfer)
+            }
         }
     }
 }
@@ -458,10 +458,10 @@ pub enum Name {
     Own,
     Drop,
     Evict,
-    Writeback,
     Advance,
     Yield,
     Take,
+    Writeback,
 }
 
 // A commit's kind and, but for a fence, its line.
@@ -502,13 +502,13 @@ fn is_serve(call: Call) -> bool
         Call::Store { .. } => false,
         Call::Fence { .. } => false,
         Call::Evict { .. } => false,
-        Call::Drop { .. } => false,
-        Call::Writeback { .. } => false,
         Call::Advance { .. } => false,
         Call::Serve { .. } => true,
         Call::Receive { .. } => false,
         Call::Yield { .. } => false,
         Call::Take { .. } => false,
+        Call::Drop { .. } => false,
+        Call::Writeback { .. } => false,
     }
 }
 
@@ -535,10 +535,10 @@ fn name_class(serves: bool, name: Name) -> Class
         Name::Own => served(serves, Class::Own),
         Name::Drop => Class::Other,
         Name::Evict => Class::Other,
-        Name::Writeback => Class::Other,
         Name::Advance => Class::Other,
         Name::Yield => Class::Other,
         Name::Take => Class::Other,
+        Name::Writeback => Class::Other,
     }
 }
 

@@ -46,13 +46,13 @@ fn row(
         Call::Store { core: c, line: l } => core_rows::store(c, l, core, copy, line),
         Call::Fence { core: c } => core_rows::fence(c, core, copy, line),
         Call::Evict { .. } => transfer_rows::evict(core, copy, line),
-        Call::Drop { .. } => transfer_rows::drop(core, copy, line),
-        Call::Writeback { .. } => transfer_rows::writeback(core, copy, line),
         Call::Advance { by, .. } => core_rows::advance(by, core, copy, line),
         Call::Serve { core: c } => transfer_rows::serve(c, core, copy, line, opening),
         Call::Receive { .. } => transfer_rows::receive(core, copy, line),
         Call::Yield { .. } => transfer_rows::yield_line(core, copy, line),
         Call::Take { .. } => transfer_rows::take(core, copy, line),
+        Call::Drop { .. } => transfer_rows::drop(core, copy, line),
+        Call::Writeback { .. } => transfer_rows::writeback(core, copy, line),
     }
 }
 
