@@ -8,8 +8,8 @@ use lib.{Dec.{leb, eqb}, ListN.length}
 use borrow.Author.Tests.{leb-true, leb-false, lt-ltb, eqb-true}
 use Rattle.protocol.specs.{Pick.{pick, both, fails}, Stamps.canAdd, Buffers.{Bytes, There}}
 use Rattle.protocol.specs.Machine.{Machine, Pieces, piecesAt, coreAt, copyAt, lineAt, slotLine, ownerOf, coreOf, lineOf, applied}
-use Rattle.protocol.specs.Refusals.{isEmpty, isAsked, isAnswered, isHeld, isShared, isOwned, hasOwner, stands, inFlight, loadAsks, storePasses, servePasses}
-use Rattle.protocol.specs.Refusals.{stateRules, stateRefusal, refusal}
+use Rattle.protocol.specs.Refusals.{isEmpty, isAsked, isAnswered, isHeld, isShared, isOwned, hasOwner, stands, inFlight, loadAsks, storePasses}
+use Rattle.protocol.specs.Refusals.{servePasses, stateRules, stateRefusal, refusal}
 use Rattle.protocol.specs.Tables.{refusedRow, asking, loadOwned, loadShared, loadTable, storeTable, fenceTable, advanceTable, evictTable, sameVersion}
 use Rattle.protocol.specs.Tables.{leasedTo, serveLoad, serveAsked, serveTable, receiveRenew, receiveGrant, receiveTable, yieldTable, takeTable, tableOf}
 use Rattle.protocol.specs.{Tables.effectOf, Step.{refused, Outcome, accepted, step}}
@@ -17,7 +17,8 @@ use Rattle.protocol.specs.declared.{Stamp.Stamp, Copy.{Copy, the-variant
 use Rattle.protocol.specs.declared.{Want.{Want, the-variants.{Load as WantLoad, Store as WantStore}}, Held.Held}
 use Rattle.protocol.specs.declared.{Slot.{Slot, the-variants.{Empty, Asked, Answered}}, Manager.{Manager, the-variants.{Shared, Owned}}}
 use Rattle.protocol.specs.declared.{Writeback.{Writeback, the-variants.{None as NoWriteback, Flight}}, Opening.Opening, State.State}
-use Rattle.protocol.specs.declared.{Call.{Call, the-variants.{Load, Store, Fence, Evict, Drop, Writeback as WriteBack, Advance, Serve, Receive, Yield, Take}}, Effect.Effect}
+use Rattle.protocol.specs.declared.Call.{Call, the-variants.{Load, Store, Fence, Evict, Drop, Writeback as WriteBack, Advance}}
+use Rattle.protocol.specs.declared.{Call.the-variants.{Serve, Receive, Yield, Take}, Effect.Effect}
 use Rattle.protocol.specs.declared.Name.{Name, the-variants.{Drop as Dropped, Evict as Evicted, Writeback as WrittenBack}}
 use Rattle.protocol.specs.declared.Grant.the-variants.{Share as GrantShare, Renew as GrantRenew, Own as GrantOwn}
 use Rattle.protocol.proofs.{Tests.{never, both-true, both-false}, Refusals.{not-true, passed, machine-fit, call-there, NotRefused, not-refused}}

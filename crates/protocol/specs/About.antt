@@ -1,7 +1,8 @@
 -- What a call is about: the core, the line, and what it does to the core's clocks, read off the headings of 01's "Steps". Everything that asks
 -- which core or line a call looks at, what 3 to 6 refuse of it, or what it commits goes by this one definition.
 use Prim.Native.Nat.{ℕ}
-use Rattle.protocol.specs.declared.Call.{Call, the-variants.{Load, Store, Fence, Evict, Drop, Writeback as WriteBack, Advance, Serve, Receive, Yield, Take}}
+use Rattle.protocol.specs.declared.Call.{Call, the-variants.{Load, Store, Fence, Evict, Drop, Writeback as WriteBack, Advance}}
+use Rattle.protocol.specs.declared.Call.the-variants.{Serve, Receive, Yield, Take}
 use Rattle.protocol.specs.declared.Who.{Who, the-variants.{Named as NamedCore, Owner, Nobody}}
 use Rattle.protocol.specs.declared.Which.{Which, the-variants.{Named as NamedLine, InSlot, Nothing}}
 use Rattle.protocol.specs.declared.Act.{Act, the-variants.{Load as Loads, Store as Stores, Fence as Fences, Advance as Advances, Transfer}}

@@ -4,7 +4,8 @@ use Prim.Native.Nat.{ℕ, _+_}
 use mathlib.Core.{Bool.{Bool, true, false}, List.List}
 use lib.{Dec.eqb, ListN.length}
 use Rattle.protocol.specs.{Pick.{pick, howMany}, Step.{Op, load, store, fence, Reply, refused, done, commit}, Run.Record, declared.Counts.Counts}
-use Rattle.protocol.specs.declared.Call.{Call, the-variants.{Load, Store, Fence, Evict, Drop, Writeback as WriteBack, Advance, Serve, Receive, Yield, Take}}
+use Rattle.protocol.specs.declared.Call.{Call, the-variants.{Load, Store, Fence, Evict, Drop, Writeback as WriteBack, Advance}}
+use Rattle.protocol.specs.declared.Call.the-variants.{Serve, Receive, Yield, Take}
 use Rattle.protocol.specs.declared.Name.{Name, the-variants.{Open, Ask, Recall, Share, Renew, Own, Drop as Dropped, Evict as Evicted}}
 use Rattle.protocol.specs.declared.Name.the-variants.{Writeback as WrittenBack, Advance as Advanced, Yield as Yielded, Take as Taken}
 use Rattle.protocol.specs.declared.Class.{Class, the-variants.{Load as ALoad, Store as AStore, Fence as AFence, Ask as AnAsk, Share as AShare}}

@@ -11,7 +11,8 @@ use Rattle.protocol.specs.declared.Manager.{Manager, the-variants.{Share
 use Rattle.protocol.specs.declared.Recall.{Recall, the-variants.{None as NoRecall, Downgrade, Flush}}
 use Rattle.protocol.specs.declared.{Writeback.{Writeback, the-variants.{None as NoWriteback, Flight}}, ManagerLine.ManagerLine}
 use Rattle.protocol.specs.declared.{Opening.Opening, State.State}
-use Rattle.protocol.specs.declared.Call.{Call, the-variants.{Load, Store, Fence, Evict, Drop, Writeback as WriteBack, Advance, Serve, Receive, Yield, Take}}
+use Rattle.protocol.specs.declared.Call.{Call, the-variants.{Load, Store, Fence, Evict, Drop, Writeback as WriteBack, Advance}}
+use Rattle.protocol.specs.declared.Call.the-variants.{Serve, Receive, Yield, Take}
 use Rattle.protocol.specs.declared.Who.{Who, the-variants.{Named as NamedCore, Owner, Nobody}}
 use Rattle.protocol.specs.declared.Which.{Which, the-variants.{Named as NamedLine, InSlot, Nothing}}
 use Rattle.protocol.specs.declared.Act.{Act, the-variants.{Load as Loads, Store as Stores, Fence as Fences, Advance as Advances, Transfer}}

@@ -14,7 +14,8 @@ use Rattle.protocol.specs.declared.Manager.{Manager, the-variants.{Share
 use Rattle.protocol.specs.declared.Recall.{Recall, the-variants.{None as NoRecall, Downgrade, Flush}}
 use Rattle.protocol.specs.declared.{Writeback.{Writeback, the-variants.{None as NoWriteback, Flight}}, ManagerLine.ManagerLine}
 use Rattle.protocol.specs.declared.Opening.{Opening}
-use Rattle.protocol.specs.declared.Call.{Call, the-variants.{Load, Store, Fence, Evict, Drop, Writeback as WriteBack, Advance, Serve, Receive, Yield, Take}}
+use Rattle.protocol.specs.declared.Call.{Call, the-variants.{Load, Store, Fence, Evict, Drop, Writeback as WriteBack, Advance}}
+use Rattle.protocol.specs.declared.Call.the-variants.{Serve, Receive, Yield, Take}
 use Rattle.protocol.specs.declared.Answer.{Answer, the-variants.{Refused, Done, Commit}}
 use Rattle.protocol.specs.declared.Name.{Name, the-variants.{Ask, Recall as RecallSent, Share, Renew, Own, Drop as Dropped, Evict as Evicted}}
 use Rattle.protocol.specs.declared.Name.the-variants.{Writeback as WrittenBack, Advance as Advanced, Yield as Yielded, Take as Taken}

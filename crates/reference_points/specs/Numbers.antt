@@ -6,7 +6,8 @@ use Prim.Native.Nat.{ℕ}
 use mathlib.Core.List.{List, [], _∷_, _++_, map}
 use lib.ListN.{drop, replicate}
 use Rattle.protocol.specs.{Stamps.stamp, Buffers.Bytes, Machine.{Machine, machine, freshMachine, Pieces}}
-use Rattle.protocol.specs.declared.{Call.{Call, the-variants.{Load, Store, Fence, Evict, Drop, Writeback as WriteBack, Advance, Serve, Receive, Yield, Take}}, Opening.Opening}
+use Rattle.protocol.specs.declared.Call.{Call, the-variants.{Load, Store, Fence, Evict, Drop, Writeback as WriteBack, Advance, Serve, Receive, Yield}}
+use Rattle.protocol.specs.declared.{Call.the-variants.Take, Opening.Opening}
 use Rattle.protocol.specs.declared.{Name.the-variants.Open, Copy.the-variants.None as NoCopy, State.State}
 use Rattle.protocol.specs.declared.{Want.the-variants.{Load as WantLoad, Store as WantStore}, Held.the-variants.{None as NothingHeld, Version}}
 use Rattle.protocol.specs.declared.{Grant.the-variants.{Share as GrantShare, Own as GrantOwn}, Slot.the-variants.{Empty, Asked, Answered}}
