@@ -49,8 +49,8 @@ abbrev pub evictStep : List Row
 evictStep = row "op=evict core=N line=N" (λ n. calls (Evict (n 0) (n 1))) ∷ []
 
 -- "A first line `fabric=2`, same keys, has these two steps in place of evict"
-abbrev pub splitSteps : List Row
-splitSteps =
+abbrev pub secondSteps : List Row
+secondSteps =
     row "op=drop core=N line=N" (λ n. calls (Drop (n 0) (n 1)))
     ∷ row "op=writeback core=N line=N" (λ n. calls (Writeback (n 0) (n 1)))
     ∷ []
@@ -59,7 +59,7 @@ splitSteps =
 abbrev pub rowsOf : ℕ → List Row
 rowsOf zero = openings
 rowsOf (suc zero) = evictStep ++ steps
-rowsOf (suc (suc zero)) = steps ++ splitSteps
+rowsOf (suc (suc zero)) = steps ++ secondSteps
 rowsOf (suc (suc (suc f))) = []
 
 -- what is past the rows; no definition looks there
@@ -75,15 +75,15 @@ rowAt rows k = getD rows k noRow
 -- all rows, in the order of the code's table: the rows of each form are one part of it, and the first lines are last, so that a new one moves
 -- no other row
 abbrev pub table : List Row
-table = evictStep ++ steps ++ splitSteps ++ openings
+table = evictStep ++ steps ++ secondSteps ++ openings
 
 -- how many numbers a line has at most, where the two steps in place of evict start, how many of the rows are steps and first lines, and how
 -- many forms of journal there are (form 0, where the first line is due, counted)
 abbrev pub numberCount : ℕ
 numberCount = 4
 
-abbrev pub splitStart : ℕ
-splitStart = 9
+abbrev pub secondStart : ℕ
+secondStart = 9
 
 abbrev pub stepCount : ℕ
 stepCount = 11
@@ -102,4 +102,4 @@ abbrev pub fromOf : ℕ → ℕ
 fromOf form = getD (stepCount ∷ 0 ∷ 1 ∷ []) form 0
 
 abbrev pub toOf : ℕ → ℕ
-toOf form = getD (rowCount ∷ splitStart ∷ stepCount ∷ []) form 0
+toOf form = getD (rowCount ∷ secondStart ∷ stepCount ∷ []) form 0

@@ -33,9 +33,9 @@ pub enum Line {
 }
 
 // Where the rows start that have a place in `fabric=2` alone; how many of the rows are steps, and how many there are with the first lines;
-// how many numbers a line has at most; how many forms of journal there are, where the first line is due counted as one (`splitStart`,
+// how many numbers a line has at most; how many forms of journal there are, where the first line is due counted as one (`secondStart`,
 // `stepCount`, `rowCount`, `numberCount`, `formCount` of specs/Table.antt).
-const SPLIT: usize = 9;
+const SECOND: usize = 9;
 
 const STEPS: usize = 11;
 
@@ -48,7 +48,7 @@ const FORMS: u32 = 3;
 // The rows of each form of journal: from one up to another.
 const FROM: [usize; 3] = [STEPS, 0, 1];
 
-const TO: [usize; 3] = [ROWS, SPLIT, STEPS];
+const TO: [usize; 3] = [ROWS, SECOND, STEPS];
 
 // The row of each tag, as a letter from a on; ~, which is no row's, where there is none. The tag of a line or a form is 15 times its
 // seventh byte and its eighth, modulo 32: no two rows have the same.

@@ -12,14 +12,15 @@ fitting (CopyShared w r) c l = Drop c l
 fitting (CopyOwned d w r) c l = WriteBack c l
 fitting NoCopy c l = Drop c l
 
--- an answer under another name
+-- an answer under the name a
 abbrev pub renamed : Name → Reply → Reply
-renamed n (done d) = done n
-renamed n (refused r) = refused r
-renamed n (commit c t o) = commit c t o
+renamed a (done d) = done a
+renamed a (refused n) = refused n
+renamed a (commit c t o) = commit c t o
 
+-- what a call gives, its answer under that name
 abbrev pub answering : Name → Outcome → Outcome
-answering n r = record { reply = renamed n (r .reply); machine = r .machine }
+answering a x = record { reply = renamed a (x .reply); machine = x .machine }
 
 -- for every machine, core, line and bytes, evict is the call that fits the copy, but for the answer's name
 abbrev pub EvictTheorem : Type 0

@@ -513,9 +513,9 @@ impl Machine {
             Step::Load { core, line } => self.load(core, line),
             Step::Store { core, line, data } => self.store(core, line, data),
             Step::Fence { core } => self.fence(core),
-            Step::Evict { core, line } => self.give_up(core, line, Answer::Evict),
-            Step::Drop { core, line } => self.give_up(core, line, Answer::Drop),
-            Step::Writeback { core, line } => self.give_up(core, line, Answer::Writeback),
+            Step::Evict { core, line } => self.evict(core, line),
+            Step::Drop { core, line } => self.drop_copy(core, line),
+            Step::Writeback { core, line } => self.return_copy(core, line),
             Step::Advance { core, by } => self.advance(core, by),
             Step::Serve { core } => self.serve(core),
             Step::Receive { core } => self.receive(core),
@@ -576,14 +576,29 @@ impl Machine {
         Answer::Commit(Commit::Fence { core, ts: clocks.lts })
     }
 
-    /// The steps evict, drop and writeback, each with its own answer: a copy goes,
-    /// and an owned one goes back to the manager as a writeback.
-    fn give_up(&mut self, core: u32, line: u32, answer: Answer) -> Answer {
+    /// A copy goes, and an owned one goes back to the manager as a writeback.
+    fn evict(&mut self, core: u32, line: u32) -> Answer {
         if let PrivateCopy::Owned { wts, rts, .. } = self.copy(core, line) {
             self.write_back(core, line, Writeback { wts, rts });
         }
         self.set_copy(core, line, PrivateCopy::None);
-        answer
+        Answer::Evict
+    }
+
+    /// The step drop: a shared copy goes, and nobody is told.
+    fn drop_copy(&mut self, core: u32, line: u32) -> Answer {
+        self.set_copy(core, line, PrivateCopy::None);
+        Answer::Drop
+    }
+
+    /// The step writeback: an owned copy goes back to the manager.
+    fn return_copy(&mut self, core: u32, line: u32) -> Answer {
+        let PrivateCopy::Owned { wts, rts, .. } = self.copy(core, line) else {
+            return Answer::Refused(30);
+        };
+        self.write_back(core, line, Writeback { wts, rts });
+        self.set_copy(core, line, PrivateCopy::None);
+        Answer::Writeback
     }
 
     /// Puts a core's bytes of a line, and their timestamps, in flight.

@@ -56,7 +56,7 @@ fn repeated(start: &str, lines: &[String], bytes: usize) -> Vec<u8> {
     text
 }
 
-/// Traffic of all nine kinds on a middle-sized engine.
+/// Traffic of all nine kinds of `fabric=1` on a middle-sized engine.
 fn mixed(bytes: usize) -> Vec<u8> {
     let mut random = Random::new(1);
     let sizes = Sizes { cores: 8, lines: 16, width: 8, lease: 10 };

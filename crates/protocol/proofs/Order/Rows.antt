@@ -112,7 +112,7 @@ unfolding serveLoad
 manager-grows l w r t lease p true = omega arith
 manager-grows l w r t lease p false = omega arith
 
--- ---- evict, yield and take
+-- ---- evict, drop, writeback, yield and take
 
 module _ (w r : Stamp) (d : Bool) (p : Pieces) where
   -- the writeback has the whole lease of the owner's copy
