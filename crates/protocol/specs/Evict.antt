@@ -6,7 +6,7 @@ use Rattle.protocol.specs.declared.Copy.{Copy, the-variants.{None as NoC
 use Rattle.protocol.specs.declared.Call.{Call, the-variants.{Evict, Drop, Writeback as WriteBack}}
 use Rattle.protocol.specs.declared.Name.{Name, the-variants.Evict as Evicted}
 
--- the call that fits a copy: "drop (shared copies) and writeback (owned copies)"; both are refused alike where there is none
+-- the call that fits a copy: "drop (shared copies) and writeback (owned copies)"; drop where there is none, which is refused as evict is
 abbrev pub fitting : Copy → ℕ → ℕ → Call
 fitting (CopyShared w r) c l = Drop c l
 fitting (CopyOwned d w r) c l = WriteBack c l

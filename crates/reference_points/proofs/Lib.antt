@@ -5,7 +5,9 @@ pub mod Lines
 pub mod Records
 pub mod Tally
 pub mod Commits
+pub mod Reading
 pub mod Sample
+pub mod SecondForm
 pub mod Decides
 pub mod Logs
 pub mod Chain

@@ -23,7 +23,7 @@ points-theorem = agree got told points refl
 
 pub steps-theorem : StepsTheorem
 unfolding calling
-steps-theorem = record { rows = agree got told stepRows refl; other = refl }
+steps-theorem = record { rows = agree got told stepRows refl; other = refl; shared = refl; clean = refl; dirty = refl; none = refl }
 
 pub numbers-theorem : NumbersTheorem
 unfolding calling

@@ -9,5 +9,6 @@ pub mod Records
 pub mod Tally
 pub mod Commits
 pub mod Sample
+pub mod SecondForm
 pub mod Logs
 pub mod Chain

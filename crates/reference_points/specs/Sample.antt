@@ -1,7 +1,8 @@
--- The journal that 01 prints, the listing that the program prints for it, and its tally.
+-- The journal that 01 prints, the listing that the program prints for it, its tally, and where a reader is after its lines.
 use mathlib.Core.{Path._≡_, List.{[], _++_}}
 use Rattle.protocol.specs.{Buffers.Bytes, declared.Counts.Counts}
 use Rattle.spelling.specs.Text.{text}
+use Rattle.journal.specs.Theorems.{Reached}
 use Rattle.listing.specs.Record.{tallyText}
 use Rattle.playing.specs.Listing.{Listing, Tally}
 
@@ -37,6 +38,8 @@ pub record SampleTheorem : Type 0 where
   pub counts : Counts
   pub tally : Tally sampleJournal counts
   pub line : tallyText counts ≡ sampleTally
+  -- a reader has passed seven lines, and is in form 1
+  pub reader : Reached sampleJournal 7 175 1
   -- an empty input opens no engine, and counts nothing
   pub none : Counts
   pub empty : Tally [] none

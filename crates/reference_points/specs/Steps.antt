@@ -2,7 +2,7 @@
 -- What it leaves shows where there is something to leave: a slot in use, a copy held, a recall and a writeback. So does a number that comes early.
 use Prim.Native.Nat.{ℕ}
 use mathlib.Core.{Path._≡_, List.{List, [], _∷_, _++_, map}}
-use Rattle.protocol.specs.{Stamps.stamp, Machine.{machine, Pieces}, Step.{done, commit, load, store, fence, Outcome, step}}
+use Rattle.protocol.specs.{Stamps.stamp, Machine.{machine, Pieces}, Step.{done, commit, load, store, fence, Outcome, step}, Evict.fitting}
 use Rattle.protocol.specs.declared.{Copy.{Copy, the-variants.None as NoCopy}, Want.{Want, the-variants.{Load as WantLoad, Store as WantStore}}}
 use Rattle.protocol.specs.declared.Held.{Held, the-variants.{None as NothingHeld, Version}}
 use Rattle.protocol.specs.declared.{Grant.the-variants.{Share as GrantShare, Renew as GrantRenew, Own as GrantOwn}, Slot.{Slot, the-variants.{Empty, Answered}}}
@@ -305,3 +305,8 @@ stepRows =
 pub record StepsTheorem : Type 0 where
   pub rows : AllHold stepRows
   pub other : otherGot ≡ otherTold
+  -- the call that evict is: drop of a shared copy, writeback of an owned one; drop where there is none
+  pub shared : fitting (sharedCopy 4 9) 1 2 ≡ Drop 1 2
+  pub clean : fitting (cleanCopy 3 7) 1 2 ≡ WriteBack 1 2
+  pub dirty : fitting (dirtyCopy 6 8) 1 2 ≡ WriteBack 1 2
+  pub none : fitting NoCopy 1 2 ≡ Drop 1 2

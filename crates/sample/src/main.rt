@@ -1,9 +1,11 @@
-// Direct calls: the sample of the scope document, each call by its name, and then a list of calls by
-// `step`, in which bytes move at every place where they can and each refusal is met.
+// Direct calls: the sample of the scope document, each call by its name; then every other call by its
+// name too; then a list of calls by `step`, in which bytes move at every place where they can and each
+// refusal is met.
 //
 // The sample: a store asks for the line, which is served and received, the store and a load commit, and
 // a take finds no writeback.
 mod list;
+mod named;
 mod print;
 
 use engine::Returned;
@@ -37,5 +39,6 @@ fn main() {
     shown(5, d, &private, &shared);
     d = engine::take(d.state, &mut private, &mut shared, 0);
     shown(6, d, &private, &shared);
+    named::play_all();
     list::play_all();
 }
