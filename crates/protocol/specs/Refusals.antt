@@ -121,6 +121,7 @@ isHeld NoCopy = false
 isHeld (CopyShared w r) = true
 isHeld (CopyOwned d w r) = true
 
+-- .. as shared, or as owned
 abbrev pub isShared : Copy → Bool
 isShared NoCopy = false
 isShared (CopyShared w r) = true
