@@ -1,4 +1,4 @@
-// Each call of the engine by its name, that the sample does not make: two cores, one line of one byte, a lease of 10.
+// The calls of the engine that the sample does not make, each by its name: two cores, one line of one byte, a lease of 10.
 use super::print;
 use engine::Opened;
 use engine::Returned;
