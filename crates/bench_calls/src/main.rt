@@ -9,6 +9,7 @@ use libc::STDERR_FILENO;
 use libc::STDOUT_FILENO;
 use protocol::Answer;
 use protocol::Call;
+use protocol::Given;
 use protocol::Opening;
 use protocol::State;
 use spelling::Number;
@@ -34,7 +35,11 @@ fn call_of(kind: u64, core: usize, line: usize) -> Call {
         return Call::Load { core, line };
     }
     if kind < 9 {
-        return Call::Store { core, line };
+        return Call::Store {
+            given: Given::Bytes,
+            core,
+            line,
+        };
     }
     if kind < 12 {
         return Call::Serve { core };

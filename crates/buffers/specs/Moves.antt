@@ -3,7 +3,8 @@ use Prim.Native.Nat.{ℕ}
 use mathlib.Core.{Path._≡_, Bool.Bool}
 use lib.{Dec.ltb, ListN.length}
 use denote.Ref.{RefT, now}
-use Rattle.protocol.specs.{Pick.{pick, both}, Limits.openingFits, Buffers.{Bytes, givenFits, movedPrivate, movedShared}, declared.{Opening.Opening, Move.Move}}
+use Rattle.protocol.specs.{Pick.{pick, both}, Limits.openingFits, Buffers.{Bytes, givenFits, movedPrivate, movedShared}, Given.bytesAs}
+use Rattle.protocol.specs.declared.{Opening.Opening, Given.Given, Move.Move}
 use Rattle.refusals.specs.Input.{lengthsFit}
 
 -- the opening lies inside the limits, and core c and line l are there
@@ -20,6 +21,6 @@ pub record Moves (v : Move) (o : Opening) (c l : ℕ) (given p q p' q' : Bytes) 
   pub private : p' ≡ pick (moveFits v o (length p) (length q) c l (length given)) (movedPrivate v o c l given p q) p
   pub shared : q' ≡ pick (moveFits v o (length p) (length q) c l (length given)) (movedShared v o c l p q) q
 
--- the same of lent buffers, as they come and as they are left
-abbrev pub Moved : Move → Opening → ℕ → ℕ → RefT Bytes → RefT Bytes → RefT Bytes → RefT Bytes → RefT Bytes → Type 0
-Moved v o c l given p q p' q' = Moves v o c l (now given) (now p) (now q) (now p') (now q')
+-- the same of lent buffers, as they come and as they are left; what is given is read as bytes or as digits
+abbrev pub Moved : Move → Given → Opening → ℕ → ℕ → RefT Bytes → RefT Bytes → RefT Bytes → RefT Bytes → RefT Bytes → Type 0
+Moved v g o c l given p q p' q' = Moves v o c l (bytesAs g (now given)) (now p) (now q) (now p') (now q')

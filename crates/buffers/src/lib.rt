@@ -7,6 +7,7 @@ mod lines;
 ghost use mathlib.Core.Path.{_≡_};
 ghost use Rattle.protocol.specs.{Pick.pick, Buffers.{copyStart, managerStart, writebackStart, answerStart, There, givenFits}};
 ghost use Rattle.buffers.specs.Moves.{isThere, moveFits, Moved};
+use protocol::Given;
 use protocol::Move;
 use protocol::Opening;
 
@@ -121,9 +122,10 @@ fn move_fits(
 }
 
 // Moves the line of bytes that a step moves, if its places and lengths fit; else both buffers stay
-// as they were. `given` are the bytes given to a store.
+// as they were. `given` is what is given to a store, and `read` how it is read.
 pub fn move_bytes(
     moves: Move,
+    read: Given,
     opening: Opening,
     private: &mut [u8],
     shared: &mut [u8],
@@ -131,8 +133,9 @@ pub fn move_bytes(
     line: usize,
     given: &[u8],
 )
-    ensures { λ _. ⌜ Moved moves opening core line (given .entry) («private» .entry) (shared .entry) («private» .exit) (shared .exit) ⌝ }
+    ensures { λ _. ⌜ Moved moves read opening core line (given .entry) («private» .entry) (shared .entry) («private» .exit) (shared .exit) ⌝ }
 {
+    let count = read.count(given.len());
     if !move_fits(
         moves,
         opening,
@@ -140,7 +143,7 @@ pub fn move_bytes(
         shared.len(),
         core,
         line,
-        given.len(),
+        count,
     ) {
         return;
     }
@@ -149,7 +152,7 @@ pub fn move_bytes(
         Move::Still => {}
         Move::Store => {
             let copy = copy_at(opening, core, line);
-            lines::put_line(private, copy, given);
+            lines::put_given(private, copy, read, given);
         }
         Move::Answer => {
             let answer = answer_at(opening, core, line);

@@ -1,13 +1,14 @@
 // Copying one line's bytes to its place in a lent buffer.
 //
-// `copy_line` is the one function that copies a line; the others lend it the middle part of a buffer.
-// Each `requires` that the line and its place lie in the buffer: `move_bytes`, which calls them, has
-// looked.
+// `copy_line` is the one function that copies a line; the others lend it the middle part of a buffer. Bytes
+// given in digits are decoded straight into that part. Each `requires` that the line and its place lie in
+// the buffer: `move_bytes`, which calls them, has looked.
 ghost use mathlib.Core.Path.{_≡_};
 ghost use Prim.Native.Nat.{_+_, _≤_};
 ghost use lib.ListN.{length, replicate};
-ghost use Rattle.spelling.specs.Over.{over};
-ghost use Rattle.protocol.specs.{Limits.mostWidth, Buffers.part};
+ghost use Rattle.spelling.specs.{Over.over, Hex.unhex};
+ghost use Rattle.protocol.specs.{Limits.mostWidth, Buffers.part, Given.bytesAs};
+use protocol::Given;
 use protocol::Opening;
 
 // Copies src over dst, which is as long.
@@ -23,12 +24,32 @@ fn copy_line(dst: &mut [u8], src: &[u8])
 }
 
 // Writes src over the bytes of buf from `at`.
-pub(crate) fn put_line(buf: &mut [u8], at: usize, src: &[u8])
+fn put_line(buf: &mut [u8], at: usize, src: &[u8])
     requires { ⌜ at + length (now src) ≤ length (now buf) ⌝ }
     ensures { λ _. ⌜ now (buf .exit) ≡ over (now (buf .entry)) at (now (src .entry)) ⌝ }
 {
     let e = at + src.len();
     copy_line(&mut buf[at..e], src);
+}
+
+// Writes the bytes that digits spell over those of buf from `at`.
+fn put_digits(buf: &mut [u8], at: usize, digits: &[u8])
+    requires { ⌜ at + length (unhex (now digits)) ≤ length (now buf) ⌝ }
+    ensures { λ _. ⌜ now (buf .exit) ≡ over (now (buf .entry)) at (unhex (now (digits .entry))) ⌝ }
+{
+    let e = at + digits.len() / 2;
+    spelling::put_unhex(&mut buf[at..e], 0, digits);
+}
+
+// Writes the bytes given to a store over those of buf from `at`.
+pub(crate) fn put_given(buf: &mut [u8], at: usize, read: Given, given: &[u8])
+    requires { ⌜ at + length (bytesAs read (now given)) ≤ length (now buf) ⌝ }
+    ensures { λ _. ⌜ now (buf .exit) ≡ over (now (buf .entry)) at (bytesAs read (now (given .entry))) ⌝ }
+{
+    match read {
+        Given::Bytes => put_line(buf, at, given),
+        Given::Digits => put_digits(buf, at, given),
+    }
 }
 
 // Copies the n bytes of src from `from` over those of dst from `at`.

@@ -11,6 +11,7 @@ use protocol::Call;
 use protocol::Copy;
 use protocol::Core;
 use protocol::Effect;
+use protocol::Given;
 use protocol::Held;
 use protocol::Kind;
 use protocol::ManagerLine;
@@ -136,7 +137,7 @@ pub fn load(c: usize, l: usize, core: Core, copy: Copy, line: ManagerLine) -> Ef
 // store: commits on an owned copy, past its lease, or 27 where that passes the greatest timestamp; else
 // asks, or 20.
 pub fn store(c: usize, l: usize, core: Core, copy: Copy, line: ManagerLine) -> Effect
-    ensures { λ r. ⌜ ((n : ℕ) (o : Opening) → r ≡ effectOf (Call.Store c l) (pieces n core copy line) o) ⌝ }
+    ensures { λ r. ⌜ ((g : Given) (n : ℕ) (o : Opening) → r ≡ effectOf (Call.Store g c l) (pieces n core copy line) o) ⌝ }
 {
     let slot = core.slot;
     let before = core.clocks;

@@ -6,5 +6,4 @@ pub mod Resuming
 pub mod Putting
 pub mod Stepping
 pub mod Loop
-pub mod Decoding
 pub mod Starting

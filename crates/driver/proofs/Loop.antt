@@ -2,11 +2,11 @@
 use Prim.Native.Nat.{ℕ, _+_, _-_, _≤_}
 use mathlib.Core.{Path.{_≡_, refl, sym, _∙_, ap}, Bool.true, List.{List, [], _∷_, _++_}}
 use native.Mathlib.Omega.{arith}
-use lib.{ListN.{length, take}, Seq.length-take-le}
-use Rattle.protocol.specs.{Limits.{mostCores, mostLines}, Buffers.Bytes, About.{about, namedLine}, Refusals.machineRefusal}
+use lib.ListN.{length, take}
+use Rattle.protocol.specs.{Limits.{mostCores, mostLines}, Buffers.{Bytes, part}, About.{about, namedLine}, Given.{givenAs, bytesAs, bytesGiven}, Refusals.machineRefusal}
 use Rattle.protocol.specs.Machine.{Machine, machine, coreAt, lineAt, piecesAt, theCore, theLine, written, applied}
 use Rattle.protocol.specs.{Step.{Reply, meaning, actBytes, Outcome, accepted, step}, Run.{Entry, place, run}, Counts.{countsOf, sum}}
-use Rattle.protocol.{specs.declared.{Opening.Opening as Sizes, State.State, Call.Call, About.About, Counts.Counts, Effect.Effect}, proofs.Keep.still}
+use Rattle.protocol.{specs.declared.{Opening.Opening as Sizes, State.State, Call.Call, About.About, Given.Given, Counts.Counts, Effect.Effect}, proofs.Keep.still}
 use Rattle.spelling.specs.{Over.PutAt, declared.Put.{Put, the-variants.{End as PutEnd, Short as NoRoom}}}
 use Rattle.refusals.specs.Input.{inputRefusal}
 use Rattle.buffers.specs.Moves.{Moves}
@@ -16,7 +16,7 @@ use Rattle.driver.specs.Listing.{Ending, EndsAt, lines, lastLines}
 use Rattle.driver.specs.Play.{runFrom, few, resumable, Leads, Piece, aStep, theEnd, Fills, finished, more, Plays}
 use Rattle.driver.specs.Pieces.{endingOf, IsByte, StepDue, DueAt, aStep as isStep, theEnd as isEnd, beside, BesideInside, answerLine, checkpointAt}
 use Rattle.driver.specs.{Pieces.playedBy, declared.{Checkpoint.Checkpoint, Played.Played, Last.Last, Due.{Due, the-variants.{Step, Last as AtLast}}}}
-use Rattle.driver.proofs.{Counting.{same-counts, few-later}, Stepping.replied, Running.{entryOf, leads-none, leads-more, lines-more}}
+use Rattle.driver.proofs.{Counting.{same-counts, few-later}, Stepping.{replied, reply-printed}, Running.{entryOf, leads-none, leads-more, lines-more}}
 use Rattle.driver.proofs.{Resuming.{Resumes, leads-on}, Putting.{Written, put-written, put-short, fills-none, fills-more}}
 
 -- at the loop's head: the steps gs were made from one checkpoint to the other, and their lines are written
@@ -72,9 +72,9 @@ module _ {j : Bytes} {from : Checkpoint} {p₀ q₀ old : Bytes} {o : Sizes} {ba
 
   -- ---- a step
 
-  module _ {buf : Bytes} {call : Call} {n count next : ℕ} (x : StepDue j (there .at) (there .form) base o buf call n count next) where
+  module _ {call : Call} {n start end next : ℕ} (x : StepDue j (there .at) (there .form) base o call n start end next) where
     abbrev bs : Bytes
-    bs = take count buf
+    bs = part j start (end - start)
 
     abbrev m : Machine
     m = machine (there .state) p q
@@ -82,8 +82,8 @@ module _ {j : Bytes} {from : Checkpoint} {p₀ q₀ old : Bytes} {o : Sizes} {ba
     abbrev reply : Reply
     reply = step m call bs .reply
 
-    input : n ≡ inputRefusal m call (length bs)
-    input = rw (length-take-le count buf (x .bytes .fits), ← g .based, g .opening) (x .number)
+    input : n ≡ inputRefusal m call bs
+    input = rw (x .right, ← g .based, g .opening) (x .number)
 
     -- a step more, whose line was put
     stepped :
@@ -96,7 +96,7 @@ module _ {j : Bytes} {from : Checkpoint} {p₀ q₀ old : Bytes} {o : Sizes} {ba
           opening = eo;
           based = rw em (g .based ∙ still m call bs);
           gs = g .gs ++ (entryOf call bs ∷ []);
-          leads = leads-more (g .leads) call bs (checkpointAt next (there .form) k s') p' q' (x .line) (x .bytes .spelt) refl em ek;
+          leads = leads-more (g .leads) call bs (checkpointAt next (there .form) k s') p' q' (x .line) refl refl em ek;
           text = v .before ∙ rw (g .text) (sym (lines-more (g .leads) call bs));
           fills = fills-more (g .fills) v;
         }
@@ -104,18 +104,19 @@ module _ {j : Bytes} {from : Checkpoint} {p₀ q₀ old : Bytes} {o : Sizes} {ba
 -- ---- a step, from what its parts ensure
 
 pub step-due :
-    {j : Bytes} {at form base : ℕ} {o : Sizes} {buf : Bytes} {u : Due} {call : Call} {n count next : ℕ} → DueAt j at form base o buf u
-    → u ≡ Step call n count next → StepDue j at form base o buf call n count next
-step-due {j} {at} {form} {base} {o} {buf} {call = call} {n} {count} {next} (isStep {call = call'} {n = n'} {count = count'} {next = next'} x) e =
+    {j : Bytes} {at form base : ℕ} {o : Sizes} {u : Due} {call : Call} {n start end next : ℕ} → DueAt j at form base o u
+    → u ≡ Step call n start end next → StepDue j at form base o call n start end next
+step-due {j} {at} {form} {base} {o} {call = call} {n} {start} {end} {next} (isStep {call = call'} {n = n'} {start = start'} {end = end'} {next = next'} x) e =
     let ec : call' ≡ call = cc in
     let en : n' ≡ n = cc in
-    let ek : count' ≡ count = cc in
+    let es : start' ≡ start = cc in
+    let ed : end' ≡ end = cc in
     let ex : next' ≡ next = cc in
-    rw (← ec, ← en, ← ek, ← ex) x
+    rw (← ec, ← en, ← es, ← ed, ← ex) x
 step-due (isEnd x h) e = absurd (let z : _≡_ {A = ℕ} 0 1 = cc in omega arith)
 
 pub end-due :
-    {j : Bytes} {at form base : ℕ} {o : Sizes} {buf : Bytes} {u : Due} {w : Last} → DueAt j at form base o buf u → u ≡ AtLast w
+    {j : Bytes} {at form base : ℕ} {o : Sizes} {u : Due} {w : Last} → DueAt j at form base o u → u ≡ AtLast w
     → EndsAt j form at (endingOf w) × IsByte w
 end-due (isStep x) e = absurd (let z : _≡_ {A = ℕ} 0 1 = cc in omega arith)
 end-due {j} {at} {form} {w = w} (isEnd {w = w'} x h) e = let ew : w' ≡ w = cc in rw (← ew) (x, h)
@@ -129,10 +130,10 @@ pub record StepInPlace (j : Bytes) (from : Checkpoint) (p₀ q₀ old : Bytes) :
   pub out : Bytes
   pub there : Checkpoint
   pub used : ℕ
-  pub buf : Bytes
   pub call : Call
   pub n : ℕ
-  pub count : ℕ
+  pub start : ℕ
+  pub end : ℕ
   pub next : ℕ
   pub w : About
   pub v : ℕ
@@ -140,7 +141,7 @@ pub record StepInPlace (j : Bytes) (from : Checkpoint) (p₀ q₀ old : Bytes) :
   pub l : ℕ
   pub d : Effect
   pub reached : Reached j from p₀ q₀ old o base p q out there used
-  pub due : StepDue j (there .at) (there .form) base o buf call n count next
+  pub due : StepDue j (there .at) (there .form) base o call n start end next
   pub about : w ≡ about call
   pub named : Found (namedLine (w .line)) (o .lines) mostLines v
   pub core : Found (theCore (w .core) (lineAt (there .state) v .manager)) (o .cores) mostCores c
@@ -148,16 +149,17 @@ pub record StepInPlace (j : Bytes) (from : Checkpoint) (p₀ q₀ old : Bytes) :
   pub effect : d ≡ effectWith n call (piecesAt (there .state) c l) o
 
 module _ {j : Bytes} {from : Checkpoint} {p₀ q₀ old : Bytes} (s : StepInPlace j from p₀ q₀ old) where
-  abbrev given-bytes : Bytes
-  given-bytes = take (s .count) (s .buf)
+  -- its digits
+  abbrev digits : Bytes
+  digits = part j (s .start) (s .end - s .start)
 
   abbrev here : Machine
   here = machine (s .there .state) (s .p) (s .q)
 
   abbrev outcome : Outcome
-  outcome = step here (s .call) given-bytes
+  outcome = step here (s .call) digits
 
-  number-is : s .n ≡ inputRefusal here (s .call) (length given-bytes)
+  number-is : s .n ≡ inputRefusal here (s .call) digits
   number-is = input (s .reached) (s .due)
 
   finds : Finds here (s .call) (s .v) (s .c) (s .l)
@@ -166,23 +168,26 @@ module _ {j : Bytes} {from : Checkpoint} {p₀ q₀ old : Bytes} (s : StepInPlac
       let w = s .about in
       record { named = rw (o, ← w) (s .named .is); core = rw (o, ← w) (s .core .is); line = rw (o, ← w) (s .line .is) }
 
-  effect-is : s .d ≡ made here (s .call) given-bytes (s .n) number-is (s .v) (s .c) (s .l) finds
+  effect-is : s .d ≡ made here (s .call) digits (s .n) number-is (s .v) (s .c) (s .l) finds
   effect-is = rw (s .reached .opening) (s .effect)
 
   -- the bytes beside the answer lie in the private buffer
   pub shows : BesideInside (s .d .answer) (s .o) (s .c) (s .l) (length (s .p))
-  shows = rw (effect-is, ← s .reached .opening) (is-inside here (s .call) given-bytes (s .n) number-is (s .v) (s .c) (s .l) finds _ refl)
+  shows = rw (effect-is, ← s .reached .opening) (is-inside here (s .call) digits (s .n) number-is (s .v) (s .c) (s .l) finds _ refl)
 
-  -- the line that is put is the reply's; the bytes are lent as the part of the buffer from 0 on
+  -- the line that is put is the reply's
   abbrev line-put : Bytes
-  line-put = answerLine (s .there .counts .steps + 1) (s .w .act) (s .d .answer) (take (s .count - 0) (s .buf)) (s .o) (s .p) (s .c) (s .l)
+  line-put = answerLine (s .there .counts .steps + 1) (s .w .act) (s .d .answer) digits (s .o) (s .p) (s .c) (s .l)
+
+  line-is : line-put ≡ recordText (place (s .there .counts .steps + 1)) (outcome .reply)
+  line-is =
+      rw (effect-is, s .about, ← s .reached .opening)
+      (reply-printed here (s .call) digits (s .n) number-is (s .v) (s .c) (s .l) finds (place (s .there .counts .steps + 1)) (s .due .right))
 
   reply-is :
-      meaning (s .d .answer) (actBytes (s .w .act) (take (s .count - 0) (s .buf)) (beside (s .d .answer) (s .o) (s .p) (s .c) (s .l)))
+      meaning (s .d .answer) (actBytes (s .w .act) (bytesGiven (s .call) digits) (beside (s .d .answer) (s .o) (s .p) (s .c) (s .l)))
       ≡ outcome .reply
-  reply-is =
-      let z : s .count - 0 ≡ s .count = omega arith in
-      rw (z, effect-is, s .about, ← s .reached .opening) (replied here (s .call) given-bytes (s .n) number-is (s .v) (s .c) (s .l) finds)
+  reply-is = rw (effect-is, s .about, ← s .reached .opening) (replied here (s .call) digits (s .n) number-is (s .v) (s .c) (s .l) finds)
 
   counts-are :
       {k : Counts} → k ≡ sum (s .there .counts) (countsOf (s .call) (meaning (s .d .answer) []))
@@ -193,24 +198,23 @@ module _ {j : Bytes} {from : Checkpoint} {p₀ q₀ old : Bytes} (s : StepInPlac
   pub step-short :
       (out' : Bytes) (put : Put) (r : Played) → PutAt (s .out) (s .used) line-put out' put → put ≡ NoRoom
       → r ≡ playedBy NoRoom (s .used) (s .there) → Plays j from p₀ q₀ old (s .p) (s .q) out' r
-  step-short out' put r y z e = no-room (s .reached) _ out' put r (aStep (s .due .line) (s .due .bytes .spelt)) (rw reply-is at y) z e
+  step-short out' put r y z e = no-room (s .reached) _ out' put r (aStep (s .due .line)) (rw line-is at y) z e
 
   machine-is :
-      (p' q' : Bytes) → Moves (s .d .moves) (s .o) (s .c) (s .l) (take (s .count - 0) (s .buf)) (s .p) (s .q) p' q'
+      (p' q' : Bytes) (g : Given) → g ≡ givenAs (s .w .act) → Moves (s .d .moves) (s .o) (s .c) (s .l) (bytesAs g digits) (s .p) (s .q) p' q'
       → machine (written (s .there .state) (s .c) (s .l) (s .d)) p' q' ≡ outcome .machine
   unfolding accepted applied
-  machine-is p' q' b =
-      let z : s .count - 0 ≡ s .count = omega arith in
-      let i = is-moved here (s .call) given-bytes (s .n) number-is (s .v) (s .c) (s .l) finds p' q' (rw (z, effect-is, ← s .reached .opening) at b) in
-      rw (effect-is, i .0, i .1) (sym (ap (λ (x : Outcome). x .machine) (is-step here (s .call) given-bytes (s .n) number-is (s .v) (s .c) (s .l) finds)))
+  machine-is p' q' g h b =
+      let i = is-moved here (s .call) digits (s .n) number-is (s .v) (s .c) (s .l) finds p' q' (rw (h, s .about, effect-is, ← s .reached .opening) at b) in
+      rw (effect-is, i .0, i .1) (sym (ap (λ (x : Outcome). x .machine) (is-step here (s .call) digits (s .n) number-is (s .v) (s .c) (s .l) finds)))
 
   -- it was put, and the effect is written back
   pub step-made :
-      (p' q' out' : Bytes) (put : Put) (e : ℕ) (k : Counts) → PutAt (s .out) (s .used) line-put out' put → put ≡ PutEnd e
-      → Moves (s .d .moves) (s .o) (s .c) (s .l) (take (s .count - 0) (s .buf)) (s .p) (s .q) p' q'
+      (p' q' out' : Bytes) (put : Put) (e : ℕ) (k : Counts) (g : Given) → PutAt (s .out) (s .used) line-put out' put → put ≡ PutEnd e
+      → g ≡ givenAs (s .w .act) → Moves (s .d .moves) (s .o) (s .c) (s .l) (bytesAs g digits) (s .p) (s .q) p' q'
       → k ≡ sum (s .there .counts) (countsOf (s .call) (meaning (s .d .answer) []))
       → Reached j from p₀ q₀ old (s .o) (s .base) p' q' out'
       (checkpointAt (s .next) (s .there .form) k (written (s .there .state) (s .c) (s .l) (s .d))) e
-  step-made p' q' out' put e k y z b i =
-      stepped (s .reached) (s .due) (written (s .there .state) (s .c) (s .l) (s .d)) p' q' out' e k (machine-is p' q' b) (s .reached .opening)
-      (counts-are i) (put-written (rw reply-is at y) z)
+  step-made p' q' out' put e k g y z h b i =
+      stepped (s .reached) (s .due) (written (s .there .state) (s .c) (s .l) (s .d)) p' q' out' e k (machine-is p' q' g h b) (s .reached .opening)
+      (counts-are i) (put-written (rw line-is at y) z)

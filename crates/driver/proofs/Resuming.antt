@@ -27,12 +27,12 @@ resumes-again n s r = rw (ne-eqb (s .form) 0 (r .named), le-leb _ _ (r .inside),
 -- a step takes a byte of the journal or more
 pub steps-long : {j : Bytes} {form at to : ℕ} {gs : List Entry} → Between j form at gs to → at + length gs ≤ to
 steps-long noLine = omega arith
-steps-long (aLine x d r) = omega (arith, known x .1 .forward, steps-long r)
+steps-long (aLine x r) = omega (arith, known x .1 .forward, steps-long r)
 
 -- and stays inside it
 steps-inside : {j : Bytes} {form at to : ℕ} {gs : List Entry} → Between j form at gs to → at ≤ length j → to ≤ length j
 steps-inside noLine h = h
-steps-inside (aLine x d r) h = steps-inside r (known x .1 .inside)
+steps-inside (aLine x r) h = steps-inside r (known x .1 .inside)
 
 -- the steps of a run lead to another checkpoint of it
 pub leads-on :

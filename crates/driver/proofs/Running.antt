@@ -7,7 +7,7 @@ use Rattle.protocol.specs.{Pick.howMany, Buffers.{Bytes, part}, Machine.{Machin
 use Rattle.protocol.specs.{Counts.{countsOf, sum, tally}, declared.{Call.Call, Counts.Counts}}
 use Rattle.journal.specs.{Journal.NextOf, declared.Next.the-variants.Step}
 use Rattle.listing.specs.Record.{recordText}
-use Rattle.driver.specs.{Listing.{Data, Between, noLine, aLine, lines}, Play.{runFrom, Leads}, declared.Checkpoint.Checkpoint}
+use Rattle.driver.specs.{Listing.{Between, noLine, aLine, lines}, Play.{runFrom, Leads}, declared.Checkpoint.Checkpoint}
 use Rattle.driver.proofs.Counting.{plus-assoc, plus-none, tally-append, tally-one}
 
 -- ---- one list of steps after another
@@ -15,7 +15,7 @@ use Rattle.driver.proofs.Counting.{plus-assoc, plus-none, tally-append,
 -- lines that spell steps and then steps
 pub steps-append : {j : Bytes} {form a b d : ℕ} {gs hs : List Entry} → Between j form a gs b → Between j form b hs d → Between j form a (gs ++ hs) d
 steps-append noLine y = y
-steps-append (aLine x b r) y = aLine x b (steps-append r y)
+steps-append (aLine x r) y = aLine x (steps-append r y)
 
 pub lines-append : (rs ts : List Record) → lines (rs ++ ts) ≡ lines rs ++ lines ts
 unfolding lines
@@ -82,13 +82,13 @@ module _ {j : Bytes} {a b : Checkpoint} {p q p' q' : Bytes} {gs : List Entry} (l
       (ap (sum (tally before)) (sym (tally-one (recordAt b p' q' call bs))) ∙ sym (ap tally records-more ∙ tally-append before (recordAt b p' q' call bs ∷ [])))
 
   pub leads-more :
-      (d : Checkpoint) (x y : Bytes) {start end : ℕ} → NextOf j (b .at) (b .form) (Step call start end (d .at)) → Data (part j start (end - start)) bs
+      (d : Checkpoint) (x y : Bytes) {start end : ℕ} → NextOf j (b .at) (b .form) (Step call start end (d .at)) → bs ≡ part j start (end - start)
       → d .form ≡ b .form → machine (d .state) x y ≡ step (machine (b .state) p' q') call bs .machine → d .counts ≡ sum (b .counts) (countsOf call reply)
       → Leads j a p q (gs ++ (entryOf call bs ∷ [])) d x y
   unfolding run
   leads-more d x y n g ef em ek =
       record {
-        steps = steps-append (l .steps) (aLine (rw (l .form) at n) g noLine);
+        steps = steps-append (l .steps) (rw g (aLine (rw (l .form) at n) noLine));
         form = ef ∙ l .form;
         machine = em ∙ sym (run-last gs (entryOf call bs ∷ []) (a .counts .steps + 1) (machine (a .state) p q) ∙ rw (← l .machine));
         counts = ek ∙ counts-more;

@@ -4,7 +4,6 @@ use Prim.Native.Nat.{ℕ, _-_}
 use mathlib.Core.{Path._≡_, List.{List, [], _∷_, _++_}}
 use Rattle.protocol.specs.{Buffers.{Bytes, part}, Refusals.openRefusal, Step.refused, Run.{Entry, Record, place}, Counts.{oneOf, sum}}
 use Rattle.protocol.specs.declared.{Opening.Opening as Sizes, Call.Call, Counts.Counts, Class.the-variants.Refused as ARefusal}
-use Rattle.spelling.specs.Hex.{Spells}
 use Rattle.journal.specs.{Journal.NextOf, declared.Next.the-variants.{Opening, Step, End, Refused}}
 use Rattle.listing.specs.Record.{recordText, endText}
 
@@ -15,18 +14,16 @@ pub data Ending : Type 0 where
   ended : Ending
   stopped : ℕ → Ending
 
--- the bytes given to a step: those that its data digits spell; none where it has no data
-pub data Data (digits : Bytes) : Bytes → Type 0 where
-  noData : digits ≡ [] → Data digits []
-  someData : {bs : Bytes} → Spells digits bs → Data digits bs
+-- a step of a journal: its call, given the digits of its `data=`, which lie from one offset up to another; a step without data is given nothing
+abbrev pub entryAt : Bytes → Call → ℕ → ℕ → Entry
+entryAt journal call start end = record { call = call; bytes = part journal start (end - start) }
 
 -- the lines of a journal of some form from one offset up to another spell these steps, one after the other
 pub data Between (journal : Bytes) (form : ℕ) : ℕ → List Entry → ℕ → Type 0 where
   noLine : {at : ℕ} → Between journal form at [] at
   aLine :
-      {at to : ℕ} {call : Call} {start end next : ℕ} {bs : Bytes} {gs : List Entry} → NextOf journal at form (Step call start end next)
-      → Data (part journal start (end - start)) bs → Between journal form next gs to
-      → Between journal form at (record { call = call; bytes = bs } ∷ gs) to
+      {at to : ℕ} {call : Call} {start end next : ℕ} {gs : List Entry} → NextOf journal at form (Step call start end next)
+      → Between journal form next gs to → Between journal form at (entryAt journal call start end ∷ gs) to
 
 -- no step is at an offset: the journal ends there
 pub data EndsAt (journal : Bytes) (form at : ℕ) : Ending → Type 0 where

@@ -1,34 +1,22 @@
--- The parts of the driver's loop: what is due at an offset, the bytes of a step, the bytes beside an answer, how far a call came.
+-- The parts of the driver's loop: what is due at an offset, the bytes beside an answer, how far a call came.
 use Prim.Native.Nat.{ℕ, _+_, _-_, _≤_, _<_}
 use mathlib.Core.{Path._≡_, Bool.{Bool, true, false}}
-use lib.ListN.{length, take}
+use lib.ListN.{length}
 use denote.Ref.{RefT, now}
-use Rattle.protocol.specs.{Pick.pick, Buffers.{Bytes, part, copyStart}, Refusals.{callRefusal, orElse}, Run.place, Step.{meaning, actBytes}}
+use Rattle.protocol.specs.{Pick.pick, Buffers.{Bytes, part, copyStart}, About.about, Given.{givenAs, bytesGiven}}
+use Rattle.protocol.specs.{Refusals.{givenRefusal, callRefusal, orElse}, Run.place, Step.{meaning, actBytes}}
 use Rattle.protocol.specs.declared.{Opening.Opening as Sizes, State.State, Call.Call}
 use Rattle.protocol.specs.declared.{Act.{Act, the-variants.{Load, Store, Fence, Advance, Transfer}}, Answer.Answer, Counts.Counts}
 use Rattle.spelling.specs.{declared.Put.{Put, the-variants.{End as PutEnd, Short}}, Over.PutAt}
 use Rattle.journal.specs.{Journal.NextOf, declared.Next.the-variants.Step as StepLine}
 use Rattle.buffers.specs.Moves.{isThere}
-use Rattle.listing.specs.Record.{recordText}
+use Rattle.listing.specs.Record.{recordAs}
 use Rattle.tables.specs.{Spans.spanOf, declared.Span.Span}
-use Rattle.driver.specs.{Listing.{Ending, ended, stopped, Data, EndsAt}, Play.{firstCheckpoint, unopened}, declared.Checkpoint.Checkpoint}
+use Rattle.driver.specs.{Listing.{Ending, ended, stopped, EndsAt}, Play.{firstCheckpoint, unopened}, declared.Checkpoint.Checkpoint}
 use Rattle.driver.specs.declared.{Played.Played, Last.{Last, the-variants.{End, Refused}}, Due.{Due, the-variants.{Step, Last as AtLast}}}
 use Rattle.driver.specs.declared.Progress.{Progress, the-variants.{Finished, More, Short as TooShort}}
 
 -- ---- what is due
-
--- the digits of a step of the journal lie in it, and spell bytes that have room in a line's
-pub record Digits (journal : Bytes) (start end : ℕ) : Type 0 where
-  pub order : start ≤ end
-  pub inside : end ≤ length journal
-  pub short : end - start ≤ 200
-  pub bytes : Bytes
-  pub spelt : Data (part journal start (end - start)) bytes
-
--- the first n bytes of a buffer are those that the digits spell
-pub record Decodes (digits buf : Bytes) (n : ℕ) : Type 0 where
-  pub fits : n ≤ length buf
-  pub spelt : Data digits (take n buf)
 
 -- how a journal ends
 abbrev pub endingOf : Last → Ending
@@ -40,27 +28,27 @@ abbrev pub IsByte : Last → Type 0
 IsByte End = Unit {0}
 IsByte (Refused n) = n < 256
 
--- a step at an offset of a journal: the step's bytes are the first `count` of the buffer, and n is the first of 1 to 6 that applies
-pub record StepDue (journal : Bytes) (at form base : ℕ) (o : Sizes) (buf : Bytes) (call : Call) (n count next : ℕ) : Type 0 where
-  pub start : ℕ
-  pub end : ℕ
+-- a step at an offset of a journal: its digits lie in the journal and are right, and n is the first of 1 to 6 that applies
+pub record StepDue (journal : Bytes) (at form base : ℕ) (o : Sizes) (call : Call) (n start end next : ℕ) : Type 0 where
   pub line : NextOf journal at form (StepLine call start end next)
-  pub bytes : Decodes (part journal start (end - start)) buf count
-  pub number : n ≡ orElse base (callRefusal call o count)
+  pub order : start ≤ end
+  pub ends : end ≤ length journal
+  pub right : givenRefusal (givenAs (about call .act)) (part journal start (end - start)) ≡ 0
+  pub number : n ≡ orElse base (callRefusal call o (length (bytesGiven call (part journal start (end - start)))))
   pub forward : at < next
   pub inside : next ≤ length journal
 
 -- what is due at an offset of a journal: a step, or its end
-pub data DueAt (journal : Bytes) (at form base : ℕ) (o : Sizes) (buf : Bytes) : Due → Type 0 where
-  aStep : {call : Call} {n count next : ℕ} → StepDue journal at form base o buf call n count next → DueAt journal at form base o buf (Step call n count next)
-  theEnd : {w : Last} → EndsAt journal form at (endingOf w) → IsByte w → DueAt journal at form base o buf (AtLast w)
+pub data DueAt (journal : Bytes) (at form base : ℕ) (o : Sizes) : Due → Type 0 where
+  aStep : {call : Call} {n start end next : ℕ} → StepDue journal at form base o call n start end next → DueAt journal at form base o (Step call n start end next)
+  theEnd : {w : Last} → EndsAt journal form at (endingOf w) → IsByte w → DueAt journal at form base o (AtLast w)
 
 -- ---- the line of an answer
 
 -- the call stores
 abbrev pub isStore : Act → Bool
 isStore Load = false
-isStore Store = true
+isStore (Store g) = true
 isStore Fence = false
 isStore (Advance n) = false
 isStore Transfer = false
@@ -72,9 +60,9 @@ besideAt a o c l = spanOf a (pick (isThere o c l) (copyStart o c l) 0) (o .width
 abbrev pub beside : Answer → Sizes → Bytes → ℕ → ℕ → Bytes
 beside a o p c l = part p (besideAt a o c l .start) (besideAt a o c l .count)
 
--- the line of an answer at place n: a store's bytes are those given
+-- the line of an answer at place n: a store's data are those given
 abbrev pub answerLine : ℕ → Act → Answer → Bytes → Sizes → Bytes → ℕ → ℕ → Bytes
-answerLine n t a given o p c l = recordText (place n) (meaning a (actBytes t given (beside a o p c l)))
+answerLine n t a given o p c l = recordAs (givenAs t) (place n) (meaning a (actBytes t given (beside a o p c l)))
 
 -- that line put at an offset of a lent output
 abbrev pub PutsAnswer : RefT Bytes → ℕ → ℕ → Act → Answer → RefT Bytes → Sizes → RefT Bytes → ℕ → ℕ → RefT Bytes → Put → Type 0

@@ -9,7 +9,7 @@ use Rattle.protocol.specs.{Step.{openReply, step}, Run.{Entry, Run, place, run}
 use Rattle.protocol.specs.declared.{Call.Call, Counts.Counts}
 use Rattle.journal.specs.{Journal.NextOf, declared.Next.the-variants.{Opening, Step}}
 use Rattle.listing.specs.Record.{recordText}
-use Rattle.driver.specs.{Listing.{Ending, Data, Between, EndsAt, lines, lastLines, NotOpened, notOpened}, declared.Checkpoint.Checkpoint}
+use Rattle.driver.specs.{Listing.{Ending, entryAt, Between, EndsAt, lines, lastLines, NotOpened, notOpened}, declared.Checkpoint.Checkpoint}
 use Rattle.driver.specs.declared.{Progress.{Progress, the-variants.{Finished, More, Short, Unfit}}, Played.Played}
 
 -- ---- the checkpoints of a run
@@ -46,9 +46,8 @@ pub record Leads (journal : Bytes) (a : Checkpoint) (p q : Bytes) (gs : List Ent
 -- what is written next from a checkpoint, in one piece: a step's line, or the last lines
 pub data Piece (journal : Bytes) (s : Checkpoint) (p q : Bytes) : Bytes → Type 0 where
   aStep :
-      {call : Call} {start end next : ℕ} {bs : Bytes} → NextOf journal (s .at) (s .form) (Step call start end next)
-      → Data (part journal start (end - start)) bs
-      → Piece journal s p q (recordText (place (s .counts .steps + 1)) (step (machine (s .state) p q) call bs .reply))
+      {call : Call} {start end next : ℕ} → NextOf journal (s .at) (s .form) (Step call start end next)
+      → Piece journal s p q (recordText (place (s .counts .steps + 1)) (step (machine (s .state) p q) call (entryAt journal call start end .bytes) .reply))
   theEnd : {e : Ending} → EndsAt journal (s .form) (s .at) e → Piece journal s p q (lastLines (s .counts) e)
 
 -- ---- the output

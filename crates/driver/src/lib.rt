@@ -51,13 +51,14 @@ enum Last {
     Refused(u32),
 }
 
-// What is due at an offset of a journal: a step with the first of 1 to 6 that applies or 0, the count of
-// the bytes given to it and the offset of the next line; or the journal's end.
+// What is due at an offset of a journal: a step with the first of 1 to 6 that applies or 0, where the
+// digits given to it lie and the offset of the next line; or the journal's end.
 enum Due {
     Step {
         call: Call,
         number: u8,
-        count: usize,
+        start: usize,
+        end: usize,
         next: usize,
     },
     Last(Last),
@@ -154,8 +155,7 @@ pub fn play(
     let opening = s.opening;
     let base = one_line::base_of(s, private.len(), shared.len());
     loop {
-        let mut bytes = [0u8; 128];
-        match one_line::due(journal, at, form, base, opening, &mut bytes) {
+        match one_line::due(journal, at, form, base, opening) {
             Due::Last(last) => {
                 let put = one_line::put_last(out, used, last, counts);
                 return one_line::played(put, used, at, form, counts, s);
@@ -163,13 +163,16 @@ pub fn play(
             Due::Step {
                 call,
                 number,
-                count,
+                start,
+                end,
                 next,
             } => {
                 // The effect of the call on the core, the copy and the manager's line that it is about. Its
-                // line is put first: where there is no room, nothing has changed.
+                // line is put first: where there is no room, nothing has changed. A store's digits are put as
+                // they are, and decoded where its bytes lie.
                 let about = call.about();
                 let act = about.act;
+                let read = act.given();
                 let named = tables::named_line(about, opening);
                 let owned = s.line[named];
                 let manager = owned.manager;
@@ -190,7 +193,7 @@ pub fn play(
                     place,
                     act,
                     answer,
-                    &bytes[0..count],
+                    &journal[start..end],
                     private,
                     opening,
                     c,
@@ -210,12 +213,13 @@ pub fn play(
                         s.line[l] = line;
                         buffers::move_bytes(
                             moves,
+                            read,
                             opening,
                             private,
                             shared,
                             c,
                             l,
-                            &bytes[0..count],
+                            &journal[start..end],
                         );
                         used = e;
                         counts = one_line::met(counts, call, answer);

@@ -1,15 +1,15 @@
 // The parts of the driver's loop, which goes through the journal line by line. A function that has a
 // `requires` says what the loop knows where it calls it.
 ghost use mathlib.Core.{Path._≡_, Bool.true, List.[]};
-ghost use Prim.Native.Nat.{_-_, _≤_, _<_};
+ghost use Prim.Native.Nat.{_≤_, _<_};
 ghost use lib.ListN.{length};
-ghost use Rattle.protocol.specs.{Buffers.part, Refusals.{machineRefusal, callRefusal, orElse}, Run.place, Counts.{countsOf, oneOf, sum}};
+ghost use Rattle.protocol.specs.{Refusals.{machineRefusal, callRefusal, orElse}, Run.place, Counts.{countsOf, oneOf, sum}};
 ghost use Rattle.protocol.specs.Step.{done, meaning};
 ghost use Rattle.refusals.specs.Input.{machineWith};
 ghost use Rattle.spelling.specs.Over.{PutAt};
 ghost use Rattle.listing.specs.Record.{recordText};
 ghost use Rattle.driver.specs.{Listing.{stopLines, lastLines, notOpened}, Play.{few, firstCheckpoint, unopened}};
-ghost use Rattle.driver.specs.Pieces.{isStore, Digits, Decodes, DueAt, PutsAnswer, BesideInside, endingOf, IsByte, checkpointAt, playedBy, Puts};
+ghost use Rattle.driver.specs.Pieces.{isStore, DueAt, PutsAnswer, BesideInside, endingOf, IsByte, checkpointAt, playedBy, Puts};
 ghost use Rattle.driver.specs.Pieces.{progressBy, writtenBy, refusedBy, openedBy};
 use super::Checkpoint;
 use super::Due;
@@ -22,11 +22,11 @@ use protocol::Answer;
 use protocol::Call;
 use protocol::Class;
 use protocol::Counts;
+use protocol::Given;
 use protocol::Name;
 use protocol::Opening;
 use protocol::Place;
 use protocol::State;
-use spelling::Decoded;
 use spelling::Put;
 
 // The first of 1 and 2 that applies to a state and buffers of so many bytes, or 0.
@@ -49,34 +49,11 @@ fn number_of(base: u8, call: Call, opening: Opening, count: usize) -> u8
     refusals::call_refusal(call, opening, count)
 }
 
-// The bytes given to a step, to the start of a buffer, from its digits in the journal: how many there
-// are.
-fn decode(buf: &mut [u8], journal: &[u8], start: usize, end: usize) -> usize
-    requires { ⌜ Digits (now journal) start end × (100 ≤ length (now buf)) ⌝ }
-    ensures { λ r. ⌜ Decodes (part (now (journal .entry)) start (end - start)) (now (buf .exit)) r ⌝ }
-{
-    if start == end {
-        return 0;
-    }
-    match spelling::decode(buf, &journal[start..end]) {
-        Decoded::Bytes(n) => n,
-        Decoded::NoRoom => 0,
-        Decoded::Wrong => 0,
-    }
-}
-
-// What is due at an offset of a journal whose first line was read; a step's bytes are put to the start of
-// a buffer.
-pub(crate) fn due(
-    journal: &[u8],
-    at: usize,
-    form: u32,
-    base: u8,
-    opening: Opening,
-    buf: &mut [u8; 128],
-) -> Due
+// What is due at an offset of a journal whose first line was read. Two digits are a byte that is given to
+// a step.
+pub(crate) fn due(journal: &[u8], at: usize, form: u32, base: u8, opening: Opening) -> Due
     requires { ⌜ (form ≡ 0 → ⊥) ⌝ }
-    ensures { λ r. ⌜ DueAt (now (journal .entry)) at form base opening (now (buf .exit)) r ⌝ }
+    ensures { λ r. ⌜ DueAt (now (journal .entry)) at form base opening r ⌝ }
 {
     match journal::step_at(journal, at, form) {
         // No line after the first opens an engine.
@@ -89,12 +66,12 @@ pub(crate) fn due(
             end,
             next,
         } => {
-            let count = decode(buf, journal, start, end);
-            let number = number_of(base, call, opening, count);
+            let number = number_of(base, call, opening, (end - start) / 2);
             Due::Step {
                 call,
                 number,
-                count,
+                start,
+                end,
                 next,
             }
         }
@@ -155,14 +132,15 @@ fn is_store(act: Act) -> bool
 {
     match act {
         Act::Load => false,
-        Act::Store => true,
+        Act::Store(_) => true,
         Act::Fence => false,
         Act::Advance(_) => false,
         Act::Transfer => false,
     }
 }
 
-// The line of a call's answer at its place, for core c and line l: a store's bytes are those given, a load's those of the copy.
+// The line of a call's answer at its place, for core c and line l: a store's data are those given, which are put as they are where
+// they are digits, a load's the bytes of the copy.
 pub(crate) fn put_answer(
     out: &mut [u8],
     at: usize,
@@ -179,13 +157,20 @@ pub(crate) fn put_answer(
     ensures { λ r. ⌜ PutsAnswer (out .entry) at place act answer (given .entry) opening («private» .entry) c l (out .exit) r ⌝ }
 {
     if is_store(act) {
-        return listing::put_record(out, at, Place(place), answer, given);
+        return listing::put_record(out, at, Place(place), answer, act.given(), given);
     }
     let copy = buffers::copy_start(opening, c, l);
     let span = tables::span_of(answer, copy, opening.width);
     let start = span.start;
     let end = start + span.count;
-    listing::put_record(out, at, Place(place), answer, &private[start..end])
+    listing::put_record(
+        out,
+        at,
+        Place(place),
+        answer,
+        Given::Bytes,
+        &private[start..end],
+    )
 }
 
 // The last lines of a run that a refused line ends, where they fit; `counts` has that line, whose place is
@@ -203,6 +188,7 @@ fn put_stop(out: &mut [u8], at: usize, number: u32, counts: Counts) -> Put
         0,
         Place(place),
         Answer::Refused(n),
+        Given::Bytes,
         &nothing[0..0],
     ) {
         Put::Short => Put::Short,
@@ -311,7 +297,14 @@ pub(crate) fn open(out: &mut [u8], at: usize, form: u32, opening: Opening) -> Pl
     ensures { λ r. ⌜ Puts (recordText (place 0) (done Name.Open)) (openedBy at form opening) (now (out .entry)) (now (out .exit)) r ⌝ }
 {
     let nothing = [0u8; 1];
-    match listing::put_record(out, 0, Place(0), Answer::Done(Name::Open), &nothing[0..0]) {
+    match listing::put_record(
+        out,
+        0,
+        Place(0),
+        Answer::Done(Name::Open),
+        Given::Bytes,
+        &nothing[0..0],
+    ) {
         Put::End(e) => first(Progress::More, e, at, form, opening),
         Put::Short => unopened(Progress::Short, 0),
     }

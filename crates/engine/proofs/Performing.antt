@@ -3,21 +3,21 @@
 use Prim.Native.Nat.{ℕ}
 use mathlib.Core.Path.{_≡_, refl, ap, _∙_}
 use lib.ListN.{length, set, length-replicate}
-use Rattle.protocol.specs.{Pick.pick, Buffers.{Bytes, copyStart}, Machine.{machine, piecesAt, cellOf, applied}, Refusals.{stateFits, machineRefusal}}
+use Rattle.protocol.specs.{Pick.pick, Buffers.{Bytes, copyStart}, Given.bytesGiven, Machine.{machine, piecesAt, cellOf, applied}, Refusals.{stateFits, machineRefusal}}
 use Rattle.protocol.specs.{Step.accepted, declared.{State.State, Call.Call}}
 use Rattle.refusals.specs.Input.{machineWith, inputRefusal}
 use Rattle.buffers.specs.Moves.{isThere}
 use Rattle.tables.{specs.{declared.Span.Span, Found.effectWith}, proofs.Making.{Finds, is-step, is-moved, is-reply, is-span}}
 use Rattle.engine.specs.{declared.NewPieces.NewPieces, Pieces.MadeBy, Calls.Performs}
 
-module _ (s : State) (p q : Bytes) (call : Call) (given : Bytes) (n : ℕ) (e : n ≡ inputRefusal (machineWith (s .opening) (s .core) (s .line) (length p) (length q)) call (length given)) where
-  here : n ≡ inputRefusal (machine s p q) call (length given)
+module _ (s : State) (p q : Bytes) (call : Call) (given : Bytes) (n : ℕ) (e : n ≡ inputRefusal (machineWith (s .opening) (s .core) (s .line) (length p) (length q)) call given) where
+  here : n ≡ inputRefusal (machine s p q) call given
   unfolding machineRefusal stateFits
   here = rw (length-replicate, length-replicate) at e
 
   pub performs :
       (v c l : ℕ) → Finds (machine s p q) call v c l → (t : NewPieces) (p' q' : Bytes)
-      → MadeBy (effectWith n call (piecesAt s c l) (s .opening)) (s .opening) c l given p q t p' q'
+      → MadeBy (effectWith n call (piecesAt s c l) (s .opening)) (s .opening) c l (bytesGiven call given) p q t p' q'
       → Performs (machine s p q) call given
       (record {
         answer = t .answer;

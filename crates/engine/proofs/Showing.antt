@@ -1,6 +1,6 @@
 -- Which part `show` gives, where a refusal applies and where none does.
 use Prim.Native.Nat.{ℕ, _+_, _-_}
-use mathlib.Core.{Path.{_≡_, sym, _∙_}, Bool.{true, false}}
+use mathlib.Core.{Path.{_≡_, sym, _∙_}, Bool.{true, false}, List.[]}
 use native.Mathlib.Omega.{arith}
 use lib.ListN.{length, length-replicate}
 use borrow.Author.Tests.{ne-eqb}
@@ -21,7 +21,7 @@ abbrev lengthsOnly : State → RefT Bytes → RefT Bytes → Machine
 lengthsOnly s p q = machineWith (s .opening) (s .core) (s .line) (length (now p)) (length (now q))
 
 -- n is the refusal that it gives for core c and line l
-module _ (s : State) (p q : RefT Bytes) (c l n : ℕ) (e : n ≡ inputRefusal (lengthsOnly s p q) (Load c l) 0) where
+module _ (s : State) (p q : RefT Bytes) (c l n : ℕ) (e : n ≡ inputRefusal (lengthsOnly s p q) (Load c l) []) where
   here : n ≡ showRefusal (machine s (now p) (now q)) c l
   unfolding machineRefusal stateFits
   here = rw (length-replicate, length-replicate) at e

@@ -10,7 +10,7 @@ use Rattle.tables.specs.Spans.{spanOf}
 use Rattle.engine.specs.declared.{Opened.Opened, Returned.Returned}
 
 -- a call on the machine m that returns r and leaves the buffers p and q: answer, commit's bytes, state and both buffers are those of `step`;
--- `given` are the bytes given to a store
+-- `given` is what is given to a store, its bytes or their digits
 pub record Performs (m : Machine) (call : Call) (given : Bytes) (r : Returned) (p q : Bytes) : Type 0 where
   pub reply : meaning (r .answer) (part p (r .start) (r .count)) ≡ step m call given .reply
   pub machine : machine (r .state) p q ≡ step m call given .machine

@@ -8,7 +8,7 @@ use Rattle.protocol.specs.{Run.{Entry, Record, place, Commit, commits}, Order.{
 use Rattle.protocol.specs.declared.{Answer.the-variants.Done as Named, Name.the-variants.Open}
 use Rattle.engine.specs.{declared.{Returned.Returned, Opened.Opened}, Calls.{Opens, Performs}}
 
--- a call that was made: the call with the bytes given to it, what it returned, and both buffers as it left them
+-- a call that was made: the call with what is given to it, what it returned, and both buffers as it left them
 pub record Made : Type 0 where
   pub entry : Entry
   pub returned : Returned
@@ -20,7 +20,7 @@ abbrev pub left : Made → Machine
 left e = machine (e .returned .state) (e .private) (e .shared)
 
 -- calls made one after the other, the first on the machine m: "Each call gets the state and both buffers that the call before returned".
--- `Performs` is what `step` and the functions of the calls ensure: of the state and the buffers that it got, its call and the bytes given to it, what it
+-- `Performs` is what `step` and the functions of the calls ensure: of the state and the buffers that it got, its call and what is given to it, what it
 -- returned, and the buffers on its return
 pub data MadeFrom : Machine → List Made → Type 0 where
   none : {m : Machine} → MadeFrom m []

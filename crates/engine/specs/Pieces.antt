@@ -2,7 +2,8 @@
 use Prim.Native.Nat.{ℕ}
 use mathlib.Core.Path.{_≡_}
 use denote.Ref.{RefT, now}
-use Rattle.protocol.specs.{Pick.pick, Buffers.{Bytes, copyStart}, Machine.Pieces, declared.{Opening.Opening, Call.Call, Effect.Effect}}
+use Rattle.protocol.specs.{Pick.pick, Buffers.{Bytes, copyStart}, Given.bytesAs, Machine.Pieces}
+use Rattle.protocol.specs.declared.{Opening.Opening, Call.Call, Given.Given, Effect.Effect}
 use Rattle.buffers.specs.Moves.{isThere, Moves}
 use Rattle.tables.specs.{Found.effectWith, Spans.spanOf}
 use Rattle.engine.specs.declared.NewPieces.{NewPieces}
@@ -17,6 +18,7 @@ pub record MadeBy (d : Effect) (o : Opening) (c l : ℕ) (given p q : Bytes) (r 
   pub span : record { start = r .start; count = r .count } ≡ spanOf (r .answer) (pick (isThere o c l) (copyStart o c l) 0) (o .width)
   pub buffers : Moves (d .moves) o c l given p q p' q'
 
--- the same of a call's effect on the pieces x, where n is the first of 1 to 6 that applies, or 0, and of lent buffers
-abbrev pub OnPieces : ℕ → Call → Opening → Pieces → ℕ → ℕ → RefT Bytes → RefT Bytes → RefT Bytes → NewPieces → RefT Bytes → RefT Bytes → Type 0
-OnPieces n call o x c l given p q r p' q' = MadeBy (effectWith n call x o) o c l (now given) (now p) (now q) r (now p') (now q')
+-- the same of a call's effect on the pieces x, where n is the first of 13 and 1 to 6 that applies, or 0, and of lent buffers; what is given is
+-- read as bytes or as digits
+abbrev pub OnPieces : ℕ → Call → Given → Opening → Pieces → ℕ → ℕ → RefT Bytes → RefT Bytes → RefT Bytes → NewPieces → RefT Bytes → RefT Bytes → Type 0
+OnPieces n call g o x c l given p q r p' q' = MadeBy (effectWith n call x o) o c l (bytesAs g (now given)) (now p) (now q) r (now p') (now q')

@@ -13,6 +13,7 @@ use protocol::Call;
 use protocol::Cell;
 use protocol::Copy;
 use protocol::Core;
+use protocol::Given;
 use protocol::ManagerLine;
 use protocol::Name;
 use protocol::Opening;
@@ -40,10 +41,11 @@ pub struct Returned {
 }
 
 // What a call makes of the pieces of a core and a line, with its line of bytes moved. `n` is the first
-// of 1 to 6 that applies, or 0; `given` are the bytes given to a store.
+// of 13 and 1 to 6 that applies, or 0; `given` is what is given to a store, and `read` how it is read.
 fn on_pieces(
     n: u8,
     call: Call,
+    read: Given,
     opening: Opening,
     k: Core,
     copy: Copy,
@@ -54,7 +56,7 @@ fn on_pieces(
     l: usize,
     given: &[u8],
 ) -> NewPieces
-    ensures { λ r. ⌜ OnPieces n call opening (pieces l k copy m) c l (given .entry) («private» .entry) (shared .entry) r («private» .exit) (shared .exit) ⌝ }
+    ensures { λ r. ⌜ OnPieces n call read opening (pieces l k copy m) c l (given .entry) («private» .entry) (shared .entry) r («private» .exit) (shared .exit) ⌝ }
 {
     let d = tables::effect(n, call, l, k, copy, m, opening);
     let answer = d.answer;
@@ -64,7 +66,7 @@ fn on_pieces(
     let next_line = d.line;
     let start = buffers::copy_start(opening, c, l);
     let b = tables::span_of(answer, start, opening.width);
-    buffers::move_bytes(moves, opening, private, shared, c, l, given);
+    buffers::move_bytes(moves, read, opening, private, shared, c, l, given);
     NewPieces {
         answer,
         start: b.start,
@@ -75,8 +77,8 @@ fn on_pieces(
     }
 }
 
-// Makes a call; `given` are the bytes given to a store, which any other call passes over. A refused call
-// takes the same way: its pieces are written back as they are.
+// Makes a call; `given` is what is given to a store, its bytes or their digits, as the call says. Any other
+// call passes over it. A refused call takes the same way: its pieces are written back as they are.
 pub fn step(s: State, private: &mut [u8], shared: &mut [u8], call: Call, given: &[u8]) -> Returned
     ensures { λ r. ⌜ Makes call (now (given .entry)) s («private» .entry) (shared .entry) r («private» .exit) (shared .exit) ⌝ }
 {
@@ -90,10 +92,12 @@ pub fn step(s: State, private: &mut [u8], shared: &mut [u8], call: Call, given: 
         lines,
         private.len(),
         shared.len(),
-        given.len(),
+        given,
     );
     let mut next = s;
     let about = call.about();
+    let act = about.act;
+    let read = act.given();
     let named = tables::named_line(about, opening);
     let owned = next.line[named];
     let manager = owned.manager;
@@ -105,7 +109,9 @@ pub fn step(s: State, private: &mut [u8], shared: &mut [u8], call: Call, given: 
     let e = next.cell[i];
     let m = next.line[l];
     let copy = e.copy;
-    let made = on_pieces(n, call, opening, k, copy, m, private, shared, c, l, given);
+    let made = on_pieces(
+        n, call, read, opening, k, copy, m, private, shared, c, l, given,
+    );
     let answer = made.answer;
     let core = made.core;
     let cell = made.cell;
@@ -137,9 +143,44 @@ pub fn store(
     line: usize,
     given: &[u8],
 ) -> Returned
-    ensures { λ r. ⌜ Makes (Call.Store core line) (now (given .entry)) s («private» .entry) (shared .entry) r («private» .exit) (shared .exit) ⌝ }
+    ensures { λ r. ⌜ Makes (Call.Store Given.Bytes core line) (now (given .entry)) s («private» .entry) (shared .entry) r («private» .exit) (shared .exit) ⌝ }
 {
-    step(s, private, shared, Call::Store { core, line }, given)
+    step(
+        s,
+        private,
+        shared,
+        Call::Store {
+            given: Given::Bytes,
+            core,
+            line,
+        },
+        given,
+    )
+}
+
+// A core stores the bytes that digits spell, as `data=` has them, to a line: what `store` gives for those
+// bytes, or 13, before any other number, where they are no digits of bytes.
+pub fn store_digits(
+    s: State,
+    private: &mut [u8],
+    shared: &mut [u8],
+    core: usize,
+    line: usize,
+    digits: &[u8],
+) -> Returned
+    ensures { λ r. ⌜ Makes (Call.Store Given.Digits core line) (now (digits .entry)) s («private» .entry) (shared .entry) r («private» .exit) (shared .exit) ⌝ }
+{
+    step(
+        s,
+        private,
+        shared,
+        Call::Store {
+            given: Given::Digits,
+            core,
+            line,
+        },
+        digits,
+    )
 }
 
 // A core's later loads come after its earlier stores.
@@ -272,7 +313,15 @@ pub fn show<'a>(s: State, private: &'a [u8], shared: &'a [u8], core: usize, line
     let lines = s.line;
     let width = opening.width;
     let call = Call::Load { core, line };
-    let n = refusals::input_refusal(call, opening, cores, lines, private.len(), shared.len(), 0);
+    let n = refusals::input_refusal(
+        call,
+        opening,
+        cores,
+        lines,
+        private.len(),
+        shared.len(),
+        b"",
+    );
     if n != 0 {
         return part(shared, 0, 0);
     }

@@ -1,13 +1,14 @@
--- What is known of the rows of each form of journal: which part of the table they are, their shape, and what their lines say. A new form is a
--- line in `ranged`, `no-row`, `opening-at` and `rows-say`. Assumes nothing.
+-- What is known of the rows of each form of journal: which part of the table they are, their shape, what their lines say, and that a step has
+-- data exactly if its call is given digits. A new form is a line in `ranged`, `no-row`, `opening-at`, `rows-say` and `rows-fed`. Assumes nothing.
 use Prim.Native.Nat.{ℕ, zero, suc, _+_, _-_, _≤_, _<_}
-use mathlib.Core.{Path.{_≡_, refl, sym, _∙_, ap, subst}, Bool.{Bool, true, false}, List.List}
+use mathlib.Core.{Path.{_≡_, refl, sym, _∙_, ap, subst}, Bool.{Bool, true, false}, List.{List, [], _∷_}}
 use native.Mathlib.Omega.{arith}
 use lib.{Dec.{ltb, lit≤}, ListN.{length, take, drop}, Seq.{getD-take, getD-drop}}
 use borrow.Author.Tests.{ltb-true}
-use Rattle.protocol.{specs.declared.Opening.{Opening as Sizes}, proofs.Tests.never}
+use Rattle.protocol.{specs.declared.{Opening.{Opening as Sizes}, Given.{Given, the-variants.{Bytes, Digits}}}, proofs.Tests.never}
+use Rattle.protocol.specs.{Pick.{pick, fails}, About.about, Given.givenAs}
 use Rattle.grammar.specs.Table.{Numbered, Says, opens, calls, Row, rowsOf, noRow, rowAt, table, stepCount, openingCount, rowCount, formCount}
-use Rattle.grammar.specs.{Table.{fromOf, toOf}, Form.Has, Line.Matches, Scan.formOf}
+use Rattle.grammar.specs.{Table.{fromOf, toOf}, Form.{Part, fixed, value, number, pairs, Has}, Line.Matches, Scan.formOf}
 use Rattle.grammar.proofs.{Fit.Shaped, Rows.{entry-at, every, every-at}}
 
 -- ---- the rows of each form are one part of the table
@@ -93,3 +94,46 @@ rows-say (suc (suc (suc form))) n = refl
 
 pub row-says : (form k : ℕ) (n : Numbered) → k < length (rowsOf form) → SaysIn form (rowAt (rowsOf form) k .says n)
 row-says form k n h = says-in form _ (every-at (λ k r. saysIn form (r .says n)) (rowsOf form) 0 (rows-say form n) k h)
+
+-- ---- what a call is given
+
+-- the form has an H
+unfoldable pub hasData : List Part → Bool
+hasData [] = false
+hasData (fixed b ∷ p) = hasData p
+hasData (value number ∷ p) = hasData p
+hasData (value pairs ∷ p) = true
+
+-- what is given is digits
+abbrev pub inDigits : Given → Bool
+inDigits Bytes = false
+inDigits Digits = true
+
+-- a line of the form has data exactly if its call is given digits
+abbrev pub Fed : List Part → Says → Type 0
+Fed p (opens f o) = Unit
+Fed p (calls c) = hasData p ≡ inDigits (givenAs (about c .act))
+
+abbrev fed : List Part → Says → Bool
+fed p (opens f o) = true
+fed p (calls c) = pick (hasData p) (inDigits (givenAs (about c .act))) (fails (inDigits (givenAs (about c .act))))
+
+fed-in : (p : List Part) (w : Says) → fed p w ≡ true → Fed p w
+fed-in p (opens f o) e = tt
+fed-in p (calls c) e = same (hasData p) (inDigits (givenAs (about c .act))) e
+  where
+    same : (a b : Bool) → pick a b (fails b) ≡ true → a ≡ b
+    same true b h = sym h
+    same false true h = never (sym h)
+    same false false h = refl
+
+rows-fed : (form : ℕ) (n : Numbered) → every (λ k r. fed (r .form) (r .says n)) 0 (rowsOf form) ≡ true
+unfolding hasData
+rows-fed zero n = refl
+rows-fed (suc zero) n = refl
+rows-fed (suc (suc zero)) n = refl
+rows-fed (suc (suc (suc form))) n = refl
+
+pub row-fed : (form k : ℕ) (n : Numbered) → k < length (rowsOf form) → Fed (rowAt (rowsOf form) k .form) (rowAt (rowsOf form) k .says n)
+row-fed form k n h =
+    fed-in (rowAt (rowsOf form) k .form) (rowAt (rowsOf form) k .says n) (every-at (λ k r. fed (r .form) (r .says n)) (rowsOf form) 0 (rows-fed form n) k h)

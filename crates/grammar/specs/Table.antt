@@ -3,7 +3,7 @@ use Prim.Native.{Nat.{ℕ, zero, suc, _+_}, String.String}
 use mathlib.Core.List.{List, [], _∷_, _++_}
 use lib.ListN.{getD}
 use Rattle.spelling.specs.Text.{text}
-use Rattle.protocol.specs.declared.Opening.{Opening as Sizes}
+use Rattle.protocol.specs.declared.{Opening.Opening as Sizes, Given.the-variants.Digits}
 use Rattle.protocol.specs.declared.Call.{Call, the-variants.{Load, Store, Fence, Evict, Drop, Writeback, Advance, Serve, Receive, Yield, Take}}
 use Rattle.grammar.specs.Form.{Part, parts}
 
@@ -31,11 +31,11 @@ openings =
     ∷ row "fabric=2 cores=N lines=N width=N lease=N" (λ n. opens 2 (record { cores = n 0; lines = n 1; width = n 2; lease = n 3 }))
     ∷ []
 
--- THE STEPS of every form of journal
+-- THE STEPS of every form of journal. A store is given the digits of its `data=`
 abbrev pub steps : List Row
 steps =
     row "op=load core=N line=N" (λ n. calls (Load (n 0) (n 1)))
-    ∷ row "op=store core=N line=N data=H" (λ n. calls (Store (n 0) (n 1)))
+    ∷ row "op=store core=N line=N data=H" (λ n. calls (Store Digits (n 0) (n 1)))
     ∷ row "op=fence core=N" (λ n. calls (Fence (n 0)))
     ∷ row "op=serve core=N" (λ n. calls (Serve (n 0)))
     ∷ row "op=receive core=N" (λ n. calls (Receive (n 0)))

@@ -12,6 +12,7 @@ ghost use Rattle.grammar.specs.Scan.{tagOf, RowAt, formOf, keyText, fiel
 ghost use Rattle.grammar.specs.{Scan.{RowFound, Called, keyValue, ValueRead}, Table.{rowsOf, numberCount, stepCount, rowCount, formCount, fromOf, toOf}};
 ghost use Rattle.grammar.specs.Line.{LineOf, numberOf};
 use protocol::Call;
+use protocol::Given;
 use protocol::Opening;
 use spelling::Number;
 
@@ -22,7 +23,7 @@ pub enum Line {
         form: u32,
         opening: Opening,
     },
-    // A step line; data digits are at `start..end` of the line, an empty part but for a store.
+    // A step line; a store's digits are at `start..end` of the line, an empty part of any other.
     Step {
         call: Call,
         start: usize,
@@ -302,7 +303,11 @@ fn call_of(row: usize, number: [u32; NUMBERS]) -> Call
     match row {
         0 => Call::Evict { core: a, line: b },
         1 => Call::Load { core: a, line: b },
-        2 => Call::Store { core: a, line: b },
+        2 => Call::Store {
+            given: Given::Digits,
+            core: a,
+            line: b,
+        },
         3 => Call::Fence { core: a },
         4 => Call::Serve { core: a },
         5 => Call::Receive { core: a },

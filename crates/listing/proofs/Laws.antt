@@ -1,14 +1,14 @@
 -- Laws of a line that is built back to front, and of one text put after another. Assumes nothing.
-use Prim.Native.Nat.{ℕ, _+_, _-_, _*_, _≤_, _<_}
-use mathlib.Core.{Path.{_≡_, _∙_, ap, subst}, List.{List, _++_, append-assoc, append-nil}}
+use Prim.Native.Nat.{ℕ, _+_, _-_, _≤_, _<_}
+use mathlib.Core.{Path.{_≡_, refl, _∙_, ap, subst}, List.{List, _++_, append-assoc, append-nil}}
 use native.Mathlib.Omega.{arith}
 use lib.{ListN.{length, take, drop, length-append, length-drop, drop-of-length-le}, Seq.take-all}
 use borrow.Author.Tests.{le-leb}
-use Rattle.spelling.specs.{Over.{over, PutAt, PutBefore}, Decimal.decimal, Hex.hex, Text.text, declared.Put.{Put, the-variants.{End, Short}}}
+use Rattle.spelling.specs.{Over.{over, PutAt, PutBefore}, Decimal.decimal, Text.text, declared.Put.{Put, the-variants.{End, Short}}}
 use Rattle.spelling.proofs.OverLaws.{over-from, over-length, over-append, before-end, before-laid, before-from, put-done, put-short}
 use Rattle.spelling.proofs.{DecimalLaws.decimal-short, HexLaws.hex-length}
-use Rattle.protocol.specs.{declared.Name.Name, Step.fence}
-use Rattle.listing.specs.{Record.{doneText, commitText}, Back.{Room, Field, Tail, three, access, doneEnd}}
+use Rattle.protocol.specs.{declared.{Name.Name, Given.{Given, the-variants.{Bytes, Digits}}}, Step.fence}
+use Rattle.listing.specs.{Record.{doneText, textAs, commitText}, Back.{Room, Field, Tail, three, digitCount, access, doneEnd}}
 
 -- a text that was put where it fits
 module _ (old : List ℕ) (at : ℕ) (t new : List ℕ) (r : Put) (p : PutAt old at t new r) (h : at + length t ≤ length old) where
@@ -36,24 +36,28 @@ put-after old at t mid q u new r h p s =
     (put-end mid (at + length t) u new r s w ∙ ap End (omega arith))
     (put-laid mid (at + length t) u new r s w ∙ ap (λ (l : List ℕ). over l (at + length t) u) m ∙ over-append old at t u h)
 
--- a text, bytes in hex behind it, and a newline
-module _ (old : List ℕ) (at : ℕ) (head bytes : List ℕ) where
-  data-length : length (head ++ hex bytes ++ text "\n") ≡ length head + 2 * length bytes + 1
-  data-length = simp length-append (omega (arith, hex-length bytes))
+-- a text, digits behind it, and a newline
+module _ (old : List ℕ) (at : ℕ) (head digits : List ℕ) where
+  data-length : length (head ++ digits ++ text "\n") ≡ length head + length digits + 1
+  data-length = simp length-append (omega arith)
 
-  pub data-short : length old < at + (length head + 2 * length bytes + 1) → PutAt old at (head ++ hex bytes ++ text "\n") old Short
-  data-short h = put-short old at (head ++ hex bytes ++ text "\n") (omega (arith, data-length))
+  pub data-short : length old < at + (length head + length digits + 1) → PutAt old at (head ++ digits ++ text "\n") old Short
+  data-short h = put-short old at (head ++ digits ++ text "\n") (omega (arith, data-length))
 
-  pub data-put : (one : List ℕ) (q : Put) (two : List ℕ) (s : Put) (new : List ℕ) (r : Put) → at + (length head + 2 * length bytes + 1) ≤ length old
-      → PutAt old at head one q → PutAt one (at + length head) (hex bytes) two s → PutAt two (at + length head + 2 * length bytes) (text "\n") new r
-      → PutAt old at (head ++ hex bytes ++ text "\n") new r
-  data-put one q two s new r h a b c =
-      let size : length (head ++ hex bytes) ≡ length head + 2 * length bytes =
-      length-append head (hex bytes) ∙ ap (λ (k : ℕ). length head + k) (hex-length bytes) in
-      let e : at + length head + 2 * length bytes ≡ at + length (head ++ hex bytes) = omega arith in
-      put-after old at (head ++ hex bytes) two s (text "\n") new r (omega (arith, data-length))
-      (put-after old at head one q (hex bytes) two s (omega arith) a b)
+  pub data-put : (one : List ℕ) (q : Put) (two : List ℕ) (s : Put) (new : List ℕ) (r : Put) (n : ℕ) → length digits ≡ n → at + (length head + n + 1) ≤ length old
+      → PutAt old at head one q → PutAt one (at + length head) digits two s → PutAt two (at + length head + n) (text "\n") new r
+      → PutAt old at (head ++ digits ++ text "\n") new r
+  data-put one q two s new r n i h a b c =
+      let size : length (head ++ digits) ≡ length head + length digits = length-append head digits in
+      let e : at + length head + n ≡ at + length (head ++ digits) = omega arith in
+      put-after old at (head ++ digits) two s (text "\n") new r (omega (arith, data-length))
+      (put-after old at head one q digits two s (omega arith) a b)
       (subst (λ (k : ℕ). PutAt two k (text "\n") new r) e c)
+
+-- the digits of data
+pub digits-count : (g : Given) (given : List ℕ) → length (textAs g given) ≡ digitCount g (length given)
+digits-count Bytes given = hex-length given
+digits-count Digits given = refl
 
 -- ---- a line from its end
 
@@ -123,17 +127,17 @@ done-line d size e f = first size f e ∙ simp append-assoc
 
 -- a load's or a store's record, from the text of its kind
 pub access-text :
-    (n c l t : ℕ) (kind bytes : List ℕ)
-    → access n (text " commit=" ++ kind ++ text " core=") c l t bytes
+    (n c l t : ℕ) (kind digits : List ℕ)
+    → access n (text " commit=" ++ kind ++ text " core=") c l t digits
     ≡ text "n=" ++ decimal n ++ text " commit=" ++ kind ++ text " core=" ++ decimal c ++ (text " line=" ++ decimal l) ++ text " ts=" ++ decimal t
-    ++ (text " data=" ++ hex bytes) ++ text "\n"
-access-text n c l t kind bytes =
+    ++ (text " data=" ++ digits) ++ text "\n"
+access-text n c l t kind digits =
     regroup (text "n=") (decimal n) (text " commit=") kind (text " core=") (decimal c) (text " line=") (decimal l) (text " ts=") (decimal t)
-    (text " data=") (hex bytes) (text "\n")
+    (text " data=") digits (text "\n")
   where
     regroup : (a b c d e f g h i j k l m : List ℕ)
         → a ++ b ++ (c ++ d ++ e) ++ f ++ g ++ h ++ i ++ j ++ k ++ l ++ m ≡ a ++ b ++ c ++ d ++ e ++ f ++ (g ++ h) ++ i ++ j ++ (k ++ l) ++ m
     regroup a b c d e f g h i j k l m = simp append-assoc
 
-pub fence-text : (n c t : ℕ) → three (text "n=") n (text " commit=fence core=") c (text " ts=") t ≡ commitText n c t fence
+pub fence-text : (n c t : ℕ) → three (text "n=") n (text " commit=fence core=") c (text " ts=") t ≡ commitText Bytes n c t fence
 fence-text n c t = simp append-assoc

@@ -7,7 +7,7 @@ use Rattle.protocol.specs.declared.{Place.Place, Name.{Name, the-variants.{Open
 use Rattle.protocol.specs.declared.{Counts.Counts, Answer.{Answer, the-variants.{Refused, Done, Commit}}, Kind.the-variants.{Load, Store, Fence}}
 use Rattle.protocol.specs.Step.{meaning}
 use Rattle.spelling.proofs.{DecimalLaws.decimal-short, HexLaws.hex-length}
-use Rattle.listing.specs.{Record.{nameText, recordText, endText, tallyText}, Back.doneEnd}
+use Rattle.listing.specs.{Record.{nameText, recordAs, recordText, endText, tallyText}, Back.doneEnd}
 
 name-length : (d : Name) → length (nameText d) ≤ 9
 name-length Open = omega arith
@@ -28,7 +28,7 @@ done-length d = simp length-append (omega (arith, name-length d))
 
 -- a record has at most 118 bytes beside its data
 pub record-length : (p : Place) (a : Answer) (bytes : List ℕ) → length (recordText p (meaning a bytes)) ≤ 118 + 2 * length bytes
-unfolding recordText meaning
+unfolding recordAs meaning
 record-length p (Refused n) bytes = simp length-append (omega (arith, decimal-short (p .0), decimal-short n))
 record-length p (Done d) bytes = simp length-append (omega (arith, decimal-short (p .0), name-length d))
 record-length p (Commit c t (Load l)) bytes =

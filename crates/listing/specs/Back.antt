@@ -1,9 +1,9 @@
 -- A line of text that is built back to front, at the end of a buffer of any length. What it holds then. Assumes nothing.
-use Prim.Native.Nat.{ℕ, _+_, _≤_}
+use Prim.Native.Nat.{ℕ, _+_, _*_, _≤_}
 use mathlib.Core.{Path._≡_, List.{List, _++_}}
 use lib.ListN.{length, drop}
-use Rattle.spelling.specs.{Text.text, Decimal.decimal, Hex.hex}
-use Rattle.protocol.specs.declared.Name.{Name}
+use Rattle.spelling.specs.{Text.text, Decimal.decimal}
+use Rattle.protocol.specs.declared.{Name.Name, Given.{Given, the-variants.{Bytes, Digits}}}
 use Rattle.listing.specs.Record.{nameText}
 
 -- a key and a number of twenty digits have room before an offset of a buffer
@@ -28,10 +28,15 @@ pub record Tail (old t new : List ℕ) (r : ℕ) : Type 0 where
 abbrev pub three : List ℕ → ℕ → List ℕ → ℕ → List ℕ → ℕ → List ℕ
 three first x second y third z = first ++ decimal x ++ second ++ decimal y ++ third ++ decimal z ++ text "\n"
 
--- the record of a load or a store, whose text before the core is `commit`
+-- how many digits data have: two a byte
+abbrev pub digitCount : Given → ℕ → ℕ
+digitCount Bytes n = 2 * n
+digitCount Digits n = n
+
+-- the record of a load or a store, whose text before the core is `commit`, with the digits of its data
 abbrev pub access : ℕ → List ℕ → ℕ → ℕ → ℕ → List ℕ → List ℕ
-access n commit core line ts bytes =
-    text "n=" ++ decimal n ++ commit ++ decimal core ++ text " line=" ++ decimal line ++ text " ts=" ++ decimal ts ++ text " data=" ++ hex bytes
+access n commit core line ts digits =
+    text "n=" ++ decimal n ++ commit ++ decimal core ++ text " line=" ++ decimal line ++ text " ts=" ++ decimal ts ++ text " data=" ++ digits
     ++ text "\n"
 
 -- how a record ends that names what was done

@@ -4,7 +4,7 @@ use Prim.Native.Nat.{ℕ}
 use mathlib.Core.List.{List, [], _++_}
 use Rattle.spelling.specs.{Text.text, Decimal.decimal, Hex.hex}
 use Rattle.protocol.specs.declared.{Place.Place, Name.{Name, the-variants.{Open, Ask, Recall, Share, Renew, Own, Drop, Evict, Writeback, Advance, Yield, Take}}}
-use Rattle.protocol.specs.{declared.Counts.Counts, Step.{Op, load, store, fence, Reply, refused, done, commit}}
+use Rattle.protocol.specs.{declared.{Counts.Counts, Given.{Given, the-variants.{Bytes, Digits}}}, Step.{Op, load, store, fence, Reply, refused, done, commit}}
 
 -- "done is open, ask, recall, share, renew, own, drop, evict, advance, yield or take"; 02, Two: "they print `done=drop` and `done=writeback`"
 abbrev pub nameText : Name → List ℕ
@@ -39,22 +39,31 @@ lineText (load l b) = text " line=" ++ decimal l
 lineText (store l b) = text " line=" ++ decimal l
 lineText fence = []
 
-abbrev pub dataText : Op (List ℕ) → List ℕ
-dataText (load l b) = text " data=" ++ hex b
-dataText (store l b) = text " data=" ++ hex b
-dataText fence = []
+-- H of 01, "lower-case hex pairs": bytes are printed in hex, digits as they are
+abbrev pub textAs : Given → List ℕ → List ℕ
+textAs Bytes b = hex b
+textAs Digits b = b
+
+abbrev pub dataText : Given → Op (List ℕ) → List ℕ
+dataText g (load l b) = text " data=" ++ textAs g b
+dataText g (store l b) = text " data=" ++ textAs g b
+dataText g fence = []
 
 -- 01 prints `n=4 commit=store core=0 line=0 ts=1 data=07` and `n=5 commit=load core=0 line=0 ts=0 data=07`
-abbrev pub commitText : ℕ → ℕ → ℕ → Op (List ℕ) → List ℕ
-commitText n c t o =
-    text "n=" ++ decimal n ++ text " commit=" ++ kindText o ++ text " core=" ++ decimal c ++ lineText o ++ text " ts=" ++ decimal t ++ dataText o
+abbrev pub commitText : Given → ℕ → ℕ → ℕ → Op (List ℕ) → List ℕ
+commitText g n c t o =
+    text "n=" ++ decimal n ++ text " commit=" ++ kindText o ++ text " core=" ++ decimal c ++ lineText o ++ text " ts=" ++ decimal t ++ dataText g o
     ++ text "\n"
 
--- the record of the call at a place, by what it answered
-unfoldable pub recordText : Place → Reply → List ℕ
-recordText p (refused n) = refusedText (p .0) n
-recordText p (done d) = doneText (p .0) d
-recordText p (commit c t o) = commitText (p .0) c (t .0) o
+-- the record of the call at a place, by what it answered, with a commit's data as bytes or as digits
+unfoldable pub recordAs : Given → Place → Reply → List ℕ
+recordAs g p (refused n) = refusedText (p .0) n
+recordAs g p (done d) = doneText (p .0) d
+recordAs g p (commit c t o) = commitText g (p .0) c (t .0) o
+
+-- the same with its bytes
+abbrev pub recordText : Place → Reply → List ℕ
+recordText p r = recordAs Bytes p r
 
 -- "The end line counts step lines met, .. commits, and `refused=` lines above it": 01 prints `end=6 commits=2 refused=1`
 unfoldable pub endText : Counts → List ℕ

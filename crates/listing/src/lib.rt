@@ -6,12 +6,14 @@
 ghost use mathlib.Core.List.{_++_};
 ghost use Prim.Native.Nat.{_+_, _≤_};
 ghost use lib.ListN.{length};
+ghost use mathlib.Core.Path.{_≡_};
 ghost use Rattle.protocol.specs.Step.{valued, meaning};
-ghost use Rattle.spelling.specs.{Text.text, Hex.hex, Over.PutAt};
-ghost use Rattle.listing.specs.Record.{doneText, refusedText, commitText, recordText, endText, tallyText};
-ghost use Rattle.listing.specs.Back.{Room, Field, Tail, three, access, doneEnd};
+ghost use Rattle.spelling.specs.{Text.text, Over.PutAt};
+ghost use Rattle.listing.specs.Record.{doneText, refusedText, textAs, commitText, recordAs, endText, tallyText};
+ghost use Rattle.listing.specs.Back.{Room, Field, Tail, three, digitCount, access, doneEnd};
 use protocol::Answer;
 use protocol::Counts;
+use protocol::Given;
 use protocol::Kind;
 use protocol::Name;
 use protocol::Place;
@@ -38,10 +40,33 @@ fn tail(line: &mut [u8], text: &[u8]) -> usize
     start
 }
 
-// A text, bytes in hex behind it, and a newline, into a lent buffer from `at` on. Where they do not fit, it is left as it was.
-pub fn put_with_data(out: &mut [u8], at: usize, head: &[u8], bytes: &[u8]) -> Put
-    ensures { λ r. ⌜ PutAt (now (out .entry)) at (now (head .entry) ++ hex (now (bytes .entry)) ++ text "\n") (now (out .exit)) r ⌝ }
+// How many digits are printed of data: two of a byte.
+fn digit_count(read: Given, n: usize) -> usize
+    requires { ⌜ n ≤ 9223372036854775807 ⌝ }
+    ensures { λ r. ⌜ r ≡ digitCount read n ⌝ }
 {
+    match read {
+        Given::Bytes => 2 * n,
+        Given::Digits => n,
+    }
+}
+
+// Data, into a lent buffer from `at` on: bytes in hex, digits as they are. Where they do not fit, it is left as it was.
+fn put_data(out: &mut [u8], at: usize, read: Given, given: &[u8]) -> Put
+    ensures { λ r. ⌜ PutAt (now (out .entry)) at (textAs read (now (given .entry))) (now (out .exit)) r ⌝ }
+{
+    match read {
+        Given::Bytes => spelling::put_hex(out, at, given),
+        Given::Digits => spelling::put_text(out, at, given),
+    }
+}
+
+// A text, data behind it, and a newline, into a lent buffer from `at` on; `read` says whether the data are bytes, which are put in hex,
+// or digits, which are put as they are. Where they do not fit, it is left as it was.
+pub fn put_with_data(out: &mut [u8], at: usize, head: &[u8], read: Given, given: &[u8]) -> Put
+    ensures { λ r. ⌜ PutAt (now (out .entry)) at (now (head .entry) ++ textAs read (now (given .entry)) ++ text "\n") (now (out .exit)) r ⌝ }
+{
+    let n = digit_count(read, given.len());
     if out.len() < at {
         return Put::Short;
     }
@@ -49,13 +74,13 @@ pub fn put_with_data(out: &mut [u8], at: usize, head: &[u8], bytes: &[u8]) -> Pu
     if room <= head.len() {
         return Put::Short;
     }
-    if (room - head.len() - 1) / 2 < bytes.len() {
+    if room - head.len() - 1 < n {
         return Put::Short;
     }
     let digits = at + head.len();
-    let end = digits + 2 * bytes.len();
+    let end = digits + n;
     spelling::put_text(out, at, head);
-    spelling::put_hex(out, digits, bytes);
+    put_data(out, digits, read, given);
     spelling::put_text(out, end, b"\n")
 }
 
@@ -132,10 +157,11 @@ fn put_access(
     core: u64,
     line: u64,
     ts: u64,
-    bytes: &[u8],
+    read: Given,
+    given: &[u8],
 ) -> Put
     requires { ⌜ length (now commit) ≤ 19 ⌝ }
-    ensures { λ r. ⌜ PutAt (now (out .entry)) at (access place (now (commit .entry)) core line ts (now (bytes .entry))) (now (out .exit)) r ⌝ }
+    ensures { λ r. ⌜ PutAt (now (out .entry)) at (access place (now (commit .entry)) core line ts (textAs read (now (given .entry)))) (now (out .exit)) r ⌝ }
 {
     let mut head = [0u8; 128];
     let a = tail(&mut head, b" data=");
@@ -143,7 +169,7 @@ fn put_access(
     let c = field(&mut head, b, b" line=", line);
     let d = field(&mut head, c, commit, core);
     let e = field(&mut head, d, b"n=", place);
-    put_with_data(out, at, &head[e..], bytes)
+    put_with_data(out, at, &head[e..], read, given)
 }
 
 // The record of a commit, by its kind.
@@ -154,18 +180,39 @@ fn put_commit(
     core: u64,
     ts: u64,
     kind: Kind,
-    bytes: &[u8],
+    read: Given,
+    given: &[u8],
 ) -> Put
-    ensures { λ r. ⌜ PutAt (now (out .entry)) at (commitText place core ts (valued kind (now (bytes .entry)))) (now (out .exit)) r ⌝ }
+    ensures { λ r. ⌜ PutAt (now (out .entry)) at (commitText read place core ts (valued kind (now (given .entry)))) (now (out .exit)) r ⌝ }
 {
     match kind {
         Kind::Load { line } => {
             let l = line as u64;
-            put_access(out, at, place, b" commit=load core=", core, l, ts, bytes)
+            put_access(
+                out,
+                at,
+                place,
+                b" commit=load core=",
+                core,
+                l,
+                ts,
+                read,
+                given,
+            )
         }
         Kind::Store { line } => {
             let l = line as u64;
-            put_access(out, at, place, b" commit=store core=", core, l, ts, bytes)
+            put_access(
+                out,
+                at,
+                place,
+                b" commit=store core=",
+                core,
+                l,
+                ts,
+                read,
+                given,
+            )
         }
         Kind::Fence => put_three(
             out,
@@ -181,16 +228,24 @@ fn put_commit(
 }
 
 // The record of a call, into a lent buffer from `at` on: `place` is the call's place in the list, `answer` what it answered, and
-// `bytes` are the bytes of a load's or a store's commit. Where the record does not fit, the buffer is left as it was.
-pub fn put_record(out: &mut [u8], at: usize, place: Place, answer: Answer, bytes: &[u8]) -> Put
-    ensures { λ r. ⌜ PutAt (now (out .entry)) at (recordText place (meaning answer (now (bytes .entry)))) (now (out .exit)) r ⌝ }
+// `given` are the bytes of a load's or a store's commit, or the digits that spell them, as `read` says. Where the record does not
+// fit, the buffer is left as it was.
+pub fn put_record(
+    out: &mut [u8],
+    at: usize,
+    place: Place,
+    answer: Answer,
+    read: Given,
+    given: &[u8],
+) -> Put
+    ensures { λ r. ⌜ PutAt (now (out .entry)) at (recordAs read place (meaning answer (now (given .entry)))) (now (out .exit)) r ⌝ }
 {
     let n = place.0;
     match answer {
         Answer::Refused(number) => put_refused(out, at, n, number as u64),
         Answer::Done(name) => put_done(out, at, n, name),
         Answer::Commit { core, ts, kind } => {
-            put_commit(out, at, n, core as u64, ts.0 as u64, kind, bytes)
+            put_commit(out, at, n, core as u64, ts.0 as u64, kind, read, given)
         }
     }
 }

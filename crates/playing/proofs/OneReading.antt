@@ -3,10 +3,9 @@ use Prim.Native.Nat.{ℕ, zero, suc, _-_, _≤_, _<_}
 use mathlib.Core.{Path.{_≡_, refl, sym, _∙_, ap, ap₂, subst}, List.{List, _∷_, _++_}}
 use native.Mathlib.Omega.{arith}
 use lib.ListN.{length}
-use Rattle.protocol.specs.{Buffers.{Bytes, part}, Run.Entry, declared.Call.Call}
-use Rattle.spelling.proofs.HexLaws.{hex-length, hex-injective}
+use Rattle.protocol.specs.{Buffers.Bytes, Run.Entry, declared.Call.Call}
 use Rattle.journal.{specs.{Journal.NextOf, declared.Next.{Next, the-variants.{Opening, Step, End, Refused}}}, proofs.OneNext.one-next-theorem}
-use Rattle.driver.{specs.Listing.{Ending, Data, noData, someData, Between, noLine, aLine, EndsAt, atEnd, atRefusal}, proofs.Reading.known}
+use Rattle.driver.{specs.Listing.{Ending, entryAt, Between, noLine, aLine, EndsAt, atEnd, atRefusal}, proofs.Reading.known}
 use Rattle.playing.specs.{Listing.ReadAs, Theorems.{OneReading, OneReadingTheorem}}
 
 -- ---- at one offset
@@ -15,31 +14,20 @@ use Rattle.playing.specs.{Listing.ReadAs, Theorems.{OneReading, OneReadi
 pub same-next : {j : Bytes} {at form : ℕ} {a b : Next} → NextOf j at form a → NextOf j at form b → a ≡ b
 same-next {j} {at} {form} x y = let o = one-next-theorem j at form in o .only _ x ∙ sym (o .only _ y)
 
-data-same : {digits bs cs : Bytes} → Data digits bs → Data digits cs → bs ≡ cs
-data-same (noData e) (noData f) = refl
-data-same {cs = cs} (noData e) (someData s) = absurd (omega (arith, hex-length cs, ap length (sym e ∙ s .same), s .some))
-data-same {bs = bs} (someData s) (noData e) = absurd (omega (arith, hex-length bs, ap length (sym e ∙ s .same), s .some))
-data-same {bs = bs} {cs = cs} (someData s) (someData t) = hex-injective bs cs (s .bytes) (t .bytes) (sym (s .same) ∙ t .same)
-
 -- an offset has one step at most, with one offset after it
-pub record SameStep (c c' : Call) (bs bs' : Bytes) (n n' : ℕ) : Type 0 where
-  pub call : c' ≡ c
-  pub bytes : bs' ≡ bs
+pub record SameStep (g g' : Entry) (n n' : ℕ) : Type 0 where
+  pub entry : g' ≡ g
   pub next : n' ≡ n
 
 pub step-same :
-    {j : Bytes} {at form : ℕ} {call call' : Call} {start end next start' end' next' : ℕ} {bs bs' : Bytes} → NextOf j at form (Step call start end next)
-    → Data (part j start (end - start)) bs → NextOf j at form (Step call' start' end' next') → Data (part j start' (end' - start')) bs'
-    → SameStep call call' bs bs' next next'
-step-same {j} {start = p} {end = q} {start' = p'} {end' = q'} {bs' = bs'} x a y b =
+    {j : Bytes} {at form : ℕ} {call call' : Call} {start end next start' end' next' : ℕ} → NextOf j at form (Step call start end next)
+    → NextOf j at form (Step call' start' end' next') → SameStep (entryAt j call start end) (entryAt j call' start' end') next next'
+step-same {j} {call = c} {call' = c'} {start = p} {end = q} {start' = p'} {end' = q'} x y =
     let s = same-next x y in
+    let ec : c' ≡ c = cc in
     let ep : p' ≡ p = cc in
     let eq : q' ≡ q = cc in
-    record {
-      call = cc;
-      bytes = sym (data-same a (subst (λ (l : Bytes). Data l bs') (ap₂ (λ (u v : ℕ). part j u (v - u)) ep eq) b));
-      next = cc;
-    }
+    record { entry = rw (ec, ep, eq) refl; next = cc }
 
 -- a journal ends at an offset in one way only, and not where a step is
 pub ends-same : {j : Bytes} {form at : ℕ} {e d : Ending} → EndsAt j form at e → EndsAt j form at d → e ≡ d
@@ -68,16 +56,15 @@ after {g = g} {h = h} {gs = gs} {hs = hs} e (further k ks s b) = further k ks (a
 
 pub compare : {j : Bytes} {form at to to' : ℕ} {gs hs : List Entry} → Between j form at gs to → Between j form at hs to' → Compared j form gs hs to to'
 compare noLine noLine = alike refl refl
-compare noLine (aLine x d r) = fewer _ _ refl (aLine x d r)
-compare (aLine x d r) noLine = further _ _ refl (aLine x d r)
-compare {j} {form} {to' = to'} (aLine x a r) (aLine {gs = hs} y b t) =
-    let s = step-same x a y b in
-    after (ap₂ (λ (c : Call) (bs : Bytes). record { call = c; bytes = bs }) (s .call) (s .bytes))
-    (compare r (subst (λ (k : ℕ). Between j form k hs to') (s .next) t))
+compare noLine (aLine x r) = fewer _ _ refl (aLine x r)
+compare (aLine x r) noLine = further _ _ refl (aLine x r)
+compare {j} {form} {to' = to'} (aLine x r) (aLine {gs = hs} y t) =
+    let s = step-same x y in
+    after (s .entry) (compare r (subst (λ (k : ℕ). Between j form k hs to') (s .next) t))
 
 -- no step is where a journal ends
 pub none-after : {j : Bytes} {form at to : ℕ} {g : Entry} {ks : List Entry} {e : Ending} → Between j form at (g ∷ ks) to → EndsAt j form at e → ⊥
-none-after (aLine x d r) y = no-end x y
+none-after (aLine x r) y = no-end x y
 
 -- a journal reads from an offset in one way only
 pub reads-same :
@@ -103,7 +90,7 @@ reading-on j form at f on (Refused k) x = one (record { to = at; steps = noLine;
 reading-on j form at f on (Step call start end next) x =
     let k = known x .1 in
     let r = on next (k .forward) (k .inside) .holds in
-    one (record { to = r .to; steps = aLine x (k .digits .spelt) (r .steps); ends = r .ends })
+    one (record { to = r .to; steps = aLine x (r .steps); ends = r .ends })
 
 reading-within : (j : Bytes) (form : ℕ) → (form ≡ 0 → ⊥) → (n at : ℕ) → length j - at ≤ n → OneReading j form at
 reading-within j form f zero at h = reading-on j form at f (λ next a b. absurd (omega arith)) (one-next-theorem j at form .answer) (one-next-theorem j at form .holds)

@@ -5,8 +5,8 @@ use mathlib.Core.{Path.{_≡_, refl, sym, _∙_, ap}, List.{List, [], _∷_, _++
 use native.Mathlib.Omega.{arith}
 use lib.{ListN.{length, length-append}, Seq.append-snoc}
 use Rattle.protocol.{specs.{Buffers.Bytes, Machine.{Machine, machine}, Run.{Entry, Record, run}, Counts.{sum, tally}}, proofs.Tests.never}
-use Rattle.driver.proofs.Running.{entryOf, lines-append, run-records, lines-more}
-use Rattle.driver.specs.{Listing.{Ending, Between, aLine, EndsAt, lines, lastLines}, Play.{runFrom, Leads, Piece, aStep, theEnd, Tells, finished, more, unfit}}
+use Rattle.driver.proofs.Running.{lines-append, run-records, lines-more}
+use Rattle.driver.specs.{Listing.{Ending, entryAt, Between, aLine, EndsAt, lines, lastLines}, Play.{runFrom, Leads, Piece, aStep, theEnd, Tells, finished, more, unfit}}
 use Rattle.driver.specs.declared.{Checkpoint.Checkpoint, Progress.{Progress, the-variants.{Finished, More}}}
 use Rattle.playing.specs.Theorems.{PlayOneTheorem}
 use Rattle.playing.proofs.OneReading.{step-same, ends-same, no-end, Compared, alike, fewer, further, compare, none-after}
@@ -30,16 +30,17 @@ passed :
     {j : Bytes} {a b : Checkpoint} {p q p' q' t : Bytes} {gs : List Entry} {g : Entry} {ks : List Entry} {to : ℕ} → Leads j a p q gs b p' q' → Piece j b p' q' t
     → Between j (a .form) (b .at) (g ∷ ks) to
     → length (linesFrom a p q gs) + length t ≤ length (linesFrom a p q (gs ++ (g ∷ ks)))
-passed {a = a} {p = p} {q = q} {gs = gs} {ks = ks} l (aStep {call = c} {bs = bs} x d) (aLine y f r) =
-    let s = step-same (rw (l .form) at x) d y f in
-    let e = ap length (lines-more l c bs) ∙ length-append (linesFrom a p q gs) _ in
-    let i = lines-grow (gs ++ (entryOf c bs ∷ [])) ks (a .counts .steps + 1) (machine (a .state) p q) in
-    rw (s .call, s .bytes, ← append-snoc gs (entryOf c bs) ks) (omega arith)
-passed l (theEnd x) (aLine y f r) = absurd (no-end y (rw (l .form) at x))
+passed {j} {a = a} {p = p} {q = q} {gs = gs} {ks = ks} l (aStep {call = c} {start = start} {end = end} x) (aLine y r) =
+    let g = entryAt j c start end in
+    let s = step-same (rw (l .form) at x) y in
+    let e = ap length (lines-more l c (g .bytes)) ∙ length-append (linesFrom a p q gs) _ in
+    let i = lines-grow (gs ++ (g ∷ [])) ks (a .counts .steps + 1) (machine (a .state) p q) in
+    rw (s .entry, ← append-snoc gs g ks) (omega arith)
+passed l (theEnd x) (aLine y r) = absurd (no-end y (rw (l .form) at x))
 
 -- a piece where the journal ends is the last lines
 last-piece : {j : Bytes} {s : Checkpoint} {p q t : Bytes} {e : Ending} → Piece j s p q t → EndsAt j (s .form) (s .at) e → t ≡ lastLines (s .counts) e
-last-piece (aStep x d) y = absurd (no-end x y)
+last-piece (aStep x) y = absurd (no-end x y)
 last-piece {s = s} (theEnd x) y = ap (lastLines (s .counts)) (ends-same x y)
 
 -- ---- two runs

@@ -6,7 +6,7 @@ use native.Mathlib.Omega.{arith}
 use lib.{Dec.eqb, ListN.{length, drop, length-append, length-take}}
 use borrow.Author.Tests.{eqb-true}
 use Rattle.protocol.proofs.{Tests.never, Extents.inside, Refusals.{machine-fit, named, store-width, not-refused}}
-use Rattle.protocol.specs.{Pick.pick, Buffers.{Bytes, copyStart, copyBytes}, About.about, Machine.{Machine, machine}}
+use Rattle.protocol.specs.{Pick.pick, Buffers.{Bytes, copyStart, copyBytes}, About.about, Given.bytesGiven, Machine.{Machine, machine}}
 use Rattle.protocol.specs.{Refusals.{openRefusal, wrongCount, refusal}, Run.{Entry, place, run}}
 use Rattle.protocol.specs.{Step.{refused, done as reply, meaning, actBytes, commitBytes, openReply, accepted, step}, Counts.{oneOf, sum}}
 use Rattle.protocol.specs.declared.{Place.Place, Counts.Counts, Class.the-variants.Refused as ARefusal, Opening.Opening as Sizes, Call.Call}
@@ -15,7 +15,7 @@ use Rattle.protocol.specs.declared.Effect.{Effect}
 use Rattle.journal.proofs.Lines.{line-read, line-inside}
 use Rattle.listing.{specs.Record.recordText, proofs.Lengths.{record-length, end-length}}
 use Rattle.driver.proofs.{Reading.known, Counting.few-none, Resuming.{resumes-again, steps-long, leads-on}, Putting.refused-length}
-use Rattle.driver.specs.Listing.{Ending, ended, stopped, lines, lastLines, notOpened}
+use Rattle.driver.specs.Listing.{Ending, ended, stopped, entryAt, lines, lastLines, notOpened}
 use Rattle.driver.specs.Play.{resumable, Piece, aStep, theEnd, Tells, finished, more, unfit, firstCheckpoint, Begins, opens, fails, noRoom, noRoomToEnd}
 use Rattle.driver.specs.declared.{Checkpoint.Checkpoint, Progress.Progress}
 use Rattle.playing.proofs.Writing.{text-and-room}
@@ -30,26 +30,29 @@ copy-few o p c l = let n = length-take (o .width) (drop (copyStart o c l) p) in 
 -- a commit's bytes are a line's at most
 act-few :
     (t : Act) (o : Sizes) (p bs : Bytes) (c l : ℕ) → wrongCount t o (length bs) ≡ false → length (actBytes t bs (copyBytes o p c l)) ≤ o .width
-act-few Store o p bs c l e = omega (arith, store-width o (length bs) e)
+act-few (Store g) o p bs c l e = omega (arith, store-width g o (length bs) e)
 act-few Load o p bs c l e = copy-few o p c l
 act-few Fence o p bs c l e = copy-few o p c l
 act-few (Advance n) o p bs c l e = copy-few o p c l
 act-few Transfer o p bs c l e = copy-few o p c l
 
 -- a step's line: 118 bytes beside its data, where each number has twenty digits, and two digits for each of 64 bytes
-step-length : (at : Place) (m : Machine) (call : Call) (bs : Bytes) → length (recordText at (step m call bs .reply)) ≤ pieceBytes
+step-length : (at : Place) (m : Machine) (call : Call) (given : Bytes) → length (recordText at (step m call given .reply)) ≤ pieceBytes
 unfolding step accepted
-step-length at m call bs = go (eqb (refusal m call (length bs)) 0) refl _ _ _
+step-length at m call given = go (eqb (refusal m call given) 0) refl _ _ _
   where
+    bs : Bytes
+    bs = bytesGiven call given
+
     go :
-        (b : Bool) → eqb (refusal m call (length bs)) 0 ≡ b → (c l : ℕ) (d : Effect)
-        → length (recordText at (pick b (accepted m call bs c l d) (record { reply = refused (refusal m call (length bs)); machine = m }) .reply)) ≤ pieceBytes
+        (b : Bool) → eqb (refusal m call given) 0 ≡ b → (c l : ℕ) (d : Effect)
+        → length (recordText at (pick b (accepted m call bs c l d) (record { reply = refused (refusal m call given); machine = m }) .reply)) ≤ pieceBytes
     go true e c l d =
-        let k = not-refused m call (length bs) (eqb-true _ 0 e) in
+        let k = not-refused m call given (eqb-true _ 0 e) in
         let i = inside (m .state .opening) (machine-fit m (k .machineOk) .opening) in
         let n = act-few (about call .act) (m .state .opening) (m .private) bs c l (named call (m .state .opening) (length bs) (k .callOk) .count) in
         omega (arith, i .mostWidth, record-length at (d .answer) (commitBytes call bs (copyBytes (m .state .opening) (m .private) c l)))
-    go false e c l d = omega (arith, refused-length at (refusal m call (length bs)))
+    go false e c l d = omega (arith, refused-length at (refusal m call given))
 
 -- the last lines of a run
 last-length : (k : Counts) (e : Ending) → length (lastLines k e) ≤ pieceBytes
@@ -59,7 +62,8 @@ last-length k (stopped n) =
 
 -- what is written next, whatever it is
 piece-length : {j : Bytes} {s : Checkpoint} {p q t : Bytes} → Piece j s p q t → length t ≤ pieceBytes
-piece-length {s = s} {p} {q} (aStep {call = call} {bs = bs} x d) = step-length (place (s .counts .steps + 1)) (machine (s .state) p q) call bs
+piece-length {j} {s} {p} {q} (aStep {call = call} {start = start} {end = end} x) =
+    step-length (place (s .counts .steps + 1)) (machine (s .state) p q) call (entryAt j call start end .bytes)
 piece-length {s = s} (theEnd {e = e} x) = last-length (s .counts) e
 
 -- the line of an opening, and the listing of a journal that opens no engine

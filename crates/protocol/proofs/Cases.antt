@@ -6,7 +6,7 @@ use mathlib.Core.{Path.{_≡_, refl, sym}, Bool.{Bool, true, false}, List.[]}
 use native.Mathlib.Omega.{arith}
 use lib.{Dec.{leb, eqb}, ListN.length}
 use borrow.Author.Tests.{leb-true, leb-false, lt-ltb, eqb-true}
-use Rattle.protocol.specs.{Pick.{pick, both, fails}, Stamps.canAdd, Buffers.{Bytes, There}}
+use Rattle.protocol.specs.{Pick.{pick, both, fails}, Stamps.canAdd, Buffers.{Bytes, There}, Given.bytesGiven}
 use Rattle.protocol.specs.Machine.{Machine, Pieces, piecesAt, coreAt, copyAt, lineAt, slotLine, ownerOf, coreOf, lineOf, applied}
 use Rattle.protocol.specs.Refusals.{isEmpty, isAsked, isAnswered, isHeld, isShared, isOwned, hasOwner, stands, inFlight, loadAsks, storePasses}
 use Rattle.protocol.specs.Refusals.{servePasses, stateRules, stateRefusal, refusal}
@@ -18,7 +18,7 @@ use Rattle.protocol.specs.declared.{Want.{Want, the-variants.{Load as Wa
 use Rattle.protocol.specs.declared.{Slot.{Slot, the-variants.{Empty, Asked, Answered}}, Manager.{Manager, the-variants.{Shared, Owned}}}
 use Rattle.protocol.specs.declared.{Writeback.{Writeback, the-variants.{None as NoWriteback, Flight}}, Opening.Opening, State.State}
 use Rattle.protocol.specs.declared.Call.{Call, the-variants.{Load, Store, Fence, Evict, Drop, Writeback as WriteBack, Advance}}
-use Rattle.protocol.specs.declared.{Call.the-variants.{Serve, Receive, Yield, Take}, Effect.Effect}
+use Rattle.protocol.specs.declared.{Call.the-variants.{Serve, Receive, Yield, Take}, Given.Given, Effect.Effect}
 use Rattle.protocol.specs.declared.Name.{Name, the-variants.{Drop as Dropped, Evict as Evicted, Writeback as WrittenBack}}
 use Rattle.protocol.specs.declared.Grant.the-variants.{Share as GrantShare, Renew as GrantRenew, Own as GrantOwn}
 use Rattle.protocol.proofs.{Tests.{never, both-true, both-false}, Refusals.{not-true, passed, machine-fit, call-there, NotRefused, not-refused}}
@@ -38,9 +38,9 @@ pub data Row (c l : ℕ) (p : Pieces) (o : Opening) : Call → Effect → Type 0
   reads-shared : {w r : Stamp} → p .copy ≡ CopyShared w r → p .core .clocks .lts .0 ≤ r .0 → Row c l p o (Load c l) (loadShared c l w p)
   reads-dirty : {w r : Stamp} → p .copy ≡ CopyOwned true w r → Row c l p o (Load c l) (loadOwned true c l w r p)
   reads-clean : {w r : Stamp} → p .copy ≡ CopyOwned false w r → Row c l p o (Load c l) (loadOwned false c l w r p)
-  asks-store : isEmpty (p .core .slot) ≡ true → isOwned (p .copy) ≡ false → Row c l p o (Store c l) (asking WantStore l p)
-  writes : {d : Bool} {w r : Stamp} → p .copy ≡ CopyOwned d w r → storePasses (p .copy) ≡ false
-      → Row c l p o (Store c l) (storeTable (CopyOwned d w r) c l p)
+  asks-store : {g : Given} → isEmpty (p .core .slot) ≡ true → isOwned (p .copy) ≡ false → Row c l p o (Store g c l) (asking WantStore l p)
+  writes : {g : Given} {d : Bool} {w r : Stamp} → p .copy ≡ CopyOwned d w r → storePasses (p .copy) ≡ false
+      → Row c l p o (Store g c l) (storeTable (CopyOwned d w r) c l p)
   fences : Row c l p o (Fence c) (fenceTable c p)
   advances : {by : ℕ} → canAdd (p .core .clocks .lts) by ≡ true → Row c l p o (Advance c by) (advanceTable by p)
   evicts-shared : {call : Call} {n : Name} {w r : Stamp} → Drops c l call n → p .copy ≡ CopyShared w r
@@ -84,12 +84,12 @@ module _ {p : Pieces} {o : Opening} where
       go true q = reads-shared e (leb-true _ _ q)
       go false q = asks-load (not-true _ (both-false _ _ h (lt-ltb (r .0) (p .core .clocks .lts .0) (leb-false _ _ q)))) (rw e refl)
 
-  store-row : (c l : ℕ) (v : Copy) → p .copy ≡ v → both (fails (isOwned v)) (fails (isEmpty (p .core .slot))) ≡ false → storePasses v ≡ false
-      → Row c l p o (Store c l) (storeTable v c l p)
+  store-row : (g : Given) (c l : ℕ) (v : Copy) → p .copy ≡ v → both (fails (isOwned v)) (fails (isEmpty (p .core .slot))) ≡ false → storePasses v ≡ false
+      → Row c l p o (Store g c l) (storeTable v c l p)
   unfolding storeTable
-  store-row c l NoCopy e h k = asks-store (not-true _ h) (rw e refl)
-  store-row c l (CopyShared w r) e h k = asks-store (not-true _ h) (rw e refl)
-  store-row c l (CopyOwned d w r) e h k = writes e (rw e k)
+  store-row g c l NoCopy e h k = asks-store (not-true _ h) (rw e refl)
+  store-row g c l (CopyShared w r) e h k = asks-store (not-true _ h) (rw e refl)
+  store-row g c l (CopyOwned d w r) e h k = writes e (rw e k)
 
   evict-row : (c l : ℕ) (v : Copy) → p .copy ≡ v → isHeld v ≡ true → Row c l p o (Evict c l) (evictTable Evicted v p)
   evict-row c l NoCopy e h = never (sym h)
@@ -161,9 +161,9 @@ pub row-of : (s : State) (call : Call) → stateRefusal call (piecesOf call s) (
     → RowOn s call (tableOf call (piecesOf call s) (s .opening))
 unfolding tableOf stateRefusal stateRules
 row-of s (Load c l) h = load-row c l (copyAt s c l) refl (passed _ 20 [] (omega arith) h .0)
-row-of s (Store c l) h =
+row-of s (Store g c l) h =
     let a = passed _ 20 _ (omega arith) h in
-    store-row c l (copyAt s c l) refl (a .0) (passed _ 27 [] (omega arith) (a .1) .0)
+    store-row g c l (copyAt s c l) refl (a .0) (passed _ 27 [] (omega arith) (a .1) .0)
 row-of s (Fence c) h = fences
 row-of s (Evict c l) h = evict-row c l (copyAt s c l) refl (not-true _ (passed _ 26 [] (omega arith) h .0))
 row-of s (Drop c l) h =
@@ -197,26 +197,26 @@ effect-case P s call refuse row = go (eqb (stateRefusal call (piecesOf call s) (
 -- the two cases of a call
 pub data Case (m : Machine) (call : Call) (given : Bytes) : Outcome → Type 0 where
   refuses : (n : ℕ) → Case m call given (record { reply = refused n; machine = m })
-  makes : {d : Effect} → NotRefused m call (length given) → There (m .state .opening) (coreOf call (m .state)) (lineOf call (m .state))
-      → RowOn (m .state) call d → Case m call given (accepted m call given (coreOf call (m .state)) (lineOf call (m .state)) d)
+  makes : {d : Effect} → NotRefused m call given → There (m .state .opening) (coreOf call (m .state)) (lineOf call (m .state))
+      → RowOn (m .state) call d → Case m call given (accepted m call (bytesGiven call given) (coreOf call (m .state)) (lineOf call (m .state)) d)
 
 pub case-of : (m : Machine) (call : Call) (given : Bytes) → Case m call given (step m call given)
 unfolding step
-case-of m call given = go (eqb (refusal m call (length given)) 0) refl
+case-of m call given = go (eqb (refusal m call given) 0) refl
   where
-    go : (b : Bool) → eqb (refusal m call (length given)) 0 ≡ b
+    go : (b : Bool) → eqb (refusal m call given) 0 ≡ b
         → Case m call given (pick b
-        (accepted m call given (coreOf call (m .state)) (lineOf call (m .state)) (tableOf call (piecesOf call (m .state)) (m .state .opening)))
-        (record { reply = refused (refusal m call (length given)); machine = m }))
-    go false e = refuses (refusal m call (length given))
+        (accepted m call (bytesGiven call given) (coreOf call (m .state)) (lineOf call (m .state)) (tableOf call (piecesOf call (m .state)) (m .state .opening)))
+        (record { reply = refused (refusal m call given); machine = m }))
+    go false e = refuses (refusal m call given)
     go true e =
-        let n = not-refused m call (length given) (eqb-true (refusal m call (length given)) 0 e) in
-        makes n (call-there (machine-fit m (n .machineOk)) call (length given) (n .callOk)) (row-of (m .state) call (n .stateOk))
+        let n = not-refused m call given (eqb-true (refusal m call given) 0 e) in
+        makes n (call-there (machine-fit m (n .machineOk)) call (length (bytesGiven call given)) (n .callOk)) (row-of (m .state) call (n .stateOk))
 
 -- what every row keeps, every step keeps
 pub kept-by-rows : (P : Machine → Type 0) {m : Machine} (call : Call) (given : Bytes)
-    → ((d : Effect) → NotRefused m call (length given) → There (m .state .opening) (coreOf call (m .state)) (lineOf call (m .state))
-    → RowOn (m .state) call d → P (applied m (coreOf call (m .state)) (lineOf call (m .state)) given d))
+    → ((d : Effect) → NotRefused m call given → There (m .state .opening) (coreOf call (m .state)) (lineOf call (m .state))
+    → RowOn (m .state) call d → P (applied m (coreOf call (m .state)) (lineOf call (m .state)) (bytesGiven call given) d))
     → P m → P (step m call given .machine)
 unfolding accepted
 kept-by-rows P {m} call given row h = go (case-of m call given)

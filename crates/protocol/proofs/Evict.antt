@@ -1,7 +1,7 @@
 -- Evict is the call that fits the copy.
 use Prim.Native.Nat.{ℕ}
 use mathlib.Core.{Path.{_≡_, refl}, Bool.{Bool, true, false}}
-use lib.{Dec.eqb, ListN.length}
+use lib.Dec.{eqb}
 use Rattle.protocol.specs.{Pick.{pick, first}, Buffers.Bytes, Machine.{Machine, copyAt, piecesAt, applied}}
 use Rattle.protocol.specs.Refusals.{callRefusal, stateRules, stateRefusal, refusal}
 use Rattle.protocol.specs.{Tables.{evictTable, tableOf}, Step.{refused, Outcome, meaning, accepted, step}, Evict.{fitting, answering, EvictTheorem}}
@@ -20,7 +20,7 @@ chosen n m x y e = go (eqb n 0)
 -- the copy v that is there
 module _ (m : Machine) (c l : ℕ) (given : Bytes) where
   -- both are refused alike
-  same-refusal : (v : Copy) → copyAt (m .state) c l ≡ v → refusal m (fitting v c l) (length given) ≡ refusal m (Evict c l) (length given)
+  same-refusal : (v : Copy) → copyAt (m .state) c l ≡ v → refusal m (fitting v c l) given ≡ refusal m (Evict c l) given
   unfolding refusal callRefusal stateRefusal stateRules first
   same-refusal NoCopy e = rw e refl
   same-refusal (CopyShared w r) e = rw e refl
@@ -39,9 +39,9 @@ module _ (m : Machine) (c l : ℕ) (given : Bytes) where
 
   by-copy : (v : Copy) → copyAt (m .state) c l ≡ v → step m (Evict c l) given ≡ answering Evicted (step m (fitting v c l) given)
   unfolding step
-  by-copy NoCopy e = rw (same-refusal NoCopy e) (chosen (refusal m (Evict c l) (length given)) m _ _ (same-row NoCopy e))
-  by-copy (CopyShared w r) e = rw (same-refusal (CopyShared w r) e) (chosen (refusal m (Evict c l) (length given)) m _ _ (same-row (CopyShared w r) e))
-  by-copy (CopyOwned d w r) e = rw (same-refusal (CopyOwned d w r) e) (chosen (refusal m (Evict c l) (length given)) m _ _ (same-row (CopyOwned d w r) e))
+  by-copy NoCopy e = rw (same-refusal NoCopy e) (chosen (refusal m (Evict c l) given) m _ _ (same-row NoCopy e))
+  by-copy (CopyShared w r) e = rw (same-refusal (CopyShared w r) e) (chosen (refusal m (Evict c l) given) m _ _ (same-row (CopyShared w r) e))
+  by-copy (CopyOwned d w r) e = rw (same-refusal (CopyOwned d w r) e) (chosen (refusal m (Evict c l) given) m _ _ (same-row (CopyOwned d w r) e))
 
 pub evict-theorem : EvictTheorem
 evict-theorem m c l given = by-copy m c l given (copyAt (m .state) c l) refl

@@ -4,7 +4,7 @@ use Prim.Native.Nat.{ℕ}
 use mathlib.Core.{Path.{_≡_, refl, sym, _∙_}, Bool.{true, false}}
 use lib.ListN.{length}
 use borrow.Author.Tests.{lt-ltb, eq-eqb}
-use Rattle.protocol.specs.{Pick.first, Buffers.{Bytes, There, givenFits}, About.about, Machine.{Machine, Pieces, coreOf, lineOf, applied}}
+use Rattle.protocol.specs.{Pick.first, Buffers.{Bytes, There, givenFits}, About.about, Given.bytesGiven, Machine.{Machine, Pieces, coreOf, lineOf, applied}}
 use Rattle.protocol.specs.{Refusals.{ownerFits, slotFits, ownersFit, slotsFit, stateFits, buffersFit, machineRefusal, wrongCount}, Step.step}
 use Rattle.protocol.specs.declared.{Core.Core, ManagerLine.ManagerLine, Opening.Opening, Call.Call, Effect.Effect}
 use Rattle.protocol.specs.Tables.{loadOwned, storeTable, fenceTable, advanceTable, evictTable, serveAsked, serveLoad, receiveGrant, receiveRenew}
@@ -30,7 +30,7 @@ module _ {o : Opening} {n c l : ℕ} {p : Pieces} (q : There o c l) (slot : slot
   row-fits w (reads-dirty e) = record { slot = slot; owner = owner; bytes = refl }
   row-fits w (reads-clean e) = record { slot = slot; owner = owner; bytes = refl }
   row-fits w (asks-store e i) = record { slot = lt-ltb l (o .lines) (q .line); owner = owner; bytes = refl }
-  row-fits w (writes e h) = record { slot = slot; owner = owner; bytes = eq-eqb _ _ (store-width o n w) }
+  row-fits w (writes {g = g} e h) = record { slot = slot; owner = owner; bytes = eq-eqb _ _ (store-width g o n w) }
   row-fits w fences = record { slot = slot; owner = owner; bytes = refl }
   row-fits w (advances h) = record { slot = slot; owner = owner; bytes = refl }
   row-fits w (evicts-shared i e) = record { slot = slot; owner = owner; bytes = refl }
@@ -48,15 +48,15 @@ module _ {o : Opening} {n c l : ℕ} {p : Pieces} (q : There o c l) (slot : slot
   row-fits w (takes e) = record { slot = slot; owner = refl; bytes = refl }
 
 -- the row of an accepted call on a machine that fits
-pub made-fits : {m : Machine} {call : Call} {n : ℕ} {d : Effect} → Fit m → NotRefused m call n
+pub made-fits : {m : Machine} {call : Call} {given : Bytes} {d : Effect} → Fit m → NotRefused m call given
     → (q : There (m .state .opening) (coreOf call (m .state)) (lineOf call (m .state)))
-    → RowOn (m .state) call d → EffectFits (m .state .opening) n d
+    → RowOn (m .state) call d → EffectFits (m .state .opening) (length (bytesGiven call given)) d
 made-fits {call = call} f k q w = row-fits q (slot-inside f _ (q .core)) (owner-inside f _ (q .line)) (named call _ _ (k .callOk) .count) w
 
 -- and the machine after it
-row-kept : {m : Machine} {call : Call} (given : Bytes) {d : Effect} → Fit m → NotRefused m call (length given)
+row-kept : {m : Machine} {call : Call} (given : Bytes) {d : Effect} → Fit m → NotRefused m call given
     → There (m .state .opening) (coreOf call (m .state)) (lineOf call (m .state)) → RowOn (m .state) call d
-    → Fit (applied m (coreOf call (m .state)) (lineOf call (m .state)) given d)
+    → Fit (applied m (coreOf call (m .state)) (lineOf call (m .state)) (bytesGiven call given) d)
 unfolding applied ownersFit slotsFit
 row-kept {m} {call} given {d} f k q w =
     let o = m .state .opening in
@@ -67,8 +67,8 @@ row-kept {m} {call} given {d} f k q w =
       opening = f .opening;
       owners = every-set (λ (x : ManagerLine). ownerFits (o .cores) (x .manager)) (m .state .line) (o .lines) l (d .line) (f .owners) (e .owner);
       slots = every-set (λ (x : Core). slotFits (o .lines) (x .slot)) (m .state .core) (o .cores) c (d .core) (f .slots) (e .slot);
-      nPrivate = length-movedPrivate m c l given f q (d .moves) (e .bytes) ∙ f .nPrivate;
-      nShared = length-movedShared m c l given f q (d .moves) ∙ f .nShared;
+      nPrivate = length-movedPrivate m c l (bytesGiven call given) f q (d .moves) (e .bytes) ∙ f .nPrivate;
+      nShared = length-movedShared m c l (bytesGiven call given) f q (d .moves) ∙ f .nShared;
     }
 
 -- neither 1 nor 2 refuses a machine that fits

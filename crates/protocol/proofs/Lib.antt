@@ -8,6 +8,7 @@ pub mod Moves
 pub mod Refusals
 pub mod Cases
 pub mod Evict
+pub mod Digits
 pub mod Written
 pub mod Reached
 pub mod Order

@@ -5,14 +5,14 @@ use native.Mathlib.Omega.{arith}
 use lib.{Dec.eqb, ListN.length}
 use borrow.Author.Tests.{ltb-true, leb-false, eqb-true, eq-eqb}
 use Rattle.protocol.specs.{Pick.{pick, fails, Rule, first, _gives_}, Limits.openingFits, Fresh.{freshCore, freshLine}}
-use Rattle.protocol.specs.{Buffers.{privateLength, sharedLength, There}, About.{about, namedLine}}
+use Rattle.protocol.specs.{Buffers.{Bytes, privateLength, sharedLength, There}, About.{about, namedLine}, Given.{givenAs, bytesGiven}}
 use Rattle.protocol.specs.{Machine.{Machine, Pieces, coreAt, lineAt, theCore, theLine, coreOf, lineOf, piecesAt}, Tables.refusedRow}
 use Rattle.protocol.specs.Refusals.{openRefusal, ownerFits, slotFits, ownersFit, slotsFit, stateFits, buffersFit, machineRefusal, noCore, noLine}
-use Rattle.protocol.specs.Refusals.{wrongCount, byNothing, callRules, callRefusal, stateRefusal, orElse, refusal}
+use Rattle.protocol.specs.Refusals.{givenRefusal, wrongCount, byNothing, callRules, callRefusal, stateRefusal, orElse, refusal}
 use Rattle.protocol.specs.declared.{Slot.{Slot, the-variants.{Empty, Asked, Answered}}, Core.Core, Manager.{Manager, the-variants.{Shared, Owned}}}
 use Rattle.protocol.specs.declared.{ManagerLine.ManagerLine, Opening.Opening, Call.Call, Who.{Who, the-variants.{Named as NamedCore, Owner, Nobody}}}
 use Rattle.protocol.specs.declared.{Which.{Which, the-variants.{Named as NamedLine, InSlot, Nothing}}, About.About, Effect.Effect}
-use Rattle.protocol.specs.declared.Act.the-variants.{Store as Stores}
+use Rattle.protocol.specs.declared.{Act.the-variants.Store as Stores, Given.Given}
 use Rattle.protocol.proofs.{Tests.{never, both-true}, Scan.every-at, Extents.{Inside, inside, there-at}}
 
 -- ---- tests and rules
@@ -91,8 +91,8 @@ named call o n e =
     record { core = a .0; line = b .0; count = c .0; by = passed (byNothing (about call .act)) 6 [] (omega arith) (c .1) .0 }
 
 -- a store that 5 does not refuse has bytes for one line
-pub store-width : (o : Opening) (n : ℕ) → wrongCount Stores o n ≡ false → n ≡ o .width
-store-width o n e = eqb-true n (o .width) (not-true (eqb n (o .width)) e)
+pub store-width : (g : Given) (o : Opening) (n : ℕ) → wrongCount (Stores g) o n ≡ false → n ≡ o .width
+store-width g o n e = eqb-true n (o .width) (not-true (eqb n (o .width)) e)
 
 -- the core that a call is about, the line that it names and the line that it is about lie inside the sizes
 core-inside : (o : Opening) (w : Who) (v : Manager) → 1 ≤ o .cores → noCore w o ≡ false → ownerFits (o .cores) v ≡ true → theCore w v < o .cores
@@ -140,15 +140,17 @@ module _ {m : Machine} (f : Fit m) where
 
 -- ---- all refusals
 
--- an accepted call: none of 1 and 2, of 3 to 6, of 20 and up
-pub record NotRefused (m : Machine) (call : Call) (n : ℕ) : Type 0 where
+-- an accepted call: not 13, none of 1 and 2, of 3 to 6, of 20 and up
+pub record NotRefused (m : Machine) (call : Call) (given : Bytes) : Type 0 where
+  pub givenOk : givenRefusal (givenAs (about call .act)) given ≡ 0
   pub machineOk : machineRefusal m ≡ 0
-  pub callOk : callRefusal call (m .state .opening) n ≡ 0
+  pub callOk : callRefusal call (m .state .opening) (length (bytesGiven call given)) ≡ 0
   pub stateOk : stateRefusal call (piecesAt (m .state) (coreOf call (m .state)) (lineOf call (m .state))) (m .state .opening) ≡ 0
 
-pub not-refused : (m : Machine) (call : Call) (n : ℕ) → refusal m call n ≡ 0 → NotRefused m call n
+pub not-refused : (m : Machine) (call : Call) (given : Bytes) → refusal m call given ≡ 0 → NotRefused m call given
 unfolding refusal
-not-refused m call n e =
-    let a = or-none (machineRefusal m) _ e in
-    let b = or-none (callRefusal call (m .state .opening) n) _ (a .1) in
-    record { machineOk = a .0; callOk = b .0; stateOk = b .1 }
+not-refused m call given e =
+    let d = or-none (givenRefusal (givenAs (about call .act)) given) _ e in
+    let a = or-none (machineRefusal m) _ (d .1) in
+    let b = or-none (callRefusal call (m .state .opening) (length (bytesGiven call given))) _ (a .1) in
+    record { givenOk = d .0; machineOk = a .0; callOk = b .0; stateOk = b .1 }

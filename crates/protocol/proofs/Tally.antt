@@ -3,7 +3,7 @@
 use Prim.Native.Nat.{ℕ, _+_}
 use mathlib.Core.{Path.{_≡_, refl, sym, _∙_}, Bool.{Bool, true, false}, List.{List, [], _∷_}}
 use native.Mathlib.Omega.{arith}
-use Rattle.protocol.specs.{Pick.{pick, howMany}, Fresh.freshCore, Buffers.{Bytes, copyBytes}}
+use Rattle.protocol.specs.{Pick.{pick, howMany}, Fresh.freshCore, Buffers.{Bytes, copyBytes}, Given.bytesGiven}
 use Rattle.protocol.specs.Machine.{Machine, Pieces, coreOf, lineOf, freshMachine, applied}
 use Rattle.protocol.specs.{Refusals.{isEmpty, isAsked}, Step.{Reply, Outcome, meaning, commitBytes, accepted, step}, Run.{Entry, Record, run}}
 use Rattle.protocol.specs.{Counts.{classOf, sameClass, isOf, number}, Tally.{NumberedTheorem, askedCores, TallyTheorem}}
@@ -84,7 +84,7 @@ module _ {m : Machine} (arrays : Arrays (m .state)) where
       let c = coreOf call s in
       let n = s .opening .cores in
       let cores = how-many-set (λ (k : Core). isAsked (k .slot)) freshCore (s .core) n c (d .core) (q .core) (omega (arith, arrays .nCore, q .cores)) in
-      (arrays-written arrays q d, omega (arith, flow (commitBytes call given (copyBytes (s .opening) (m .private) c (lineOf call s))) w, cores))
+      (arrays-written arrays q d, omega (arith, flow (commitBytes call (bytesGiven call given) (copyBytes (s .opening) (m .private) c (lineOf call s))) w, cores))
 
 -- a call more
 balance-more : {p : ℕ} {rs : List Record} {m : Machine} {g : Entry} → Balance rs m → Balance (recorded p m g ∷ rs) (step m (g .call) (g .bytes) .machine)

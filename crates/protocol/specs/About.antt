@@ -16,7 +16,7 @@ concerns c l a = record { core = c; line = l; act = a }
 -- copies)"
 abbrev pub about : Call → About
 about (Load c l) = concerns (NamedCore c) (NamedLine l) Loads
-about (Store c l) = concerns (NamedCore c) (NamedLine l) Stores
+about (Store g c l) = concerns (NamedCore c) (NamedLine l) (Stores g)
 about (Fence c) = concerns (NamedCore c) Nothing Fences
 about (Evict c l) = concerns (NamedCore c) (NamedLine l) Transfer
 about (Drop c l) = concerns (NamedCore c) (NamedLine l) Transfer

@@ -16,7 +16,7 @@ use Rattle.protocol.specs.declared.Class.the-variants.{Renew as ARenew, 
 -- "serve (core with an asked slot)"
 abbrev pub isServe : Call → Bool
 isServe (Load c l) = false
-isServe (Store c l) = false
+isServe (Store g c l) = false
 isServe (Fence c) = false
 isServe (Evict c l) = false
 isServe (Drop c l) = false

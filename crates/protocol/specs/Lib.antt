@@ -5,11 +5,13 @@ pub mod Limits
 pub mod Fresh
 pub mod Buffers
 pub mod About
+pub mod Given
 pub mod Machine
 pub mod Refusals
 pub mod Tables
 pub mod Step
 pub mod Evict
+pub mod Digits
 pub mod Run
 pub mod Counts
 pub mod Tally

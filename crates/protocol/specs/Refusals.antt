@@ -1,9 +1,11 @@
--- The refusals of the calls, in the scope document's order: "Checked in this order; first that applies." 30 is of 02, Two.
-use Prim.Native.Nat.{ℕ}
+-- The refusals of the calls, in the scope document's order: "Checked in this order; first that applies." 30 is of 02, Two, and that 13 is the
+-- first check of a store in digits of 02, Three.
+use Prim.Native.Nat.{ℕ, _%_}
 use mathlib.Core.{Bool.{Bool, true, false}, List.{List, [], _∷_}}
 use lib.{Dec.{ltb, leb, eqb}, ListN.{length, take}}
 use Rattle.protocol.specs.{Pick.{pick, both, fails, every, Rule, first, _gives_}, Stamps.{earlier, canAdd}, Limits.openingFits}
-use Rattle.protocol.specs.{Buffers.{privateLength, sharedLength}, About.about, Machine.{Machine, Pieces, piecesAt, coreOf, lineOf}}
+use Rattle.protocol.specs.{Buffers.{Bytes, privateLength, sharedLength}, About.about, Given.{givenAs, bytesGiven}}
+use Rattle.protocol.specs.Machine.{Machine, Pieces, piecesAt, coreOf, lineOf}
 use Rattle.protocol.specs.declared.{Stamp.Stamp, Copy.{Copy, the-variants.{None as NoCopy, Shared as CopyShared, Owned as CopyOwned}}}
 use Rattle.protocol.specs.declared.Want.the-variants.{Load as WantLoad, Store as WantStore}
 use Rattle.protocol.specs.declared.{Slot.{Slot, the-variants.{Empty, Asked, Answered}}, Core.Core}
@@ -16,13 +18,26 @@ use Rattle.protocol.specs.declared.Call.the-variants.{Serve, Receive, Yi
 use Rattle.protocol.specs.declared.Who.{Who, the-variants.{Named as NamedCore, Owner, Nobody}}
 use Rattle.protocol.specs.declared.Which.{Which, the-variants.{Named as NamedLine, InSlot, Nothing}}
 use Rattle.protocol.specs.declared.Act.{Act, the-variants.{Load as Loads, Store as Stores, Fence as Fences, Advance as Advances, Transfer}}
-use Rattle.protocol.specs.declared.About.{About}
+use Rattle.protocol.specs.declared.{About.About, Given.{Given, the-variants.{Bytes as AsBytes, Digits as AsDigits}}}
 
 -- ---- Refused because of the input
 
 -- 7: the opening's sizes or lease outside the limits
 unfoldable pub openRefusal : Opening → ℕ
 openRefusal o = first ((fails (openingFits o) gives 7) ∷ [])
+
+-- "0-9 a-f"
+abbrev pub isDigit : ℕ → Bool
+isDigit b = pick (both (leb 48 b) (leb b 57)) true (both (leb 97 b) (leb b 102))
+
+-- "13 data empty, odd in count, or not 0-9 a-f"
+unfoldable pub digitRules : Bytes → List Rule
+digitRules ds = (eqb (length ds) 0 gives 13) ∷ (eqb (length ds % 2) 1 gives 13) ∷ (fails (every isDigit ds) gives 13) ∷ []
+
+-- of what is given to a call: "wrong digits are 13"
+abbrev pub givenRefusal : Given → Bytes → ℕ
+givenRefusal AsBytes given = 0
+givenRefusal AsDigits given = first (digitRules given)
 
 -- an owner ≥ cores does not fit
 abbrev pub ownerFits : ℕ → Manager → Bool
@@ -72,7 +87,7 @@ noLine Nothing o = false
 
 -- 5: store bytes not width in count
 abbrev pub wrongCount : Act → Opening → ℕ → Bool
-wrongCount Stores o n = fails (eqb n (o .width))
+wrongCount (Stores g) o n = fails (eqb n (o .width))
 wrongCount Loads o n = false
 wrongCount Fences o n = false
 wrongCount (Advances by) o n = false
@@ -82,7 +97,7 @@ wrongCount Transfer o n = false
 abbrev pub byNothing : Act → Bool
 byNothing (Advances by) = eqb by 0
 byNothing Loads = false
-byNothing Stores = false
+byNothing (Stores g) = false
 byNothing Fences = false
 byNothing Transfer = false
 
@@ -175,7 +190,7 @@ servePasses (Answered g l w r) m o = false
 -- names, straight after 26": drop names a shared copy, writeback an owned one, and evict, drop and writeback alike are 26 without a copy
 unfoldable pub stateRules : Call → Pieces → Opening → List Rule
 stateRules (Load c l) p o = (both (loadAsks (p .copy) (p .core .clocks .lts)) (fails (isEmpty (p .core .slot))) gives 20) ∷ []
-stateRules (Store c l) p o =
+stateRules (Store g c l) p o =
     (both (fails (isOwned (p .copy))) (fails (isEmpty (p .core .slot))) gives 20) ∷ (storePasses (p .copy) gives 27) ∷ []
 stateRules (Fence c) p o = []
 stateRules (Evict c l) p o = (fails (isHeld (p .copy)) gives 26) ∷ []
@@ -198,9 +213,11 @@ stateRefusal call p o = first (stateRules call p o)
 abbrev pub orElse : ℕ → ℕ → ℕ
 orElse a b = pick (eqb a 0) b a
 
--- the number that a call is refused with, or 0 where it is accepted: 1 and 2, then 3 to 6, then 20 and up; n is the count of the store bytes
-unfoldable pub refusal : Machine → Call → ℕ → ℕ
-refusal m call n =
-    orElse (machineRefusal m)
-    (orElse (callRefusal call (m .state .opening) n)
-    (stateRefusal call (piecesAt (m .state) (coreOf call (m .state)) (lineOf call (m .state))) (m .state .opening)))
+-- the number that a call is refused with, or 0 where it is accepted: 13, "the first check", then 1 and 2, then 3 to 6, of which 5 looks at the
+-- count of the bytes spelt, then 20 and up; `given` is what is given to a store
+unfoldable pub refusal : Machine → Call → Bytes → ℕ
+refusal m call given =
+    orElse (givenRefusal (givenAs (about call .act)) given)
+    (orElse (machineRefusal m)
+    (orElse (callRefusal call (m .state .opening) (length (bytesGiven call given)))
+    (stateRefusal call (piecesAt (m .state) (coreOf call (m .state)) (lineOf call (m .state))) (m .state .opening))))

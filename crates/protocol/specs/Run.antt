@@ -1,11 +1,11 @@
 -- A list of calls run from a machine: the record of each call, and the commits read off the records.
 use Prim.Native.Nat.{ℕ, suc}
 use mathlib.Core.List.{List, [], _∷_, _++_}
-use Rattle.protocol.specs.{Buffers.Bytes, About.{about, namedCore, namedLine}, Machine.Machine}
+use Rattle.protocol.specs.{Buffers.Bytes, About.{about, namedCore, namedLine}, Given.bytesGiven, Machine.Machine}
 use Rattle.protocol.specs.{Step.{Op, load, store, fence, Reply, refused, done, commit, step}, declared.{Stamp.Stamp, Place.Place, Call.Call}}
 use Rattle.protocol.specs.declared.Act.{Act, the-variants.{Load as Loads, Store as Stores, Fence as Fences, Advance as Advances, Transfer}}
 
--- a call of a list, with the bytes given to it (a store's; any other call passes over them)
+-- a call of a list, with what is given to it: a store's bytes, or the digits that spell them, as the call says; any other call passes over it
 pub record Entry : Type 0 where
   pub call : Call
   pub bytes : Bytes
@@ -54,12 +54,12 @@ bytesOf fence = []
 -- load's bytes, which are there to be compared. "Commits come from load, store and fence only."
 abbrev pub actCommit : Act → Place → ℕ → ℕ → Bytes → Stamp → Op Bytes → List (Commit Bytes)
 actCommit Loads p c l given t o = record { place = p; core = c; ts = t; op = load l (bytesOf o) } ∷ []
-actCommit Stores p c l given t o = record { place = p; core = c; ts = t; op = store l given } ∷ []
+actCommit (Stores g) p c l given t o = record { place = p; core = c; ts = t; op = store l given } ∷ []
 actCommit Fences p c l given t o = record { place = p; core = c; ts = t; op = fence } ∷ []
 actCommit (Advances by) p c l given t o = []
 actCommit Transfer p c l given t o = []
 
--- the commit of a call that committed at t
+-- the commit of a call that committed at t, with the bytes given to it
 abbrev pub commitAt : Place → Call → Bytes → Stamp → Op Bytes → List (Commit Bytes)
 commitAt p call given t o = actCommit (about call .act) p (namedCore (about call .core)) (namedLine (about call .line)) given t o
 
@@ -67,7 +67,7 @@ commitAt p call given t o = actCommit (about call .act) p (namedCore (about call
 abbrev pub commitOf : Place → Entry → Reply → List (Commit Bytes)
 commitOf p g (refused n) = []
 commitOf p g (done d) = []
-commitOf p g (commit c t o) = commitAt p (g .call) (g .bytes) t o
+commitOf p g (commit c t o) = commitAt p (g .call) (bytesGiven (g .call) (g .bytes)) t o
 
 -- the commits of a list of records
 unfoldable pub commits : List Record → List (Commit Bytes)

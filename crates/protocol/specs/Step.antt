@@ -1,8 +1,8 @@
--- One call on the machine, for every machine, call and bytes: what it answers, in the scope document's numbers and values, and the
+-- One call on the machine, for every machine, call and whatever is given to it: what it answers, in the scope document's numbers and values, and the
 -- machine after it. And `show`.
 use Prim.Native.Nat.{ℕ, _+_}
-use lib.{Dec.eqb, ListN.length}
-use Rattle.protocol.specs.{Pick.pick, Fresh.{freshState, smallest}, Buffers.{Bytes, copyStart, managerStart, copyBytes}, About.about}
+use lib.Dec.{eqb}
+use Rattle.protocol.specs.{Pick.pick, Fresh.{freshState, smallest}, Buffers.{Bytes, copyStart, managerStart, copyBytes}, About.about, Given.bytesGiven}
 use Rattle.protocol.specs.Machine.{Machine, piecesAt, copyAt, coreOf, lineOf, applied}
 use Rattle.protocol.specs.{Refusals.{openRefusal, machineRefusal, callRefusal, refusal, orElse, isHeld}, Tables.tableOf, declared.Stamp.Stamp}
 use Rattle.protocol.specs.declared.{Opening.Opening, State.State, Call.{Call, the-variants.Load}}
@@ -55,7 +55,7 @@ pub record Outcome : Type 0 where
 
 -- "a load's bytes are its copy's"; a store's are those that it was given
 abbrev pub actBytes : Act → Bytes → Bytes → Bytes
-actBytes Stores given copy = given
+actBytes (Stores g) given copy = given
 actBytes Loads given copy = copy
 actBytes Fences given copy = copy
 actBytes (Advances by) given copy = copy
@@ -64,7 +64,7 @@ actBytes Transfer given copy = copy
 abbrev pub commitBytes : Call → Bytes → Bytes → Bytes
 commitBytes call given copy = actBytes (about call .act) given copy
 
--- an accepted call on core c and line l: the answer and the machine of its table's row
+-- an accepted call on core c and line l: the answer and the machine of its table's row; `given` are the bytes given to a store
 unfoldable pub accepted : Machine → Call → Bytes → ℕ → ℕ → Effect → Outcome
 accepted m call given c l d =
     record {
@@ -72,13 +72,14 @@ accepted m call given c l d =
       machine = applied m c l given d;
     }
 
--- one call; `given` are the bytes given to a store. "A refused call returns its number, the state it got, both buffers byte for byte."
+-- one call; `given` is what is given to a store, its bytes or their digits. "A refused call returns its number, the state it got, both buffers
+-- byte for byte." 02, Three: in digits "it gives what store gives for the bytes spelt, both buffers included"
 unfoldable pub step : Machine → Call → Bytes → Outcome
 step m call given =
-    pick (eqb (refusal m call (length given)) 0)
-    (accepted m call given (coreOf call (m .state)) (lineOf call (m .state))
+    pick (eqb (refusal m call given) 0)
+    (accepted m call (bytesGiven call given) (coreOf call (m .state)) (lineOf call (m .state))
     (tableOf call (piecesAt (m .state) (coreOf call (m .state)) (lineOf call (m .state))) (m .state .opening)))
-    (record { reply = refused (refusal m call (length given)); machine = m })
+    (record { reply = refused (refusal m call given); machine = m })
 
 -- ---- show
 

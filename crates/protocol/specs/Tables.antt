@@ -203,7 +203,7 @@ takeTable NoWriteback p = refusedRow 25 p
 -- the table of a call
 unfoldable pub tableOf : Call → Pieces → Opening → Effect
 tableOf (Load c l) p o = loadTable (p .copy) c l p
-tableOf (Store c l) p o = storeTable (p .copy) c l p
+tableOf (Store g c l) p o = storeTable (p .copy) c l p
 tableOf (Fence c) p o = fenceTable c p
 tableOf (Evict c l) p o = evictTable Evicted (p .copy) p
 tableOf (Drop c l) p o = evictTable Dropped (p .copy) p

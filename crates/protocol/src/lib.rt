@@ -7,7 +7,7 @@
 ghost use mathlib.Core.{Path._≡_, List.[]};
 ghost use Rattle.protocol.specs.Stamps.{greatest, atMost, earlier, same, madeEarlier, later, after, precedes};
 ghost use Rattle.protocol.specs.{Clock.{loaded, stored, fenced, advanced}, Fresh.{freshCore, freshCell, freshLine, freshState, smallest}};
-ghost use Rattle.protocol.specs.{Limits.{within, openingFits}, About.{concerns, about}, Step.{meaning, valued}};
+ghost use Rattle.protocol.specs.{Limits.{within, openingFits}, About.{concerns, about}, Given.{givenAs, countAs}, Step.{meaning, valued}};
 ghost use Rattle.protocol.specs.{Pick.pick, Counts.{isServe, nameClass, commitClass, classOf}};
 
 // A logical timestamp. It is compared only with another timestamp.
@@ -361,20 +361,68 @@ impl State {
     }
 }
 
-// The calls. A store's bytes are given beside the call. Evict gives up whatever copy there is; drop a shared one, writeback an
-// owned one. A new call is last, here and in each match: the others then take no instruction more.
+// How a store's bytes are given: as they are, or as the digits that spell them, two a byte.
+pub enum Given {
+    Bytes,
+    Digits,
+}
+
+impl Given {
+    // How many bytes are given by n bytes, or by n digits.
+    pub fn count(self, n: usize) -> usize
+        ensures { λ r. ⌜ r ≡ countAs self n ⌝ }
+    {
+        match self {
+            Given::Bytes => n,
+            Given::Digits => n / 2,
+        }
+    }
+}
+
+// The calls. A store's bytes are given beside the call, as bytes or as digits. Evict gives up whatever copy there is; drop a shared
+// one, writeback an owned one. A new call is last, here and in each match: the others then take no instruction more. `given` is
+// first, in the room beside the variant's tag: a call then takes 24 bytes, not 32.
 pub enum Call {
-    Load { core: usize, line: usize },
-    Store { core: usize, line: usize },
-    Fence { core: usize },
-    Evict { core: usize, line: usize },
-    Advance { core: usize, by: u32 },
-    Serve { core: usize },
-    Receive { core: usize },
-    Yield { line: usize },
-    Take { line: usize },
-    Drop { core: usize, line: usize },
-    Writeback { core: usize, line: usize },
+    Load {
+        core: usize,
+        line: usize,
+    },
+    Store {
+        given: Given,
+        core: usize,
+        line: usize,
+    },
+    Fence {
+        core: usize,
+    },
+    Evict {
+        core: usize,
+        line: usize,
+    },
+    Advance {
+        core: usize,
+        by: u32,
+    },
+    Serve {
+        core: usize,
+    },
+    Receive {
+        core: usize,
+    },
+    Yield {
+        line: usize,
+    },
+    Take {
+        line: usize,
+    },
+    Drop {
+        core: usize,
+        line: usize,
+    },
+    Writeback {
+        core: usize,
+        line: usize,
+    },
 }
 
 // The core that a call is about: the one that it names, the owner of its line, or none.
@@ -391,14 +439,29 @@ pub enum Which {
     Nothing,
 }
 
-// What a call does to its core's clocks, and so what it may commit; a transfer moves a request or a
-// line between a core and the manager, and commits nothing.
+// What a call does to its core's clocks, and so what it may commit, and how a store's bytes are given; a transfer moves a request or
+// a line between a core and the manager, and commits nothing.
 pub enum Act {
     Load,
-    Store,
+    Store(Given),
     Fence,
     Advance(u32),
     Transfer,
+}
+
+impl Act {
+    // How what is given to the call is read: a store says it, any other call passes over it.
+    pub fn given(self) -> Given
+        ensures { λ r. ⌜ r ≡ givenAs self ⌝ }
+    {
+        match self {
+            Act::Load => Given::Bytes,
+            Act::Store(given) => given,
+            Act::Fence => Given::Bytes,
+            Act::Advance(_) => Given::Bytes,
+            Act::Transfer => Given::Bytes,
+        }
+    }
 }
 
 // What a call is about.
@@ -417,8 +480,8 @@ impl Call {
             Call::Load { core, line } => {
                 concerns(Who::Named(core), Which::Named(line), Act::Load)
             }
-            Call::Store { core, line } => {
-                concerns(Who::Named(core), Which::Named(line), Act::Store)
+            Call::Store { given, core, line } => {
+                concerns(Who::Named(core), Which::Named(line), Act::Store(given))
             }
             Call::Fence { core } => concerns(Who::Named(core), Which::Nothing, Act::Fence),
             Call::Evict { core, line } => {

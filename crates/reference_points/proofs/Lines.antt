@@ -1,7 +1,7 @@
 -- What lines say: the one answer that the grammar gives for each line is computed, and is the one that is told.
 use Prim.Native.Nat.{ℕ}
 use mathlib.Core.{Path.{_≡_, refl, subst}, List.List}
-use Rattle.spelling.{specs.{Bytes.upTo, Decimal.{decimal, decimalUpTo}, Hex.hex}, proofs.{DecimalLaws.value, HexLaws.unhex}}
+use Rattle.spelling.{specs.{Bytes.upTo, Decimal.{decimal, decimalUpTo}, Hex.{hex, unhex}}, proofs.DecimalLaws.value}
 use Rattle.grammar.{specs.{Table.rowsOf, Line.LineOf, declared.Line.Line}, proofs.OneAnswer.one-answer}
 use Rattle.reference_points.specs.Lines.{Spoken, spoken, Says, spokenLines, LinesTheorem}
 use Rattle.reference_points.proofs.Each.{each}

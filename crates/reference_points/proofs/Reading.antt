@@ -1,12 +1,11 @@
 -- What the lines of a journal say whose bytes are known: each answer is computed.
 use Prim.Native.Nat.{ℕ, _+_, _-_}
-use mathlib.Core.{Path.{_≡_, refl}, Bool.true, List.{List, [], _∷_}}
-use lib.{Dec.{leb, ltb, lit≤}, ListN.{length, take, drop}}
+use mathlib.Core.{Path.{_≡_, refl}, Bool.true, List.List}
+use lib.{Dec.{leb, ltb}, ListN.{length, take, drop}}
 use borrow.Author.Tests.{leb-true, ltb-true}
 use Rattle.protocol.specs.{Buffers.Bytes, Run.Entry, declared.Call.Call}
-use Rattle.spelling.specs.{Bytes.upTo, Hex.hex}
+use Rattle.spelling.specs.Bytes.{upTo}
 use Rattle.journal.{specs.Journal.{inJournal, NextOf}, proofs.Lines.line-answer}
-use Rattle.driver.specs.Listing.{Data, someData}
 use Rattle.reference_points.proofs.Lines.{answer, says}
 
 -- where the line at an offset of a journal ends, and the line
@@ -22,10 +21,6 @@ pub line : (j : Bytes) (form at : ℕ) → leb (length j) 65536 ≡ true → ltb
 line j form at s h =
     line-answer j at (end j at) form (answer form (bytes j at)) (leb-true _ _ s) refl (ltb-true (end j at) _ h) (says form (bytes j at) refl)
 
--- the data of a store of one byte
-pub seven : {digits : List ℕ} → digits ≡ hex (7 ∷ []) → Data digits (7 ∷ [])
-seven e = someData {bs = 7 ∷ []} (record { some = lit≤ tt; bytes = (lit≤ tt, tt); same = e })
-
--- a call and the bytes given to it
+-- a call and what is given to it
 abbrev pub call : Call → Bytes → Entry
 call k bs = record { call = k; bytes = bs }

@@ -1,18 +1,20 @@
 -- The rows hold: antt computes what `step` gives on each machine, and both sides are the same.
 use mathlib.Core.Path.{refl}
 use Rattle.protocol.specs.{Pick.{every, first}, Limits.openingFits, Buffers.{movedPrivate, movedShared}, Machine.applied}
-use Rattle.protocol.specs.Refusals.{openRefusal, ownersFit, slotsFit, stateFits, buffersFit, machineRefusal, callRules, callRefusal, stateRules}
+use Rattle.spelling.specs.Hex.{unhex}
+use Rattle.protocol.specs.Refusals.{digitRules, openRefusal, ownersFit, slotsFit, stateFits, buffersFit, machineRefusal, callRules, callRefusal, stateRules}
 use Rattle.protocol.specs.{Refusals.{stateRefusal, refusal}, Step.{meaning, accepted, step, shown}}
 use Rattle.protocol.specs.Tables.{loadOwned, loadTable, storeTable, fenceTable, advanceTable, evictTable, serveLoad, serveAsked, serveTable}
 use Rattle.protocol.specs.Tables.{receiveRenew, receiveGrant, receiveTable, yieldTable, takeTable, tableOf}
 use Rattle.reference_points.specs.{Rows.{got, told}, Points.{points, PointsTheorem}, Steps.{stepRows, StepsTheorem}}
 use Rattle.reference_points.specs.Numbers.{called, turnedAway, refusals, NumbersTheorem, opens, accepted as isAccepted, refusedWithSeven}
 use Rattle.reference_points.specs.{Numbers.{inside, outside, OpeningsTheorem}, Show.{isShown, isTold, looks, ShowTheorem}}
+use Rattle.reference_points.specs.Spelt.{stored, toldOf, speltRows, digitRefusals, SpeltTheorem}
 use Rattle.reference_points.proofs.Each.{agree}
 
 -- the definitions that a call computes by: its refusals, its table, and what is moved
 unfoldable pub calling : Unit {0}
-unfolding every first openingFits openRefusal ownersFit slotsFit stateFits buffersFit machineRefusal callRules callRefusal stateRules stateRefusal refusal
+unfolding every first unhex digitRules openingFits openRefusal ownersFit slotsFit stateFits buffersFit machineRefusal callRules callRefusal stateRules stateRefusal refusal
     loadOwned loadTable storeTable fenceTable advanceTable evictTable serveLoad serveAsked serveTable receiveRenew receiveGrant receiveTable yieldTable
     takeTable tableOf movedPrivate movedShared applied meaning accepted step shown
 calling = tt
@@ -28,6 +30,10 @@ steps-theorem = record { rows = agree got told stepRows refl; other = refl; shar
 pub numbers-theorem : NumbersTheorem
 unfolding calling
 numbers-theorem = agree called turnedAway refusals refl
+
+pub spelt-theorem : SpeltTheorem
+unfolding calling
+spelt-theorem = record { rows = agree stored toldOf speltRows refl; numbers = agree called turnedAway digitRefusals refl }
 
 pub openings-theorem : OpeningsTheorem
 unfolding calling

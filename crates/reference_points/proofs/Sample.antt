@@ -4,13 +4,14 @@ use native.Mathlib.Omega.{arith}
 use lib.Dec.{lit≤}
 use Rattle.protocol.specs.{Pick.howMany, Machine.freshMachine, Run.{Entry, run}, Counts.{nothingMet, tally}}
 use Rattle.protocol.specs.declared.Call.the-variants.{Load, Store, Serve, Receive, Take}
-use Rattle.spelling.specs.{Decimal.{decimal, decimalUpTo}, Hex.hex}
+use Rattle.protocol.specs.declared.Given.the-variants.{Digits as AsDigits}
+use Rattle.spelling.specs.{Decimal.{decimal, decimalUpTo}, Hex.hex, Text.text}
 use Rattle.journal.specs.{Journal.{NextOf, empty, ended as atLast}, Theorems.{Reached, start, on}, declared.Next.the-variants.Opening}
-use Rattle.listing.specs.Record.{recordText, endText, tallyText}
-use Rattle.driver.specs.Listing.{ended, noData, noLine, aLine, atEnd, lines, refusedFirst}
+use Rattle.listing.specs.Record.{recordAs, endText, tallyText}
+use Rattle.driver.specs.Listing.{ended, noLine, aLine, atEnd, lines, refusedFirst}
 use Rattle.playing.specs.Listing.{ReadAs, Opens, opens, counted, nothing}
 use Rattle.reference_points.specs.{Numbers.opening, Sample.{sampleJournal, SampleTheorem}}
-use Rattle.reference_points.proofs.{Rows.calling, Lines.answer, Reading.{line, seven, call}}
+use Rattle.reference_points.proofs.{Rows.calling, Lines.answer, Reading.{line, call}}
 
 -- the first line opens an engine
 first : NextOf sampleJournal 0 0 (Opening 1 (opening 1 1 1 10) 42)
@@ -19,7 +20,7 @@ first = line sampleJournal 0 0 refl refl
 
 -- the other lines are these calls
 abbrev calls : List Entry
-calls = call (Store 0 0) (7 ∷ []) ∷ call (Serve 0) [] ∷ call (Receive 0) [] ∷ call (Store 0 0) (7 ∷ []) ∷ call (Load 0 0) [] ∷ call (Take 0) [] ∷ []
+calls = call (Store AsDigits 0 0) (text "07") ∷ call (Serve 0) [] ∷ call (Receive 0) [] ∷ call (Store AsDigits 0 0) (text "07") ∷ call (Load 0 0) [] ∷ call (Take 0) [] ∷ []
 
 reads : ReadAs sampleJournal 1 42 calls ended
 unfolding answer
@@ -27,11 +28,11 @@ reads =
     record {
       to = 175;
       steps =
-          aLine (line sampleJournal 1 42 refl refl) (seven refl)
-          (aLine (line sampleJournal 1 73 refl refl) (noData refl)
-          (aLine (line sampleJournal 1 89 refl refl) (noData refl)
-          (aLine (line sampleJournal 1 107 refl refl) (seven refl)
-          (aLine (line sampleJournal 1 138 refl refl) (noData refl) (aLine (line sampleJournal 1 160 refl refl) (noData refl) noLine)))));
+          aLine (line sampleJournal 1 42 refl refl)
+          (aLine (line sampleJournal 1 73 refl refl)
+          (aLine (line sampleJournal 1 89 refl refl)
+          (aLine (line sampleJournal 1 107 refl refl)
+          (aLine (line sampleJournal 1 138 refl refl) (aLine (line sampleJournal 1 160 refl refl) noLine)))));
       ends = atEnd (atLast (lit≤ tt) (lit≤ tt) (λ e. omega arith));
     }
 
@@ -49,7 +50,7 @@ passed =
     (line sampleJournal 1 160 refl refl) refl
 
 pub sample-theorem : SampleTheorem
-unfolding calling run decimal decimalUpTo hex recordText endText tallyText lines howMany
+unfolding calling run decimal decimalUpTo hex recordAs endText tallyText lines howMany
 sample-theorem =
     record {
       listing = opens opened;

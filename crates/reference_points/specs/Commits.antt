@@ -1,18 +1,20 @@
--- The commits of two short lists of calls: which calls commit, and what a commit carries (01, demand 3).
+-- The commits of three short lists of calls: which calls commit, and what a commit carries (01, demand 3).
 use Prim.Native.Nat.{ℕ}
 use mathlib.Core.{Path._≡_, List.{List, [], _∷_, map}}
 use Rattle.protocol.specs.{Stamps.stamp, Buffers.Bytes, Machine.freshMachine, Run.{Entry, Record, Commit, place, run}}
 use Rattle.protocol.specs.{Step.{Op, load, store, fence, Reply, refused, done, commit}, Order.commitsOf, declared.Opening.Opening}
 use Rattle.protocol.specs.declared.Call.{Call, the-variants.{Load, Store, Fence, Evict, Drop, Writeback as WriteBack, Advance, Serve, Receive, Take}}
+use Rattle.protocol.specs.declared.Given.the-variants.{Bytes as AsBytes, Digits as AsDigits}
 use Rattle.protocol.specs.declared.Name.the-variants.{Ask as ask, Share as share, Own as own, Drop as dropped, Evict as evict, Writeback as writeback}
 use Rattle.protocol.specs.declared.Name.the-variants.{Take as taken, Advance as advance}
+use Rattle.spelling.specs.Text.{text}
 use Rattle.reference_points.specs.Numbers.{opening}
 
 -- 2 cores, 3 lines, a width of 2 and a lease of 10
 abbrev pub small : Opening
 small = opening 2 3 2 10
 
--- a call, the bytes given to it, and what it answers
+-- a call, what is given to it, and what it answers
 pub data Exchange : Type 0 where
   exchange : (call : Call) (bytes : Bytes) (reply : Reply) → Exchange
 
@@ -25,11 +27,11 @@ replyOf (exchange k bs r) = r
 -- core 1 stores to line 2, loads from it and makes a fence; core 0 loads line 0. Only a store takes the bytes given to it
 abbrev pub exchanges : List Exchange
 exchanges =
-    exchange (Store 1 2) (7 ∷ 8 ∷ []) (done ask)
+    exchange (Store AsBytes 1 2) (7 ∷ 8 ∷ []) (done ask)
     ∷ exchange (Load 1 2) [] (refused 20)
     ∷ exchange (Serve 1) [] (done own)
     ∷ exchange (Receive 1) [] (done own)
-    ∷ exchange (Store 1 2) (5 ∷ 6 ∷ []) (commit 1 (stamp 1) (store 2 (5 ∷ 6 ∷ [])))
+    ∷ exchange (Store AsBytes 1 2) (5 ∷ 6 ∷ []) (commit 1 (stamp 1) (store 2 (5 ∷ 6 ∷ [])))
     ∷ exchange (Load 1 2) (9 ∷ 9 ∷ []) (commit 1 (stamp 0) (load 2 (5 ∷ 6 ∷ [])))
     ∷ exchange (Fence 1) (9 ∷ 9 ∷ []) (commit 1 (stamp 1) fence)
     ∷ exchange (Advance 0 3) [] (done advance)
@@ -45,10 +47,10 @@ exchanges =
 -- core 1 stores to line 2 and writes it back; core 0 loads it from the manager and drops it (02, Two)
 abbrev pub givenUp : List Exchange
 givenUp =
-    exchange (Store 1 2) (7 ∷ 8 ∷ []) (done ask)
+    exchange (Store AsBytes 1 2) (7 ∷ 8 ∷ []) (done ask)
     ∷ exchange (Serve 1) [] (done own)
     ∷ exchange (Receive 1) [] (done own)
-    ∷ exchange (Store 1 2) (5 ∷ 6 ∷ []) (commit 1 (stamp 1) (store 2 (5 ∷ 6 ∷ [])))
+    ∷ exchange (Store AsBytes 1 2) (5 ∷ 6 ∷ []) (commit 1 (stamp 1) (store 2 (5 ∷ 6 ∷ [])))
     ∷ exchange (Drop 1 2) [] (refused 30)
     ∷ exchange (WriteBack 1 2) [] (done writeback)
     ∷ exchange (WriteBack 1 2) [] (refused 26)
@@ -59,6 +61,21 @@ givenUp =
     ∷ exchange (WriteBack 0 2) [] (refused 30)
     ∷ exchange (Load 0 2) [] (commit 0 (stamp 1) (load 2 (5 ∷ 6 ∷ [])))
     ∷ exchange (Drop 0 2) [] (done dropped)
+    ∷ []
+
+-- core 1 stores to line 2, by bytes and by the digits that spell them; wrong digits are refused and store nothing (02, Three)
+abbrev pub inDigits : List Exchange
+inDigits =
+    exchange (Store AsDigits 1 2) (text "zz") (refused 13)
+    ∷ exchange (Store AsDigits 1 2) (text "0708") (done ask)
+    ∷ exchange (Serve 1) [] (done own)
+    ∷ exchange (Receive 1) [] (done own)
+    ∷ exchange (Store AsDigits 1 2) (text "1fa0") (commit 1 (stamp 1) (store 2 (31 ∷ 160 ∷ [])))
+    ∷ exchange (Store AsDigits 1 2) (text "1fa") (refused 13)
+    ∷ exchange (Load 1 2) [] (commit 1 (stamp 0) (load 2 (31 ∷ 160 ∷ [])))
+    ∷ exchange (Store AsBytes 1 2) (49 ∷ 50 ∷ []) (commit 1 (stamp 2) (store 2 (49 ∷ 50 ∷ [])))
+    ∷ exchange (Store AsDigits 1 2) (text "12") (refused 5)
+    ∷ exchange (Load 1 2) [] (commit 1 (stamp 0) (load 2 (49 ∷ 50 ∷ [])))
     ∷ []
 
 -- a commit: its place in the list of calls, core, timestamp, and what it did
@@ -78,10 +95,18 @@ committed =
 abbrev pub givenUpCommits : List (Commit Bytes)
 givenUpCommits = aCommit 4 1 1 (store 2 (5 ∷ 6 ∷ [])) ∷ aCommit 13 0 1 (load 2 (5 ∷ 6 ∷ [])) ∷ []
 
+abbrev pub inDigitsCommits : List (Commit Bytes)
+inDigitsCommits =
+    aCommit 5 1 1 (store 2 (31 ∷ 160 ∷ []))
+    ∷ aCommit 7 1 0 (load 2 (31 ∷ 160 ∷ []))
+    ∷ aCommit 8 1 2 (store 2 (49 ∷ 50 ∷ []))
+    ∷ aCommit 10 1 0 (load 2 (49 ∷ 50 ∷ []))
+    ∷ []
+
 -- a list answers so, and has these commits
 pub record Commits (xs : List Exchange) (cs : List (Commit Bytes)) : Type 0 where
   pub replies : map (λ (r : Record). r .reply) (run (map entryOf xs) 1 (freshMachine small) .records) ≡ map replyOf xs
   pub committed : commitsOf small (map entryOf xs) ≡ cs
 
 abbrev pub CommitsTheorem : Type 0
-CommitsTheorem = Commits exchanges committed × Commits givenUp givenUpCommits
+CommitsTheorem = Commits exchanges committed × Commits givenUp givenUpCommits × Commits inDigits inDigitsCommits

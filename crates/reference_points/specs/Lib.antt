@@ -3,6 +3,7 @@ pub mod Rows
 pub mod Points
 pub mod Steps
 pub mod Numbers
+pub mod Spelt
 pub mod Show
 pub mod Lines
 pub mod Records

@@ -3,6 +3,7 @@ use Prim.Native.Nat.{ℕ}
 use mathlib.Core.List.{List, [], _∷_, _++_}
 use lib.ListN.{replicate}
 use Rattle.protocol.specs.declared.Call.the-variants.{Load, Store, Fence, Evict, Drop, Writeback as WriteBack, Advance, Serve, Receive, Yield, Take}
+use Rattle.protocol.specs.declared.Given.the-variants.{Digits as AsDigits}
 use Rattle.spelling.specs.Text.{text}
 use Rattle.grammar.specs.{Table.rowsOf, Line.LineOf, declared.Line.{Line, the-variants.{Opening, Step, Refused}}}
 use Rattle.reference_points.specs.{Rows.Each, Numbers.opening}
@@ -21,7 +22,7 @@ Says (spoken form s a) = LineOf (rowsOf form) s a
 abbrev pub stepLines : ℕ → List Spoken
 stepLines form =
     spoken form (text "op=load core=3 line=4") (Step (Load 3 4) 21 21)
-    ∷ spoken form (text "op=store core=3 line=4 data=07ff") (Step (Store 3 4) 28 32)
+    ∷ spoken form (text "op=store core=3 line=4 data=07ff") (Step (Store AsDigits 3 4) 28 32)
     ∷ spoken form (text "op=fence core=3") (Step (Fence 3) 15 15)
     ∷ spoken form (text "op=serve core=3") (Step (Serve 3) 15 15)
     ∷ spoken form (text "op=receive core=3") (Step (Receive 3) 17 17)

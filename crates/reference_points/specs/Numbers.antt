@@ -7,6 +7,7 @@ use mathlib.Core.List.{List, [], _∷_, _++_, map}
 use lib.ListN.{drop, replicate}
 use Rattle.protocol.specs.{Stamps.stamp, Buffers.Bytes, Machine.{Machine, machine, freshMachine, Pieces}}
 use Rattle.protocol.specs.declared.Call.{Call, the-variants.{Load, Store, Fence, Evict, Drop, Writeback as WriteBack, Advance, Serve, Receive, Yield}}
+use Rattle.protocol.specs.declared.Given.the-variants.{Bytes as AsBytes}
 use Rattle.protocol.specs.declared.{Call.the-variants.Take, Opening.Opening}
 use Rattle.protocol.specs.declared.{Name.the-variants.Open, Copy.the-variants.None as NoCopy, State.State}
 use Rattle.protocol.specs.declared.{Want.the-variants.{Load as WantLoad, Store as WantStore}, Held.the-variants.{None as NothingHeld, Version}}
@@ -38,7 +39,7 @@ cause n p call = refusal n (usual p) call given
 
 -- a store of too few or too many bytes
 abbrev pub storeOf : ℕ → Pieces → ℕ → ℕ → Bytes → Refusal
-storeOf n p c l bs = refusal n (usual p) (Store c l) bs
+storeOf n p c l bs = refusal n (usual p) (Store AsBytes c l) bs
 
 -- nothing asked and no copy; a request under way, asked or answered, and no copy
 abbrev pub idle : Pieces
@@ -58,7 +59,7 @@ abbrev pub causes : List Refusal
 causes =
     -- 3 core ≥ cores. Cores 3 and 4 would be refused for their slots, copies and clocks too: with 20, 20, 26, 26, 26, 27, 21, 27, 22
     cause 3 idle (Load 3 0)
-    ∷ cause 3 idle (Store 3 0)
+    ∷ cause 3 idle (Store AsBytes 3 0)
     ∷ cause 3 idle (Fence 3)
     ∷ cause 3 idle (Evict 3 0)
     ∷ cause 3 idle (Drop 3 0)
@@ -68,10 +69,10 @@ causes =
     ∷ cause 3 idle (Serve 4)
     ∷ cause 3 idle (Receive 4)
     -- 3 and 27 of a store; 3 and 30; 3 and 4; 3 and 5; 3 and 6
-    ∷ cause 3 idle (Store 3 2)
+    ∷ cause 3 idle (Store AsBytes 3 2)
     ∷ cause 3 idle (Drop 3 2)
     ∷ cause 3 idle (Load 3 4)
-    ∷ cause 3 idle (Store 3 4)
+    ∷ cause 3 idle (Store AsBytes 3 4)
     ∷ cause 3 idle (Evict 3 4)
     ∷ cause 3 idle (Drop 3 4)
     ∷ cause 3 idle (WriteBack 3 4)
@@ -79,7 +80,7 @@ causes =
     ∷ cause 3 idle (Advance 3 0)
     -- 4 line ≥ lines. Lines 4 and 5 would be refused for what they hold too: with 20, 20, 26, 26, 26, 23, 24, 25
     ∷ cause 4 waiting (Load 1 5)
-    ∷ cause 4 waiting (Store 1 5)
+    ∷ cause 4 waiting (Store AsBytes 1 5)
     ∷ cause 4 idle (Evict 1 5)
     ∷ cause 4 idle (Drop 1 5)
     ∷ cause 4 idle (WriteBack 1 5)
@@ -87,7 +88,7 @@ causes =
     ∷ cause 4 idle (Yield 5)
     ∷ cause 4 idle (Take 4)
     -- 4 and 27 of a store; 4 and 30; 4 and 5
-    ∷ cause 4 idle (Store 1 4)
+    ∷ cause 4 idle (Store AsBytes 1 4)
     ∷ cause 4 idle (Drop 1 4)
     ∷ storeOf 4 idle 1 4 (counting 4 200)
     -- 5 store bytes not width in count; 5 and 20; 5 and 27
@@ -104,10 +105,10 @@ causes =
     ∷ cause 20 granted (Load 1 2)
     ∷ cause 20 (pieces (core 10 9 (asked WantStore 7 NothingHeld)) (sharedCopy 4 9) (sharedLine 4 9)) (Load 1 2)
     ∷ cause 20 (pieces (core 7 9 askedElsewhere) NoCopy (busy (ownedLine 1 NoRecall))) (Load 1 2)
-    ∷ cause 20 waiting (Store 1 2)
-    ∷ cause 20 granted (Store 1 2)
-    ∷ cause 20 (pieces (core 7 9 (asked WantLoad 7 NothingHeld)) (sharedCopy 4 9) (sharedLine 4 9)) (Store 1 2)
-    ∷ cause 20 (pieces (core 7 9 answeredElsewhere) (sharedCopy 4 greatest) (busy (ownedLine 1 NoRecall))) (Store 1 2)
+    ∷ cause 20 waiting (Store AsBytes 1 2)
+    ∷ cause 20 granted (Store AsBytes 1 2)
+    ∷ cause 20 (pieces (core 7 9 (asked WantLoad 7 NothingHeld)) (sharedCopy 4 9) (sharedLine 4 9)) (Store AsBytes 1 2)
+    ∷ cause 20 (pieces (core 7 9 answeredElsewhere) (sharedCopy 4 greatest) (busy (ownedLine 1 NoRecall))) (Store AsBytes 1 2)
     -- 21 serve, slot not asked
     ∷ cause 21 idle (Serve 1)
     ∷ cause 21 granted (Serve 1)
@@ -135,8 +136,8 @@ causes =
     ∷ cause 26 idle (WriteBack 1 2)
     ∷ cause 26 (pieces (core 7 9 Empty) NoCopy (busy (ownedLine 1 NoRecall))) (WriteBack 1 2)
     -- 27 rts + 1 (store to an owned line), lts + by (advance) or asked lts + lease (serve of a load on a shared line) passes 4,294,967,295
-    ∷ cause 27 full (Store 1 2)
-    ∷ cause 27 (pieces (core 7 9 askedElsewhere) (cleanCopy 6 greatest) (busy (ownedLine 1 NoRecall))) (Store 1 2)
+    ∷ cause 27 full (Store AsBytes 1 2)
+    ∷ cause 27 (pieces (core 7 9 askedElsewhere) (cleanCopy 6 greatest) (busy (ownedLine 1 NoRecall))) (Store AsBytes 1 2)
     ∷ cause 27 (pieces (core 7 9 Empty) NoCopy (sharedLine 4 9)) (Advance 1 4294967289)
     ∷ cause 27 (pieces (core 1 9 askedElsewhere) (sharedCopy 4 9) (sharedLine 4 9)) (Advance 1 greatest)
     ∷ cause 27 (pieces (core 7 9 (asked WantLoad 4294967286 NothingHeld)) NoCopy (sharedLine 4 greatest)) (Serve 1)

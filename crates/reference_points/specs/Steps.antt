@@ -8,6 +8,7 @@ use Rattle.protocol.specs.declared.Held.{Held, the-variants.{None as NothingHel
 use Rattle.protocol.specs.declared.{Grant.the-variants.{Share as GrantShare, Renew as GrantRenew, Own as GrantOwn}, Slot.{Slot, the-variants.{Empty, Answered}}}
 use Rattle.protocol.specs.declared.{Recall.{Recall, the-variants.{None as NoRecall, Downgrade, Flush}}, ManagerLine.ManagerLine, State.State}
 use Rattle.protocol.specs.declared.Call.{Call, the-variants.{Load, Store, Fence, Evict, Drop, Writeback as WriteBack, Advance, Serve, Receive, Yield, Take}}
+use Rattle.protocol.specs.declared.Given.the-variants.{Bytes as AsBytes}
 use Rattle.protocol.specs.declared.Name.{Name}
 use Rattle.protocol.specs.declared.Name.the-variants.{Ask as ask, Recall as recall, Share as share, Renew as renew, Own as own, Drop as dropped, Evict as evict}
 use Rattle.protocol.specs.declared.Name.the-variants.{Writeback as writeback, Advance as advance, Yield as yield, Take as taken}
@@ -42,11 +43,11 @@ askRows =
     asking 12 (Load 1 2) WantLoad NoCopy NothingHeld (sharedLine 4 9)
     ∷ asking 12 (Load 1 2) WantLoad NoCopy NothingHeld (busy (ownedLine 1 NoRecall))
     ∷ asking 12 (Load 1 2) WantLoad (sharedCopy 4 11) (Version (stamp 4)) (busy (ownedLine 0 NoRecall))
-    ∷ asking 12 (Store 1 2) WantStore NoCopy NothingHeld (sharedLine 4 9)
-    ∷ asking 12 (Store 1 2) WantStore NoCopy NothingHeld (busy (ownedLine 1 NoRecall))
-    ∷ asking 12 (Store 1 2) WantStore (sharedCopy 4 20) (Version (stamp 4)) (busy (sharedLine 4 20))
+    ∷ asking 12 (Store AsBytes 1 2) WantStore NoCopy NothingHeld (sharedLine 4 9)
+    ∷ asking 12 (Store AsBytes 1 2) WantStore NoCopy NothingHeld (busy (ownedLine 1 NoRecall))
+    ∷ asking 12 (Store AsBytes 1 2) WantStore (sharedCopy 4 20) (Version (stamp 4)) (busy (sharedLine 4 20))
     -- 27 speaks of an owned line
-    ∷ asking 12 (Store 1 2) WantStore (sharedCopy 4 greatest) (Version (stamp 4)) (sharedLine 4 greatest)
+    ∷ asking 12 (Store AsBytes 1 2) WantStore (sharedCopy 4 greatest) (Version (stamp 4)) (sharedLine 4 greatest)
     ∷ []
 
 -- a load that commits: sts, the slot and the manager's line, which stay; lts and the copy before it, its ts, and the copy after it
@@ -76,7 +77,7 @@ loadRows =
 -- a store that commits: the slot and the manager's line, which stay; lts, sts and the copy before it, and its ts
 abbrev pub storing : Slot → ManagerLine → ℕ → ℕ → Copy → ℕ → Row
 storing s m lts sts x ts =
-    row 10 (pieces (core lts sts s) x m) (Store 1 2) (commit 1 (stamp ts) (store 2 given)) (pieces (core lts ts s) (dirtyCopy ts ts) m)
+    row 10 (pieces (core lts sts s) x m) (Store AsBytes 1 2) (commit 1 (stamp ts) (store 2 given)) (pieces (core lts ts s) (dirtyCopy ts ts) m)
     (places given managerBytes writebackBytes answerBytes)
 
 abbrev pub storeRows : List Row

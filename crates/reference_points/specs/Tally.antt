@@ -4,6 +4,7 @@ use mathlib.Core.{Path._≡_, List.{List, [], _∷_, _++_}}
 use lib.ListN.{replicate}
 use Rattle.protocol.specs.{Stamps.stamp, Run.{Record, place}, Step.{load, store, fence, Reply, refused, done, commit}, Counts.{classOf, tally}}
 use Rattle.protocol.specs.declared.Call.{Call, the-variants.{Load, Store, Fence, Evict, Drop, Writeback as WriteBack, Advance, Serve, Receive, Yield, Take}}
+use Rattle.protocol.specs.declared.Given.the-variants.{Bytes as AsBytes}
 use Rattle.protocol.specs.declared.Name.the-variants.{Ask, Recall, Share, Renew, Own, Drop as Dropped, Evict as Evicted, Advance as Advanced}
 use Rattle.protocol.specs.declared.Name.the-variants.{Writeback as WrittenBack, Yield as Yielded, Take as Taken}
 use Rattle.protocol.specs.declared.Class.{Class, the-variants.{Load as ALoad, Store as AStore, Fence as AFence, Ask as AnAsk, Share as AShare, Renew as ARenew}}
@@ -28,10 +29,10 @@ expected (counts call r k) = k
 abbrev pub classes : List Counted
 classes =
     counts (Load 0 0) (commit 0 (stamp 3) (load 0 (7 ∷ []))) ALoad
-    ∷ counts (Store 0 0) (commit 0 (stamp 3) (store 0 (7 ∷ []))) AStore
+    ∷ counts (Store AsBytes 0 0) (commit 0 (stamp 3) (store 0 (7 ∷ []))) AStore
     ∷ counts (Fence 0) (commit 0 (stamp 3) fence) AFence
     ∷ counts (Load 0 0) (done Ask) AnAsk
-    ∷ counts (Store 0 0) (done Ask) AnAsk
+    ∷ counts (Store AsBytes 0 0) (done Ask) AnAsk
     ∷ counts (Serve 0) (done Share) AShare
     ∷ counts (Serve 0) (done Renew) ARenew
     ∷ counts (Serve 0) (done Own) AnOwn
@@ -59,7 +60,7 @@ times n call r = replicate n (record { place = place 1; entry = record { call = 
 abbrev pub traffic : List Record
 traffic =
     times 8 (Load 0 0) (commit 0 (stamp 3) (load 0 (7 ∷ [])))
-    ++ times 7 (Store 0 0) (commit 0 (stamp 3) (store 0 (7 ∷ [])))
+    ++ times 7 (Store AsBytes 0 0) (commit 0 (stamp 3) (store 0 (7 ∷ [])))
     ++ times 6 (Fence 0) (commit 0 (stamp 3) fence)
     ++ times 10 (Load 0 0) (done Ask)
     ++ times 4 (Serve 0) (done Share)

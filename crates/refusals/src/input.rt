@@ -1,14 +1,15 @@
-// The refusals because of the input: 1 and 2, which look over the state and the buffers, and 3 to 6,
-// which look at what the call names.
+// The refusals because of the input: 13, which looks at the digits given to a store, 1 and 2, which look
+// over the state and the buffers, and 3 to 6, which look at what the call names.
 ghost use mathlib.Core.{Path._≡_, Bool.true};
 ghost use Prim.Native.Nat.{_≤_};
 ghost use Rattle.protocol.specs.Limits.{mostCores, mostLines, openingFits};
 ghost use Rattle.protocol.specs.Refusals.{ownerFits, slotFits, ownersFit, slotsFit, stateFits, buffersFit, machineRefusal, noCore, noLine};
-ghost use Rattle.protocol.specs.Refusals.{wrongCount, byNothing, callRefusal};
+ghost use Rattle.protocol.specs.Refusals.{givenRefusal, wrongCount, byNothing, callRefusal};
 ghost use Rattle.refusals.specs.Input.{machineWith, inputRefusal, lengthsFit};
 use protocol::Act;
 use protocol::Call;
 use protocol::Core;
+use protocol::Given;
 use protocol::Manager;
 use protocol::ManagerLine;
 use protocol::Opening;
@@ -161,7 +162,7 @@ fn wrong_count(act: Act, opening: Opening, count: usize) -> bool
 {
     match act {
         Act::Load => false,
-        Act::Store => count != opening.width,
+        Act::Store(_) => count != opening.width,
         Act::Fence => false,
         Act::Advance(_) => false,
         Act::Transfer => false,
@@ -174,7 +175,7 @@ fn by_nothing(act: Act) -> bool
 {
     match act {
         Act::Load => false,
-        Act::Store => false,
+        Act::Store(_) => false,
         Act::Fence => false,
         Act::Advance(by) => by == 0,
         Act::Transfer => false,
@@ -204,7 +205,22 @@ pub fn call_refusal(call: Call, opening: Opening, count: usize) -> u8
     0
 }
 
-// The first of 1 to 6 that applies, or 0 where none does; count is that of a store's bytes.
+// 13 where a store is given digits that are wrong, or 0.
+fn given_refusal(read: Given, given: &[u8]) -> u8
+    ensures { λ r. ⌜ r ≡ givenRefusal read (now (given .entry)) ⌝ }
+{
+    match read {
+        Given::Bytes => 0,
+        Given::Digits => {
+            if spelling::is_data(given) {
+                return 0;
+            }
+            13
+        }
+    }
+}
+
+// The first of 13 and 1 to 6 that applies, or 0 where none does; `given` is what is given to a store.
 pub fn input_refusal(
     call: Call,
     opening: Opening,
@@ -212,13 +228,20 @@ pub fn input_refusal(
     line: [ManagerLine; Opening::MOST_LINES],
     private: usize,
     shared: usize,
-    count: usize,
+    given: &[u8],
 ) -> u8
-    ensures { λ r. ⌜ r ≡ inputRefusal (machineWith opening core line «private» shared) call count ⌝ }
+    ensures { λ r. ⌜ r ≡ inputRefusal (machineWith opening core line «private» shared) call (now (given .entry)) ⌝ }
 {
+    let about = call.about();
+    let act = about.act;
+    let read = act.given();
+    let wrong = given_refusal(read, given);
+    if wrong != 0 {
+        return wrong;
+    }
     let n = machine_refusal(opening, core, line, private, shared);
     if n != 0 {
         return n;
     }
-    call_refusal(call, opening, count)
+    call_refusal(call, opening, read.count(given.len()))
 }

@@ -1,4 +1,4 @@
-// The refusals because of the input as code, 1 to 6, and what a refused call makes of its pieces. A row
+// The refusals because of the input as code, 13 and 1 to 6, and what a refused call makes of its pieces. A row
 // decides 20 and up itself.
 //
 // The first number that applies, or 0 where none does, for any values at all; and whether 1 or 2 applies

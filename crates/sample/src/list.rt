@@ -8,6 +8,7 @@
 use super::print;
 use engine::Returned;
 use protocol::Call;
+use protocol::Given;
 use protocol::Opening;
 use protocol::State;
 
@@ -15,7 +16,11 @@ use protocol::State;
 fn call_of(kind: u8, core: usize, line: usize, by: u32) -> Call {
     match kind {
         b'L' => Call::Load { core, line },
-        b'S' | b's' => Call::Store { core, line },
+        b'S' | b's' => Call::Store {
+            given: Given::Bytes,
+            core,
+            line,
+        },
         b'F' => Call::Fence { core },
         b'E' => Call::Evict { core, line },
         b'D' => Call::Drop { core, line },

@@ -2,6 +2,7 @@
 use engine::Returned;
 use libc::STDOUT_FILENO;
 use protocol::Answer;
+use protocol::Given;
 use protocol::Place;
 use spelling::Put;
 
@@ -20,7 +21,7 @@ fn write(out: &[u8], put: Put) {
 // Prints the record of an answer, the n-th, with the bytes of its commit.
 pub(crate) fn record(n: u64, answer: Answer, bytes: &[u8]) {
     let mut out = [0u8; 256];
-    let record = listing::put_record(&mut out, 0, Place(n), answer, bytes);
+    let record = listing::put_record(&mut out, 0, Place(n), answer, Given::Bytes, bytes);
     write(&out, record);
 }
 
@@ -31,7 +32,7 @@ fn print_shown(core: usize, line: usize, bytes: &[u8]) {
     io::write_all(STDOUT_FILENO, b" line=");
     io::print_decimal(STDOUT_FILENO, line as u64);
     let mut out = [0u8; 256];
-    let data = listing::put_with_data(&mut out, 0, b" data=", bytes);
+    let data = listing::put_with_data(&mut out, 0, b" data=", Given::Bytes, bytes);
     write(&out, data);
 }
 

@@ -4,8 +4,8 @@ use mathlib.Core.{Path.{_≡_, refl, _∙_, ap, ap₂}, List.{List, [], _∷_}, 
 use native.Mathlib.Omega.{arith}
 use lib.{Dec.{leb, eqb}, ListN.length}
 use borrow.Author.Tests.{leb-true, leb-false, eqb-true, eqb-false}
-use Rattle.spelling.specs.{Bytes.{All, Byte}, Decimal.{decimal, greatest, IsNumber}, Hex.{hex, IsData}}
-use Rattle.spelling.proofs.{Lists.by-test, DecimalLaws.{value, value-decimal}, HexLaws.{unhex, data-spelt}}
+use Rattle.spelling.specs.{Bytes.{All, Byte}, Decimal.{decimal, greatest, IsNumber}, Hex.{hex, unhex, IsData}}
+use Rattle.spelling.proofs.{Lists.by-test, DecimalLaws.{value, value-decimal}, HexLaws.data-spelt}
 
 -- P holds, or it does not
 abbrev pub Told : Type 0 → Type 0

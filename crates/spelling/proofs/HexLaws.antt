@@ -1,29 +1,42 @@
 -- Laws of the hex spelling. Assumes nothing.
-use Prim.Native.Nat.{ℕ, zero, suc, _+_, _*_, _/_, _%_, _<_, _-_}
+use Prim.Native.Nat.{ℕ, zero, suc, _+_, _*_, _/_, _%_, _≤_, _<_, _-_}
 use mathlib.Core.{Path.{_≡_, refl, sym, _∙_, ap}, List.{List, [], _∷_}, Logic.{_⊎_, inl, inr, ⊎-elim}}
 use native.Mathlib.Omega.{arith}
 use lib.ListN.{length, getD}
 use borrow.Author.Tests.{lt-ltb, le-ltb}
-use Rattle.spelling.specs.{Bytes.{All, Byte}, Hex.{digit, nibble, hex, Spells, IsData, HexDigit}}
+use Rattle.spelling.specs.{Bytes.{All, Byte}, Hex.{digit, nibble, hex, unhex, Spells, IsData, HexDigit}}
 use Rattle.spelling.proofs.Lists.{le-or-lt, all-at}
 
-nibble-below : (b : ℕ) → HexDigit b → nibble b < 16
-nibble-below b (inl h) = rw (lt-ltb b 58 (omega arith)) (omega arith)
-nibble-below b (inr h) = rw (le-ltb b 58 (omega arith)) (omega arith)
+nibble-below : (b : ℕ) → nibble b < 16
+nibble-below b = omega arith
+
+-- of the codes of 0 to 9, and of a to f
+nibble-low : (b : ℕ) → 48 ≤ b → b ≤ 57 → nibble b ≡ b - 48
+nibble-low b h k =
+    let q : b / 64 ≡ 0 = omega arith in
+    let r : b % 16 ≡ b - 48 = omega arith in
+    rw (q, r) (omega arith)
+
+nibble-high : (b : ℕ) → 97 ≤ b → b ≤ 102 → nibble b ≡ b - 87
+nibble-high b h k =
+    let q : b / 64 ≡ 1 = omega arith in
+    let r : b % 16 ≡ b - 96 = omega arith in
+    rw (q, r) (omega arith)
 
 digit-nibble : (b : ℕ) → HexDigit b → digit (nibble b) ≡ b
-digit-nibble b (inl h) = rw (lt-ltb b 58 (omega arith), lt-ltb (b - 48) 10 (omega arith)) (omega arith)
-digit-nibble b (inr h) = rw (le-ltb b 58 (omega arith), le-ltb (b - 87) 10 (omega arith)) (omega arith)
+digit-nibble b (inl h) = rw (nibble-low b (h .0) (h .1), lt-ltb (b - 48) 10 (omega arith)) (omega arith)
+digit-nibble b (inr h) = rw (nibble-high b (h .0) (h .1), le-ltb (b - 87) 10 (omega arith)) (omega arith)
 
 digit-is : (d : ℕ) → d < 16 → HexDigit (digit d)
 digit-is d h =
     ⊎-elim (λ k. rw (le-ltb d 10 k) (inr (omega arith, omega arith))) (λ k. rw (lt-ltb d 10 k) (inl (omega arith, omega arith))) (le-or-lt 10 d)
 
--- the bytes that a list of digits stands for
-unfoldable pub unhex : List ℕ → List ℕ
-unhex [] = []
-unhex (a ∷ []) = []
-unhex (a ∷ (b ∷ r)) = (nibble a * 16 + nibble b) ∷ unhex r
+-- half as many bytes as digits
+pub unhex-length : (v : List ℕ) → length (unhex v) ≡ length v / 2
+unfolding unhex
+unhex-length [] = refl
+unhex-length (x ∷ []) = refl
+unhex-length (x ∷ (y ∷ r)) = omega (arith, unhex-length r)
 
 unhex-spells : (v : List ℕ) → All HexDigit v → length v % 2 ≡ 0 → (All Byte (unhex v)) × (v ≡ hex (unhex v)) × (length v ≡ 2 * length (unhex v))
 unfolding unhex hex
@@ -31,8 +44,8 @@ unhex-spells [] a e = (tt, refl, refl)
 unhex-spells (x ∷ []) a e = absurd (omega arith)
 unhex-spells (x ∷ (y ∷ r)) a e =
     let ih = unhex-spells r (a .1 .1) (omega arith) in
-    let hx : nibble x < 16 = nibble-below x (a .0) in
-    let hy : nibble y < 16 = nibble-below y (a .1 .0) in
+    let hx : nibble x < 16 = nibble-below x in
+    let hy : nibble y < 16 = nibble-below y in
     let q : (nibble x * 16 + nibble y) / 16 ≡ nibble x = omega arith in
     let m : (nibble x * 16 + nibble y) % 16 ≡ nibble y = omega arith in
     ((omega arith, ih .0), rw (q, m, digit-nibble x (a .0), digit-nibble y (a .1 .0)) (ap (λ (l : List ℕ). x ∷ (y ∷ l)) (ih .1)), omega (arith, ih .2))
@@ -84,7 +97,8 @@ spells-at v bs i s h = rw (s .same) (all-at HexDigit (hex bs) (hex-digits bs (s 
 
 nibble-digit : (d : ℕ) → d < 16 → nibble (digit d) ≡ d
 nibble-digit d h =
-    ⊎-elim (λ k. rw (le-ltb d 10 k, le-ltb (87 + d) 58 (omega arith)) (omega arith)) (λ k. rw (lt-ltb d 10 k, lt-ltb (48 + d) 58 (omega arith)) (omega arith)) (le-or-lt 10 d)
+    ⊎-elim (λ k. rw (le-ltb d 10 k) (nibble-high (87 + d) (omega arith) (omega arith) ∙ omega arith))
+    (λ k. rw (lt-ltb d 10 k) (nibble-low (48 + d) (omega arith) (omega arith) ∙ omega arith)) (le-or-lt 10 d)
 
 -- what is printed of bytes stands for those bytes
 pub unhex-hex : (bs : List ℕ) → All Byte bs → unhex (hex bs) ≡ bs

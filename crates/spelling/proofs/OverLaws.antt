@@ -5,10 +5,10 @@ use native.Mathlib.{Omega.arith, Nat.add-zero, Numerals.add-one}
 use lib.ListN.{length, getD, take, drop, set, length-append, length-take, length-drop, take-append-drop}
 use lib.{Seq.{set-split, take-at, drop-at, take-length, length-take-le, take-append-le, drop-append-le, drop-append-seam, paste, paste-suc, drop-drop}, Dec.leb}
 use Rattle.spelling.specs.{Over.{hasRoom, over, twentyBefore, PutAt, PutBefore}, Decimal.decimal, declared.Put.{Put, the-variants.{End, Short}}}
-use Rattle.spelling.specs.Hex.{hex, digit, nibble}
+use Rattle.spelling.specs.Hex.{hex, unhex, digit, nibble}
 use borrow.Author.Tests.{le-leb, lt-leb, leb-true, leb-false, not-true, not-false}
 use Rattle.spelling.proofs.DecimalLaws.{widest, decimal-step, decimal-digit, decimal-nonempty, decimal-short}
-use Rattle.spelling.proofs.HexLaws.{unhex, unhex-at, hex-at, hex-length}
+use Rattle.spelling.proofs.HexLaws.{unhex-at, hex-at, hex-length}
 
 pub over-none : (old : List ℕ) (at : ℕ) → old ≡ over old at []
 over-none old at = sym (take-append-drop at old) ∙ ap (λ (k : ℕ). take at old ++ drop k old) (sym (add-zero at))
@@ -71,11 +71,9 @@ hex-more old at bs i r h =
     rw (← d .0, ← d .1, e, m, paste-suc old at (hex bs) (2 * i) 0 (omega arith) (omega arith), ← add-one (2 * i)) (paste-suc old at (hex bs) (2 * i + 1) 0 (omega arith) (omega arith))
 
 -- the byte of two digits more
-pub data-more : (s old : List ℕ) (i : ℕ) → i < length old → i < length (unhex s) → 2 * i + 1 < length s
-    → set (paste old 0 (unhex s) i) i (nibble (getD s (2 * i) 0) * 16 + nibble (getD s (2 * i + 1) 0)) ≡ paste old 0 (unhex s) (i + 1)
-data-more s old i h k l =
-    let z : 0 + i ≡ i = omega arith in
-    rw (← unhex-at s i l, add-one) (subst (λ (j : ℕ). set (paste old 0 (unhex s) i) j (getD (unhex s) i 0) ≡ paste old 0 (unhex s) (suc i)) z (paste-suc old 0 (unhex s) i 0 (omega arith) k))
+pub unhex-more : (old : List ℕ) (at : ℕ) (v : List ℕ) (i : ℕ) → at + length (unhex v) ≤ length old → i < length (unhex v) → 2 * i + 1 < length v
+    → set (paste old at (unhex v) i) (at + i) (nibble (getD v (2 * i) 0) * 16 + nibble (getD v (2 * i + 1) 0)) ≡ paste old at (unhex v) (i + 1)
+unhex-more old at v i r h l = rw (← unhex-at v i l, add-one) (paste-suc old at (unhex v) i 0 (omega arith) (omega arith))
 
 -- one text after another
 pub over-append : (old : List ℕ) (at : ℕ) (t u : List ℕ) → at + length (t ++ u) ≤ length old → over (over old at t) (at + length t) u ≡ over old at (t ++ u)

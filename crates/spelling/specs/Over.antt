@@ -1,8 +1,8 @@
 -- Bytes laid over a part of a buffer that a caller lent: a text, or a line's bytes. Assumes nothing.
-use Prim.Native.Nat.{ℕ, _+_, _-_, _≤_, _<_}
+use Prim.Native.Nat.{ℕ, _+_, _-_}
 use mathlib.Core.{Path._≡_, Bool.{Bool, false, cond}, List.{List, _++_}}
 use lib.{Dec.leb, ListN.{length, take, drop}}
-use Rattle.spelling.specs.{Hex.{Spells, IsData}, declared.{Put.{Put, the-variants.{End, Short}}, Decoded.{Decoded, the-variants.{Bytes, Wrong, NoRoom}}}}
+use Rattle.spelling.specs.declared.Put.{Put, the-variants.{End, Short}}
 
 -- whether n bytes fit at an offset of a buffer of this size
 abbrev pub hasRoom : ℕ → ℕ → ℕ → Bool
@@ -27,9 +27,3 @@ twentyBefore size end = cond (leb 20 end) (leb end size) false
 pub record PutBefore (old : List ℕ) (end : ℕ) (t new : List ℕ) (r : ℕ) : Type 0 where
   pub answer : r ≡ cond (twentyBefore (length old) end) (end - length t) end
   pub bytes : new ≡ cond (twentyBefore (length old) end) (over old (end - length t) t) old
-
--- what decoding the digits s into a buffer does: their bytes are at its start, or it is as it was
-pub data DecodedOf (s old new : List ℕ) : Decoded → Type 0 where
-  decoded : (bs : List ℕ) → Spells s bs → length bs ≤ length old → new ≡ over old 0 bs → DecodedOf s old new (Bytes (length bs))
-  noRoom : (bs : List ℕ) → Spells s bs → length old < length bs → new ≡ old → DecodedOf s old new NoRoom
-  noData : (IsData s → ⊥) → new ≡ old → DecodedOf s old new Wrong

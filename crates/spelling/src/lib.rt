@@ -5,8 +5,8 @@
 ghost use mathlib.Core.Path.{_≡_};
 ghost use Prim.Native.Nat.{_+_, _≤_, _<_};
 ghost use lib.ListN.{length, getD, drop};
-ghost use Rattle.spelling.specs.{Bytes.{upTo, Test, Below}, Decimal.{decimal, NumberOf}, Hex.{digit, nibble, hex, DataTest, HexDigit, HexTest}};
-ghost use Rattle.spelling.specs.Over.{hasRoom, PutAt, PutBefore, DecodedOf};
+ghost use Rattle.spelling.specs.{Bytes.{upTo, Test, Below}, Decimal.{decimal, NumberOf}, Hex.{digit, nibble, hex, unhex, DataTest, HexTest}};
+ghost use Rattle.spelling.specs.Over.{hasRoom, PutAt, PutBefore};
 
 // Whether none of the eight bytes from `at` on is `stop`. Every byte is looked at, so that they can be compared at once.
 fn is_clear(s: &[u8], at: usize, stop: u8) -> bool
@@ -216,38 +216,28 @@ pub fn put_hex(out: &mut [u8], at: usize, bytes: &[u8]) -> Put
     Put::End(p)
 }
 
-// What decoding data answers: how many bytes they spell, that the buffer is too short for them, or that they are no data, the
-// scope's refusal 13.
-pub enum Decoded {
-    Bytes(usize),
-    NoRoom,
-    Wrong,
-}
-
-// The number that a hex digit stands for.
+// The number that a hex digit stands for; of any other byte, some number below 16.
 fn nibble(b: u8) -> u8
-    requires { ⌜ HexDigit b ⌝ }
-    ensures { λ r. ⌜ (r ≡ nibble b) × (r < 16) ⌝ }
+    ensures { λ r. ⌜ r ≡ nibble b ⌝ }
 {
-    if b < 58 { b - b'0' } else { b - 87 }
+    (b % 16 + 9 * (b / 64)) % 16
 }
 
-// The bytes that data spell, to the start of a lent buffer. Where they do not fit, or there are none, it is left as it was.
-pub fn decode(out: &mut [u8], s: &[u8]) -> Decoded
-    ensures { λ r. ⌜ DecodedOf (now (s .entry)) (now (out .entry)) (now (out .exit)) r ⌝ }
+// The bytes that digits spell, two digits a byte, into a lent buffer at an offset. Where they do not fit, the buffer is left as it
+// was. Whether they are digits is not looked at: `is_data` does that.
+pub fn put_unhex(out: &mut [u8], at: usize, digits: &[u8]) -> Put
+    ensures { λ r. ⌜ PutAt (now (out .entry)) at (unhex (now (digits .entry))) (now (out .exit)) r ⌝ }
 {
-    if !is_data(s) {
-        return Decoded::Wrong;
-    }
-    if out.len() < s.len() / 2 {
-        return Decoded::NoRoom;
+    let n = digits.len() / 2;
+    if !has_room(out.len(), at, n) {
+        return Put::Short;
     }
     let mut i: usize = 0;
-    while i < s.len() / 2 {
-        let high = nibble(s[2 * i]);
-        let low = nibble(s[2 * i + 1]);
-        out[i] = high * 16 + low;
+    while i < n {
+        let high = nibble(digits[2 * i]);
+        let low = nibble(digits[2 * i + 1]);
+        out[at + i] = high * 16 + low;
         i += 1;
     }
-    Decoded::Bytes(i)
+    Put::End(at + i)
 }

@@ -1,18 +1,18 @@
 -- One call: what `step` is, by the effect on the pieces of the core and the line that the call is about; that the effect's move fits; and that
 -- the bytes of a commit lie where `spanOf` says.
 use Prim.Native.Nat.{ℕ, _+_, _*_, _≤_}
-use mathlib.Core.{Path.{_≡_, refl, sym}, Bool.{Bool, true, false}}
+use mathlib.Core.{Path.{_≡_, refl, sym, _∙_, ap}, Bool.{Bool, true, false}}
 use lib.{Dec.eqb, ListN.length, Seq.set-getD}
 use borrow.Author.Tests.{lt-ltb, eq-eqb, ne-eqb}
 use Rattle.protocol.specs.{Pick.pick, Fresh.{freshCore, freshCell, freshLine}}
 use Rattle.protocol.specs.Buffers.{Bytes, part, copyStart, copyBytes, There, givenFits, movedPrivate, movedShared}
-use Rattle.protocol.specs.Machine.{Machine, machine, coreAt, copyAt, lineAt, Pieces, piecesAt, coreOf, lineOf, applied}
-use Rattle.protocol.specs.Refusals.{wrongCount, buffersFit, machineRefusal, callRefusal, stateRefusal, refusal, orElse}
+use Rattle.protocol.specs.{Given.{givenAs, bytesGiven}, Machine.{Machine, coreAt, copyAt, lineAt, Pieces, coreOf, lineOf, applied}}
+use Rattle.protocol.specs.Refusals.{givenRefusal, wrongCount, buffersFit, machineRefusal, callRefusal, stateRefusal, refusal, orElse}
 use Rattle.protocol.specs.Step.{refused, meaning, Outcome, commitBytes, accepted, step}
 use Rattle.protocol.specs.{declared.{Opening.Opening, Call.Call, Effect.Effect, Answer.the-variants.Refused, Move.the-variants.Still}, About.about}
-use Rattle.protocol.specs.Tables.{row, loadOwned, storeTable, fenceTable, advanceTable, evictTable, serveLoad, serveAsked, receiveRenew, receiveGrant}
+use Rattle.protocol.specs.Tables.{row, refusedRow, loadOwned, storeTable, fenceTable, advanceTable, evictTable, serveLoad, serveAsked, receiveRenew, receiveGrant}
 use Rattle.protocol.specs.Tables.{yieldTable, takeTable, effectOf}
-use Rattle.protocol.proofs.{Extents.copy-ends, Refusals.{or-none, Fit, named, store-width, call-there}}
+use Rattle.protocol.proofs.{Extents.copy-ends, Refusals.{Fit, named, store-width, call-there}}
 use Rattle.protocol.proofs.Cases.{Row, asks-load, reads-shared, reads-dirty, reads-clean, asks-store, writes, fences, advances, evicts-shared, evicts-owned}
 use Rattle.protocol.proofs.Cases.{recalls, renews, shares, grants, gets-share, gets-own, gets-renewal, drops-none, drops-owned, yields, takes, piecesOf}
 use Rattle.protocol.proofs.Cases.{effect-case}
@@ -23,20 +23,26 @@ use Rattle.tables.specs.Spans.{spanOf}
 
 -- ---- step
 
--- a call that one of 1 to 6 refuses
-pub step-refused : (m : Machine) (call : Call) (given : Bytes) → (inputRefusal m call (length given) ≡ 0 → ⊥) → step m call given ≡ record { reply = refused (inputRefusal m call (length given)); machine = m }
-unfolding step refusal
-step-refused m call given h = go (machineRefusal m) (callRefusal call (m .state .opening) (length given)) _ _ h
+-- of three numbers the first that applies, however they are put together
+or-assoc : (a b d : ℕ) → orElse a (orElse b d) ≡ orElse (orElse a b) d
+or-assoc a b d = by (eqb a 0) refl
   where
-    go : (a b d : ℕ) (x : Outcome) → (orElse a b ≡ 0 → ⊥) → pick (eqb (orElse a (orElse b d)) 0) x (record { reply = refused (orElse a (orElse b d)); machine = m }) ≡ record { reply = refused (orElse a b); machine = m }
-    go a b d x h = rw (same a b d h, ne-eqb (orElse a b) 0 h)
-      where
-        same : (a b d : ℕ) → (orElse a b ≡ 0 → ⊥) → orElse a (orElse b d) ≡ orElse a b
-        same a b d h = by (eqb a 0) refl
-          where
-            by : (t : Bool) → eqb a 0 ≡ t → orElse a (orElse b d) ≡ orElse a b
-            by true e = rw (e, ne-eqb b 0 (λ z. h (rw e z)))
-            by false e = rw e
+    by : (t : Bool) → eqb a 0 ≡ t → orElse a (orElse b d) ≡ orElse (orElse a b) d
+    by true e = rw e
+    by false e = rw (e, e)
+
+-- 13 and 1 to 6, then 20 and up
+input-first : (m : Machine) (call : Call) (given : Bytes)
+    → refusal m call given ≡ orElse (inputRefusal m call given) (stateRefusal call (piecesOf call (m .state)) (m .state .opening))
+unfolding refusal
+input-first m call given =
+    ap (orElse (givenRefusal (givenAs (about call .act)) given)) (or-assoc (machineRefusal m) (callRefusal call (m .state .opening) (length (bytesGiven call given))) _)
+    ∙ or-assoc (givenRefusal (givenAs (about call .act)) given) _ _
+
+-- a call that 13 or one of 1 to 6 refuses
+pub step-refused : (m : Machine) (call : Call) (given : Bytes) → (inputRefusal m call given ≡ 0 → ⊥) → step m call given ≡ record { reply = refused (inputRefusal m call given); machine = m }
+unfolding step
+step-refused m call given h = let z = ne-eqb (inputRefusal m call given) 0 h in rw (input-first m call given, z, z)
 
 -- the row of a table's refusal leaves the machine as it is
 pub row-refused : (m : Machine) (call : Call) (given : Bytes) (c l n : ℕ) → accepted m call given c l (row (Refused n) Still (coreAt (m .state) c) (copyAt (m .state) c l) (lineAt (m .state) l)) ≡ record { reply = refused n; machine = m }
@@ -44,16 +50,17 @@ unfolding accepted applied meaning movedPrivate movedShared
 row-refused m call given c l n =
     rw (set-getD (m .state .core) c freshCore, set-getD (m .state .cell) (c * 64 + l) freshCell, set-getD (m .state .line) l freshLine)
 
--- a call that none of 1 to 6 refuses: the effect of its table, a refusal of 20 and up among them
-pub step-accepted : (m : Machine) (call : Call) (given : Bytes) → inputRefusal m call (length given) ≡ 0 → step m call given ≡ accepted m call given (coreOf call (m .state)) (lineOf call (m .state)) (effectOf call (piecesAt (m .state) (coreOf call (m .state)) (lineOf call (m .state))) (m .state .opening))
-unfolding step refusal effectOf
-step-accepted m call given e =
-    let z = or-none (machineRefusal m) _ e in
-    rw (z .0, z .1) (alike (eqb (stateRefusal call (piecesAt (m .state) (coreOf call (m .state)) (lineOf call (m .state))) (m .state .opening)) 0) _ _)
+-- a call that neither 13 nor one of 1 to 6 refuses: the effect of its table, a refusal of 20 and up among them
+pub step-accepted : (m : Machine) (call : Call) (given : Bytes) → inputRefusal m call given ≡ 0
+    → step m call given ≡ accepted m call (bytesGiven call given) (coreOf call (m .state)) (lineOf call (m .state)) (effectOf call (piecesOf call (m .state)) (m .state .opening))
+unfolding step effectOf
+step-accepted m call given e = rw (input-first m call given, e) (alike (eqb (stateRefusal call (piecesOf call (m .state)) (m .state .opening)) 0) _ _)
   where
-    alike : (t : Bool) (d : Effect) (n : ℕ) → pick t (accepted m call given (coreOf call (m .state)) (lineOf call (m .state)) d) (record { reply = refused n; machine = m }) ≡ accepted m call given (coreOf call (m .state)) (lineOf call (m .state)) (pick t d (row (Refused n) Still (coreAt (m .state) (coreOf call (m .state))) (copyAt (m .state) (coreOf call (m .state)) (lineOf call (m .state))) (lineAt (m .state) (lineOf call (m .state)))))
+    alike : (t : Bool) (d : Effect) (n : ℕ)
+        → pick t (accepted m call (bytesGiven call given) (coreOf call (m .state)) (lineOf call (m .state)) d) (record { reply = refused n; machine = m })
+        ≡ accepted m call (bytesGiven call given) (coreOf call (m .state)) (lineOf call (m .state)) (pick t d (refusedRow n (piecesOf call (m .state))))
     alike true d n = refl
-    alike false d n = sym (row-refused m call given _ _ n)
+    alike false d n = sym (row-refused m call (bytesGiven call given) _ _ n)
 
 -- ---- the bytes beside an answer
 
@@ -75,8 +82,8 @@ module _ {o : Opening} {c l : ℕ} {given p q : Bytes} {k : Pieces} where
   row-sound n h (reads-dirty e) = record { fits = refl; bytes = refl }
   row-sound n h (reads-clean e) = record { fits = refl; bytes = refl }
   row-sound n h (asks-store e i) = record { fits = refl; bytes = refl }
-  row-sound n h (writes e i) =
-      let b = store-width o (length given) n in
+  row-sound n h (writes {g = g} e i) =
+      let b = store-width g o (length given) n in
       record { fits = eq-eqb _ _ b; bytes = rw (over-part p (copyStart o c l) given (rw b h) (o .width) b) }
   row-sound n h fences = record { fits = refl; bytes = refl }
   row-sound n h (advances e) = record { fits = refl; bytes = refl }

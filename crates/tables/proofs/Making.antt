@@ -1,4 +1,4 @@
--- One call made in place: whatever 1 to 6 say of it, the effect on the elements where the core and the line that it is about are found, written
+-- One call made in place: whatever 13 and 1 to 6 say of it, the effect on the elements where the core and the line that it is about are found, written
 -- back, with its bytes moved, is `step`. The engine's call and the driver's loop both go by it.
 use Prim.Native.Nat.{ℕ, _+_, _≤_, _<_}
 use mathlib.Core.{Path.{_≡_, refl, sym, _∙_, ap₂}, Bool.{Bool, true, false}, Logic.by-cases}
@@ -7,8 +7,8 @@ use native.Mathlib.{Omega.arith, Decide.ℕ-discrete}
 use borrow.Author.Tests.{le-leb, lt-ltb, ne-eqb}
 use Rattle.protocol.proofs.{Extents.{copy-ends, inside}, Refusals.{or-none, Fit, machine-fit, named, named-inside, call-there}}
 use Rattle.protocol.specs.{Pick.pick, Limits.{mostCores, mostLines}, Buffers.{Bytes, part, copyStart, copyBytes, There, movedPrivate, movedShared}}
-use Rattle.protocol.specs.{About.{about, namedLine}, Machine.{Machine, coreAt, lineAt, piecesAt, theCore, theLine, coreOf, lineOf}}
-use Rattle.protocol.specs.{Refusals.{machineRefusal, callRefusal}, Tables.{refusedRow, effectOf}, Step.{meaning, accepted, step}}
+use Rattle.protocol.specs.{About.{about, namedLine}, Given.{givenAs, bytesGiven}, Machine.{Machine, coreAt, lineAt, piecesAt, theCore, theLine, coreOf, lineOf}}
+use Rattle.protocol.specs.{Refusals.{givenRefusal, machineRefusal, callRefusal}, Tables.{refusedRow, effectOf}, Step.{meaning, accepted, step}}
 use Rattle.protocol.specs.declared.{Opening.Opening, Call.Call, Answer.{Answer, the-variants.{Refused, Done, Commit}}, Effect.Effect, Move.the-variants.Still}
 use Rattle.protocol.specs.declared.Kind.the-variants.{Load, Store, Fence}
 use Rattle.refusals.specs.Input.{inputRefusal}
@@ -50,18 +50,23 @@ same-either : {x y : Bytes} (t : Bool) → x ≡ pick t y y → x ≡ y
 same-either true h = h
 same-either false h = h
 
-module _ (m : Machine) (call : Call) (given : Bytes) (n : ℕ) (e : n ≡ inputRefusal m call (length given)) (v c l : ℕ) (f : Finds m call v c l) where
+-- n is the first of 13 and 1 to 6 that applies; `given` is what is given to a store
+module _ (m : Machine) (call : Call) (given : Bytes) (n : ℕ) (e : n ≡ inputRefusal m call given) (v c l : ℕ) (f : Finds m call v c l) where
   abbrev o : Opening
   o = m .state .opening
+
+  -- the bytes that are given
+  abbrev bytes : Bytes
+  bytes = bytesGiven call given
 
   abbrev pub made : Effect
   made = effectWith n call (piecesAt (m .state) c l) o
 
-  -- ---- none of 1 to 6 applies
+  -- ---- none of them applies
 
   module _ (z : n ≡ 0) where
-    allowed : (machineRefusal m ≡ 0) × (callRefusal call o (length given) ≡ 0)
-    allowed = or-none (machineRefusal m) _ (sym e ∙ z)
+    allowed : (machineRefusal m ≡ 0) × (callRefusal call o (length bytes) ≡ 0)
+    allowed = or-none (machineRefusal m) _ (or-none (givenRefusal (givenAs (about call .act)) given) _ (sym e ∙ z) .1)
 
     fit : Fit m
     fit = machine-fit m (allowed .0)
@@ -69,24 +74,24 @@ module _ (m : Machine) (call : Call) (given : Bytes) (n : ℕ) (e : n ≡ inputR
     core-is : c ≡ coreOf call (m .state)
     core-is =
         let i = inside o (fit .opening) in
-        let h = named-inside o (about call .line) (i .someLines) (named call o (length given) (allowed .1) .line) in
-        let q = call-there fit call (length given) (allowed .1) in
+        let h = named-inside o (about call .line) (i .someLines) (named call o (length bytes) (allowed .1) .line) in
+        let q = call-there fit call (length bytes) (allowed .1) in
         f .core ∙ (rw (f .named ∙ found-there _ _ _ h (i .mostLines)) (found-there _ _ _ (q .core) (i .mostCores)))
 
     line-is : l ≡ lineOf call (m .state)
     line-is =
-        let q = call-there fit call (length given) (allowed .1) in
+        let q = call-there fit call (length bytes) (allowed .1) in
         f .line ∙ (rw core-is (found-there _ _ _ (q .line) (inside o (fit .opening) .mostLines)))
 
     there : There o c l
-    there = rw (core-is, line-is) (call-there fit call (length given) (allowed .1))
+    there = rw (core-is, line-is) (call-there fit call (length bytes) (allowed .1))
 
     accepted-effect : made ≡ effectOf call (piecesAt (m .state) c l) o
     unfolding effectWith
     accepted-effect = rw z
 
-    sound : Sound o c l given (m .private) (m .shared) call made
-    sound = rw (accepted-effect, core-is, line-is) (effect-sound m call given fit (allowed .1))
+    sound : Sound o c l bytes (m .private) (m .shared) call made
+    sound = rw (accepted-effect, core-is, line-is) (effect-sound m call bytes fit (allowed .1))
 
   -- ---- one of them applies
 
@@ -97,19 +102,19 @@ module _ (m : Machine) (call : Call) (given : Bytes) (n : ℕ) (e : n ≡ inputR
   -- ---- whatever applies
 
   -- the call is the effect written back
-  pub is-step : step m call given ≡ accepted m call given c l made
+  pub is-step : step m call given ≡ accepted m call bytes c l made
   is-step =
       by-cases (ℕ-discrete n 0) (λ z. rw (accepted-effect z, core-is z, line-is z) (step-accepted m call given (sym e ∙ z)))
-      (λ h. rw (refused-effect h, row-refused m call given c l n) (step-refused m call given (λ z. h (e ∙ z)) ∙ rw e refl))
+      (λ h. rw (refused-effect h, row-refused m call bytes c l n) (step-refused m call given (λ z. h (e ∙ z)) ∙ rw e refl))
 
   -- the buffers after the effect's move
-  pub is-moved : (p' q' : Bytes) → Moves (made .moves) o c l given (m .private) (m .shared) p' q'
-      → (p' ≡ movedPrivate (made .moves) o c l given (m .private) (m .shared)) × (q' ≡ movedShared (made .moves) o c l (m .private) (m .shared))
+  pub is-moved : (p' q' : Bytes) → Moves (made .moves) o c l bytes (m .private) (m .shared) p' q'
+      → (p' ≡ movedPrivate (made .moves) o c l bytes (m .private) (m .shared)) × (q' ≡ movedShared (made .moves) o c l (m .private) (m .shared))
   unfolding movedPrivate movedShared
   is-moved p' q' b =
-      by-cases (ℕ-discrete n 0) (λ z. let r = effect-moves m call given c l made (fit z) (there z) (sound z) in (rw r at (b .private), rw r at (b .shared)))
+      by-cases (ℕ-discrete n 0) (λ z. let r = effect-moves m call bytes c l made (fit z) (there z) (sound z) in (rw r at (b .private), rw r at (b .shared)))
       (λ h. let y = refused-effect h in
-      let t = moveFits Still o (length (m .private)) (length (m .shared)) c l (length given) in
+      let t = moveFits Still o (length (m .private)) (length (m .shared)) c l (length bytes) in
       rw y (same-either t (rw y at (b .private)), same-either t (rw y at (b .shared))))
 
   -- the bytes beside the answer, after the move
@@ -120,7 +125,7 @@ module _ (m : Machine) (call : Call) (given : Bytes) (n : ℕ) (e : n ≡ inputR
     -- they are the commit's
     pub is-reply :
         meaning (made .answer)
-        (part (movedPrivate (made .moves) o c l given (m .private) (m .shared)) (spanOf (made .answer) start (o .width) .start)
+        (part (movedPrivate (made .moves) o c l bytes (m .private) (m .shared)) (spanOf (made .answer) start (o .width) .start)
         (spanOf (made .answer) start (o .width) .count))
         ≡ step m call given .reply
     unfolding accepted meaning

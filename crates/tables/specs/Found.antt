@@ -1,4 +1,4 @@
--- A core or a line as an index of the state's arrays, for every opening, and what a call that one of 1 to 6 refuses makes of the pieces there.
+-- A core or a line as an index of the state's arrays, for every opening, and what a call that 13 or one of 1 to 6 refuses makes of the pieces there.
 use Prim.Native.Nat.{ℕ, _<_}
 use mathlib.Core.Path.{_≡_}
 use lib.Dec.{ltb, leb, eqb}
@@ -13,6 +13,6 @@ pub record Found (n count most r : ℕ) : Type 0 where
   pub is : r ≡ foundAt n count most
   pub low : r < most
 
--- what a call makes of the pieces where n is the first of 1 to 6 that applies, or 0: "A refused call returns its number, the state it got"
+-- what a call makes of the pieces where n is the first of 13 and 1 to 6 that applies, or 0: "A refused call returns its number, the state it got"
 unfoldable pub effectWith : ℕ → Call → Pieces → Opening → Effect
 effectWith n call p o = pick (eqb n 0) (effectOf call p o) (refusedRow n p)

@@ -43,7 +43,9 @@ fn row(
 {
     match call {
         Call::Load { core: c, line: l } => core_rows::load(c, l, core, copy, line),
-        Call::Store { core: c, line: l } => core_rows::store(c, l, core, copy, line),
+        Call::Store {
+            core: c, line: l, ..
+        } => core_rows::store(c, l, core, copy, line),
         Call::Fence { core: c } => core_rows::fence(c, core, copy, line),
         Call::Evict { .. } => transfer_rows::evict(core, copy, line),
         Call::Advance { by, .. } => core_rows::advance(by, core, copy, line),
@@ -56,7 +58,7 @@ fn row(
     }
 }
 
-// The same where `refusal` is the first of 1 to 6 that applies, or 0: that comes first.
+// The same where `refusal` is the first of 13 and 1 to 6 that applies, or 0: that comes first.
 pub fn effect(
     refusal: u8,
     call: Call,

@@ -1,18 +1,31 @@
 -- By the move: each copies one line to its place.
-use Rattle.protocol.{specs.Buffers.{movedPrivate, movedShared}, proofs.Tests.{was-false, was-true}}
+use mathlib.Core.Path.{_≡_}
+use lib.ListN.{length}
+use Rattle.protocol.{specs.{Buffers.{movedPrivate, movedShared}, Given.bytesAs}, proofs.{Tests.{was-false, was-true}, Digits.count-given}}
+use Rattle.buffers.specs.Moves.{moveFits}
 use Rattle.buffers.proofs.{Moving.{Fitting, fitting, as-moved}, move_bytes.Statement.statement}
 use borrow.Author.Needs.{needs}
 use Rattle.buffers.proofs.move_bytes.Tie as tie
 
--- past the test, the places and the lengths fit
+-- the test is of as many bytes as are given
+tested :
+    (c : tie.After-move-fits)
+    → (let a = c .before .before .before .before .before .args in
+    c .move-fits .result ≡ moveFits (a .moves) (a .opening) (length (a .private .now)) (length (a .shared .now)) (a .core) (a .line) (length (bytesAs (a .read) (a .given .now))))
+tested c =
+    let a = c .before .before .before .before .before .args in
+    rw (count-given (a .read) (a .given .now), ← c .before .count .ensures) (c .move-fits .ensures)
+
+-- past it, the places and the lengths fit
 fitted :
     (c : tie.Else1)
-    → (let a = c .before .before .before .before .before .args in Fitting (a .moves) (a .opening) (a .core) (a .line) (a .given .now) (a .private .now) (a .shared .now))
-fitted c = fitting _ _ _ _ _ _ _ (was-true (c .before .move-fits .ensures) (c .if1 .left))
+    → (let a = c .before .before .before .before .before .before .args in
+    Fitting (a .moves) (a .opening) (a .core) (a .line) (bytesAs (a .read) (a .given .now)) (a .private .now) (a .shared .now))
+fitted c = fitting _ _ _ _ _ _ _ (was-true (tested (c .before)) (c .if1 .left))
 
 returns-3 : tie.Need-returns-3
 unfolding movedPrivate movedShared
-returns-3 c = let k = c .before .before in let e = k .before .before .before .enum-told2 .given .1 in as-moved (fitted (c .before .before .before .before .before .before .before)) _ _ (rw (e, ← k .before .before .copy-at .ensures) (k .put-line .ensures)) (rw e)
+returns-3 c = let k = c .before .before in let e = k .before .before .before .enum-told2 .given .1 in as-moved (fitted (c .before .before .before .before .before .before .before)) _ _ (rw (e, ← k .before .before .copy-at .ensures) (k .put-given .ensures)) (rw e)
 
 returns-4 : tie.Need-returns-4
 unfolding movedPrivate movedShared
@@ -34,8 +47,8 @@ pub move-bytes-spec : {M : Type 1} → statement M
 move-bytes-spec =
     tie.close
     (tie.spec
-    (λ c κs. search needs)
-    (λ c. let e = was-false (c .before .move-fits .ensures) (c .if1 .taken) in record { private = rw e; shared = rw e })
+    (λ c κs. search needs) (λ c κs. search needs)
+    (λ c. let e = was-false (tested (c .before)) (c .if1 .taken) in record { private = rw e; shared = rw e })
     (λ c. search needs) (λ c. search needs)
     (λ c κs. fitted (c .before .before) .there)
     (λ c κs. rw (c .before .copy-at .ensures) ((fitted (c .before .before .before .before)) .store (c .before .before .enum-told2 .given .1)))

@@ -27,7 +27,7 @@ at-start c =
     r .before .before .before .before .before .before
 
 abbrev at-head : tie.After-due Inv-loop μ-loop → tie.At-loop Inv-loop μ-loop
-at-head c = c .before .before
+at-head c = c .before
 
 abbrev at-last : tie.After-put-last Inv-loop μ-loop → tie.After-due Inv-loop μ-loop
 at-last c = c .before .before .before .before .before
@@ -38,11 +38,14 @@ at-step c = c .before .before .before .before
 abbrev at-line : tie.After-effect Inv-loop μ-loop → tie.After-line-of Inv-loop μ-loop
 at-line c = c .before .before .before
 
+abbrev at-given : tie.After-line-of Inv-loop μ-loop → tie.After-given Inv-loop μ-loop
+at-given c = c .before .before .before .before .before
+
 abbrev at-about : tie.After-line-of Inv-loop μ-loop → tie.After-about Inv-loop μ-loop
-at-about c = c .before .before .before .before .before
+at-about c = at-given c .before
 
 abbrev at-effect : tie.After-put-answer Inv-loop μ-loop → tie.After-effect Inv-loop μ-loop
-at-effect c = c .before .before .before .before .before .before
+at-effect c = c .before .before .before .before .before
 
 abbrev at-put : tie.After-e Inv-loop μ-loop → tie.After-put-answer Inv-loop μ-loop
 at-put c = c .before .before .before .before
@@ -50,7 +53,7 @@ at-put c = c .before .before .before .before
 abbrev at-e : tie.After-slice-known7 Inv-loop μ-loop → tie.After-e Inv-loop μ-loop
 at-e c =
     let m = c .before .before .before .before in
-    let s = m .before .before .before .before .before in
+    let s = m .before .before .before .before in
     s .before .before .before
 
 -- the journal is no longer than a slice can be
@@ -81,10 +84,10 @@ made c =
       out = _;
       there = _;
       used = _;
-      buf = _;
       call = _;
       n = _;
-      count = _;
+      start = _;
+      end = _;
       next = _;
       w = _;
       v = _;
@@ -99,6 +102,11 @@ made c =
       line = l .line-of .ensures;
       effect = c .effect .ensures;
     }
+
+-- its digits lie in the journal
+inside : (c : tie.After-effect Inv-loop μ-loop)
+    → (let m = made c in (m .start ≤ m .end) × (m .end ≤ length (at-start (at-head (at-step (at-about (at-line c)))) .args .journal .now)))
+inside c = (made c .due .order, made c .due .ends)
 
 -- ---- the loop begins
 
@@ -147,23 +155,25 @@ loop-again c =
     let i = at-head (at-step (at-about (at-line m))) .loop .inv in (
       v .before .before .before .private .given ∙ i .0,
       v .before .shared .given ∙ i .1,
-      step-made (made m) _ _ _ _ _ _ (p .put-answer .ensures) (e .e .given .1) (v .before .before .before .before .move-bytes .ensures) (c .met .ensures),
+      step-made (made m) _ _ _ _ _ _ _ (p .put-answer .ensures) (e .e .given .1) (at-given (at-line m) .given .ensures)
+      (v .before .before .before .before .move-bytes .ensures) (c .met .ensures),
     )
 
 pub play-spec : {M : Type 1} → statement M
 play-spec =
     tie.close
     (tie.spec
-    Inv-loop μ-loop (λ c κs. search needs) returns (λ c κs. search needs) loop-holds (λ c κs. at-checkpoint (c .before .loop .inv .2) .named) (λ c. search needs)
+    Inv-loop μ-loop (λ c κs. search needs) returns (λ c κs. search needs) loop-holds (λ c κs. at-checkpoint (c .loop .inv .2) .named) (λ c. search needs)
     put-last-requires (λ c κs. search needs) (λ c. at-head (at-last (c .before .before .before)) .loop .inv .0)
     (λ c. at-head (at-last (c .before .before .before)) .loop .inv .1)
     (λ c. c .before .before .out .given ∙ at-head (at-last (c .before .before .before)) .loop .inv .2 .fills .size) returns-2 (λ c. search needs)
-    (λ c κs. search needs) (λ c κs. search needs) (λ c. search needs) (λ c. search needs) (λ c κs. search needs) (λ c. search needs)
+    (λ c κs. search needs) (λ c κs. search needs) (λ c κs. search needs) (λ c. search needs) (λ c. search needs) (λ c κs. search needs) (λ c. search needs)
     (λ c. search needs) (λ c κs. search needs) (λ c. let a = low (c) in omega arith) (λ c. let a = low (c) in omega arith)
     (λ c. let a = low (c) in omega arith) (λ c. let a = low (c) in omega arith) (λ c. let a = low (c .before) in omega arith)
     (λ c. let a = low (c .before) in omega arith) (λ c κs. search needs)
-    (λ c. let r = room (at-head (at-step (at-about (c .before .before .before .before)))) in omega (arith, each-few _ _ r .steps)) (λ c. search needs)
-    (λ c. search needs) (λ c. made (c .before .before .before) .due .bytes .fits) (λ c κs. shows (made (c .before .before .before .before .before)))
+    (λ c. let r = room (at-head (at-step (at-about (c .before .before .before .before)))) in omega (arith, each-few _ _ r .steps))
+    (λ c. let a = inside (c .before .before) in omega arith) (λ c. let a = inside (c .before .before) in omega arith)
+    (λ c. let a = inside (c .before .before) in omega arith) (λ c κs. shows (made (c .before .before .before .before)))
     (λ c. search needs) (λ c κs. search needs)
     (λ c. at-head (at-step (at-about (at-line (at-effect (c .before .before .before .before .before))))) .loop .inv .0)
     (λ c. at-head (at-step (at-about (at-line (at-effect (c .before .before .before .before .before))))) .loop .inv .1)
@@ -173,6 +183,8 @@ play-spec =
     (λ c. let a = low (at-line (at-effect (at-put (c .before .before .before)))) in omega arith)
     (λ c. let a = low (at-line (at-effect (at-put (c .before .before .before)))) in omega arith)
     (λ c. let a = low (at-line (at-effect (at-put (c .before .before .before)))) in omega arith)
-    (λ c. let a = low (at-line (at-effect (at-put (c .before .before .before)))) in omega arith) (λ c. search needs) (λ c. search needs)
-    (λ c. made (at-effect (at-put (c .before .before .before .before .before .before))) .due .bytes .fits) (λ c κs. search needs)
+    (λ c. let a = low (at-line (at-effect (at-put (c .before .before .before)))) in omega arith) 
+    (λ c. let a = inside (at-effect (at-put (c .before .before .before .before .before))) in omega arith)
+    (λ c. let a = inside (at-effect (at-put (c .before .before .before .before .before))) in omega arith)
+    (λ c. let a = inside (at-effect (at-put (c .before .before .before .before .before))) in omega arith) (λ c κs. search needs)
     (λ c κs. room (at-head (at-step (at-about (at-line (at-effect (at-put (at-e c)))))))) loop-less loop-again)

@@ -8,7 +8,7 @@ use Rattle.engine.proofs.show.Tie as tie
 
 -- what `show` is given; `t1` is its state
 abbrev given : (c : tie.After-input-refusal) → tie.Start
-given c = c .before .before .before .before .before .before
+given c = c .before .before .before .before .before .before .before
 
 returns : tie.Need-returns
 returns c =
@@ -39,7 +39,7 @@ pub show-spec : {M : Type 1} → statement M
 show-spec =
     tie.close
     (tie.spec
-    (λ c κs. search needs) (λ c κs. search needs)
+    (λ c. search needs) (λ c κs. search needs) (λ c κs. search needs)
     returns
     (λ c. let a = indices (there-now c) in omega arith)
     (λ c. let a = indices (there-now c) in omega arith)

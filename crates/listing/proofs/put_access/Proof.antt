@@ -3,7 +3,8 @@ use Prim.Native.Nat.{ℕ}
 use mathlib.Core.{Path.{refl, _∙_, ap}, List.{List, _++_}}
 use native.Mathlib.Omega.{arith}
 use borrow.Author.Needs.{needs}
-use Rattle.spelling.specs.{Decimal.decimal, Hex.hex, Text.text}
+use Rattle.spelling.specs.{Decimal.decimal, Text.text}
+use Rattle.listing.specs.Record.{textAs}
 use Rattle.listing.proofs.{Laws.{first, more, four, put-same}, put_access.Statement.statement}
 use Rattle.listing.proofs.put_access.Tie as tie
 
@@ -17,9 +18,9 @@ returns c =
     let a = e .before .before .before .before .before .before .args in
     let end = more (f .field3 .ensures) (more (b .field2 .ensures) (more (d .field .ensures) (e .tail .ensures .text))) in
     put-same
-    (ap (λ (l : List ℕ). l ++ hex (a .bytes .now) ++ text "\n") (first (omega arith) (g .field4 .ensures) end)
+    (ap (λ (l : List ℕ). l ++ textAs (a .read) (a .given .now) ++ text "\n") (first (omega arith) (g .field4 .ensures) end)
     ∙ four (text "n=") (decimal (a .place)) (a .commit .now) (decimal (a .core)) (text " line=") (decimal (a .line)) (text " ts=") (decimal (a .ts))
-    (text " data=") (hex (a .bytes .now)) (text "\n"))
+    (text " data=") (textAs (a .read) (a .given .now)) (text "\n"))
     (c .before .before .put-with-data .ensures)
 
 pub put-access-spec : {M : Type 1} → statement M

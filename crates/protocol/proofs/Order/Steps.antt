@@ -4,7 +4,7 @@ use mathlib.Core.{Path.{_≡_, refl, sym, _∙_, ap}, Logic.{_⊎_, inl, inr}, B
 use native.Mathlib.Omega.{arith}
 use lib.{Dec.eqb, ListN.length}
 use borrow.Author.Tests.{eq-eqb}
-use Rattle.protocol.specs.{Stamps.later, Clock.storeTime, Buffers.{Bytes, There, copyBytes, managerBytes, writebackBytes, answerBytes}}
+use Rattle.protocol.specs.{Given.bytesGiven, Stamps.later, Clock.storeTime, Buffers.{Bytes, There, copyBytes, managerBytes, writebackBytes, answerBytes}}
 use Rattle.protocol.specs.{Machine.{Machine, Pieces, piecesAt, coreAt, copyAt, lineAt, applied}, Refusals.isOwned}
 use Rattle.protocol.specs.{Step.{Op, load, store, fence, Reply, refused, done, commit, meaning, Outcome, accepted, step}, Run.{place, Commit, commitAt}}
 use Rattle.protocol.specs.Order.{TsoKeeps, Loads, Stores}
@@ -424,11 +424,11 @@ module _ (z : Value) (p : ℕ) {H : List (Commit Bytes)} (given : Bytes) {m : Ma
       (λ ok′ stay. ((here, λ j. tt), tt, stay (atCopy c) refl, stay (atSlot c) refl)))
 
 pub step-good : (z : Value) (p : ℕ) {H : List (Commit Bytes)} {m : Machine} → Inv z H m → (call : Call) (given : Bytes)
-    → Good z p H call given (step m call given .reply) (step m call given .machine)
+    → Good z p H call (bytesGiven call given) (step m call given .reply) (step m call given .machine)
 step-good z p {H} {m} I call given = go (case-of m call given)
   where
-    go : {r : Outcome} → Case m call given r → Good z p H call given (r .reply) (r .machine)
+    go : {r : Outcome} → Case m call given r → Good z p H call (bytesGiven call given) (r .reply) (r .machine)
     go (refuses n) = I
     go (makes n q w) =
         let f = machine-fit m (n .machineOk) in
-        row-good z p given I f q w (made-fits f n q w)
+        row-good z p (bytesGiven call given) I f q w (made-fits f n q w)

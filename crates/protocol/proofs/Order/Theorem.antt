@@ -6,7 +6,7 @@ use native.Mathlib.{Omega.arith, Decide.decLt}
 use lib.Dec.{ltb, eqb}
 use borrow.Author.Tests.{ltb-true, eqb-true, lt-ltb, le-ltb, eq-eqb}
 use Rattle.protocol.specs.{Pick.pick, Stamps.{Precedes, precedes}, Limits.openingFits, Refusals.openRefusal, Buffers.{Bytes, sharedLength, managerBytes}}
-use Rattle.protocol.specs.{About.{about, namedCore, namedLine}, Machine.{Machine, freshMachine}, Step.{Op, Reply, refused, done, commit, step}}
+use Rattle.protocol.specs.{About.{about, namedCore, namedLine}, Given.bytesGiven, Machine.{Machine, freshMachine}, Step.{Op, Reply, refused, done, commit, step}}
 use Rattle.protocol.specs.Run.{Entry, Record, place, run, Commit, actCommit, commitOf, commits}
 use Rattle.protocol.specs.Order.{In, here, there, Before, Earlier, TsoKeeps, Loads, Stores, LastWrite, Obeys, OpenTheorem, OrderTheorem, SortTheorem}
 use Rattle.protocol.specs.{Order.KeyTheorem, declared.{Opening.Opening, Act.{Act, the-variants.{Transfer, Load, Store, Fence, Advance}}}}
@@ -25,7 +25,7 @@ record Along (z : Value) (p : ℕ) (H : List (Commit Bytes)) (m : Machine) : Typ
   old : All (λ a. a .place .0 < p) H
 
 along-step : {z : Value} {p : ℕ} {m m′ : Machine} {H : List (Commit Bytes)} (g : Entry) (r : Reply) → Along z p H m
-    → Good z p H (g .call) (g .bytes) r m′ → Along z (suc p) (commitOf (place p) g r ++ H) m′
+    → Good z p H (g .call) (bytesGiven (g .call) (g .bytes)) r m′ → Along z (suc p) (commitOf (place p) g r ++ H) m′
 along-step g (refused n) R G = record { inv = G; lawful = R .lawful; old = all-map (λ a h. omega arith) (R .old) }
 along-step g (done d) R G = record { inv = G; lawful = R .lawful; old = all-map (λ a h. omega arith) (R .old) }
 along-step {p = p} g (commit c t o) R G = rw (G .0) (record {
@@ -118,9 +118,9 @@ made-at p g (refused n) = no-commit
 made-at p g (done d) = no-commit
 made-at p g (commit c t o) = go (about (g .call) .act)
   where
-    go : (a : Act) → OneAtMost p (actCommit a (place p) (namedCore (about (g .call) .core)) (namedLine (about (g .call) .line)) (g .bytes) t o)
+    go : (a : Act) → OneAtMost p (actCommit a (place p) (namedCore (about (g .call) .core)) (namedLine (about (g .call) .line)) (bytesGiven (g .call) (g .bytes)) t o)
     go Load = one-commit refl
-    go Store = one-commit refl
+    go (Store g) = one-commit refl
     go Fence = one-commit refl
     go (Advance by) = no-commit
     go Transfer = no-commit

@@ -4,8 +4,8 @@ use mathlib.Core.{Path._≡_, Bool.{Bool, true, false}, List.List}
 use native.Mathlib.Omega.{arith}
 use borrow.Author.Needs.{needs}
 use lib.ListN.{length, getD}
-use Rattle.spelling.specs.{Bytes.{Test, Below}, Hex.{HexDigit, DataTest}}
-use Rattle.spelling.proofs.{Lists.all-from, Tests.test-more, HexLaws.{unhex, spelt, spells-length, spells-at}, is_data.Statement.statement}
+use Rattle.spelling.specs.{Bytes.{Test, Below}, Hex.{unhex, HexDigit, DataTest}}
+use Rattle.spelling.proofs.{Lists.all-from, Tests.test-more, HexLaws.{spelt, spells-length, spells-at}, is_data.Statement.statement}
 use Rattle.spelling.proofs.is_data.Tie as tie
 
 abbrev digitAt : List ℕ → ℕ → Type 0

@@ -13,7 +13,7 @@ row-spec =
     (λ c κs. search needs) (λ c. search needs) (λ c κs. search needs) (λ c. search needs) (λ c κs. search needs)
     (λ c. search needs) (λ c κs. search needs)
     (λ c. rw (c .before .before .call .given .1) (c .load .ensures _ _))
-    (λ c. rw (c .before .before .call2 .given .1) (c .store .ensures _ _))
+    (λ c. rw (c .before .before .call2 .given .1) (c .store .ensures _ _ _))
     (λ c. rw (c .before .before .call3 .given .1) (c .fence .ensures _ _))
     (λ c. rw (c .before .enum-told .given .1) (c .evict .ensures _ _ _ _))
     (λ c. rw (c .before .before .call4 .given .1) (c .advance .ensures _ _ _))

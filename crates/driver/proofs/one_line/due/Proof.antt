@@ -7,11 +7,6 @@ use Rattle.driver.proofs.{Reading.known, one_line.due.Statement.stateme
 use borrow.Author.Needs.{needs}
 use Rattle.driver.proofs.one_line.due.Tie as tie
 
-decode-requires : tie.Need-decode-requires
-decode-requires c κs =
-    let k = known (subst (NextOf _ _ _) (c .before .before .call .given .1) (c .before .before .before .before .step-at .ensures)) .1 in
-    (k .digits, omega arith)
-
 returns : tie.Need-returns
 returns c =
     let s = c .before .before in
@@ -24,14 +19,26 @@ returns-3 c =
 
 returns-4 : tie.Need-returns-4
 returns-4 c =
-    let s = c .before .before .before .before in
+    let s = c .before .before in
     let x = subst (NextOf _ _ _) (s .call .given .1) (s .before .before .step-at .ensures) in
     let k = known x .1 in
-    aStep (record { start = _; end = _; line = x; bytes = c .before .decode .ensures; number = c .number-of .ensures; forward = k .forward; inside = k .inside })
+    aStep
+    (record {
+      line = x;
+      order = k .order;
+      ends = k .ends;
+      right = k .right;
+      number = rw (← k .count) at (c .number-of .ensures);
+      forward = k .forward;
+      inside = k .inside;
+    })
+
+ordered : tie.Need-sub-number-of
+ordered c = let s = c .before in omega (arith, known (subst (NextOf _ _ _) (s .call .given .1) (s .before .before .step-at .ensures)) .1 .order)
 
 pub due-spec : {M : Type 1} → statement M
 due-spec =
     tie.close
     (tie.spec
-    (λ c κs. search needs) (λ c. search needs) (λ c. search needs) (λ c. search needs) (λ c. search needs) decode-requires (λ c κs. search needs)
+    (λ c κs. search needs) (λ c. search needs) (λ c. search needs) (λ c. search needs) (λ c. search needs) ordered (λ c κs. search needs)
     returns (λ c. theEnd (atEnd (subst (NextOf _ _ _) (c .enum-told2 .given .1) (c .before .before .step-at .ensures))) tt) returns-3 returns-4)

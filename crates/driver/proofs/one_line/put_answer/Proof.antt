@@ -3,7 +3,7 @@ use Prim.Native.Nat.{_+_, _-_, _≤_}
 use lib.ListN.{length}
 use mathlib.Core.Path.{_≡_, sym, _∙_}
 use native.Mathlib.Omega.{arith}
-use Rattle.driver.proofs.{Decoding.act-bytes-are, one_line.put_answer.Statement.statement}
+use Rattle.driver.proofs.{Stepping.{act-bytes-are, given-else}, one_line.put_answer.Statement.statement}
 use borrow.Author.Needs.{needs}
 use Rattle.driver.proofs.one_line.put_answer.Tie as tie
 
@@ -13,8 +13,9 @@ ends c = rw (c .span-of .ensures, c .before .copy-start .ensures) (c .before .be
 
 returns : tie.Need-returns
 returns c =
-    let s = c .before .before .before .before .before in
-    rw (act-bytes-are, sym (s .is-store .ensures) ∙ c .before .before .before .before .if1 .taken) (c .before .before .put-record .ensures)
+    let g = c .before .before .before in
+    let s = g .before .before .before in
+    rw (act-bytes-are, sym (s .is-store .ensures) ∙ g .before .before .if1 .taken, ← g .given .ensures) (c .before .before .put-record .ensures)
 
 returns-2 : tie.Need-returns-2
 returns-2 c =
@@ -22,12 +23,13 @@ returns-2 c =
     let r = s .span-of .result in
     let n : r .start + r .count - r .start ≡ r .count = omega arith in
     let t = s .before .before .before in
-    rw (act-bytes-are, sym (t .is-store .ensures) ∙ s .before .before .if1 .left) (rw (n, s .span-of .ensures, s .before .copy-start .ensures) at (c .before .before .put-record2 .ensures))
+    let e = sym (t .is-store .ensures) ∙ s .before .before .if1 .left in
+    rw (act-bytes-are, e, given-else _ e) (rw (n, s .span-of .ensures, s .before .copy-start .ensures) at (c .before .before .put-record2 .ensures))
 
 pub put-answer-spec : {M : Type 1} → statement M
 put-answer-spec =
     tie.close
     (tie.spec
-    (λ c κs. search needs) (λ c κs. search needs) (λ c. search needs) returns (λ c κs. search needs) (λ c κs. search needs)
+    (λ c κs. search needs) (λ c κs. search needs) (λ c κs. search needs) (λ c. search needs) returns (λ c κs. search needs) (λ c κs. search needs)
     (λ c. let a = ends (c .before) in omega arith) (λ c. search needs) (λ c. search needs) (λ c. let a = ends (c .before .before) in omega arith)
     (λ c κs. search needs) (λ c. search needs) returns-2)
