@@ -1,14 +1,14 @@
 -- A move whose places and lengths fit: each place lies in its buffer, and the buffers after it are those of the definition.
 use Prim.Native.Nat.{ℕ, _+_, _≤_}
-use mathlib.Core.{Path._≡_, Bool.true}
+use mathlib.Core.{Path.{_≡_, refl, sym}, Bool.{Bool, true, false}}
 use lib.{Dec.eqb, ListN.length}
 use borrow.Author.Tests.{eqb-true}
-use Rattle.protocol.specs.Limits.{openingFits}
+use Rattle.protocol.specs.{Pick.pick, Limits.openingFits}
 use Rattle.protocol.specs.Buffers.{Bytes, privateLength, sharedLength, copyStart, managerStart, writebackStart, answerStart, There, givenFits}
-use Rattle.protocol.specs.{Buffers.{movedPrivate, movedShared}, Refusals.buffersFit, declared.{Opening.Opening, Move.{Move, the-variants.Store}}}
-use Rattle.protocol.proofs.{Tests.both-true, Extents.{copy-ends, manager-ends, writeback-ends, answer-ends}}
+use Rattle.protocol.specs.{Buffers.{movedPrivate, movedShared}, Refusals.buffersFit, declared.{Opening.Opening, Move.{Move, the-variants.{Still, Store, Answer, Receive, Writeback, Take}}}}
+use Rattle.protocol.proofs.{Tests.{never, both-true}, Extents.{copy-ends, manager-ends, writeback-ends, answer-ends}}
 use Rattle.refusals.specs.Input.{lengthsFit}
-use Rattle.buffers.specs.Moves.{isThere, moveFits, Moves}
+use Rattle.buffers.specs.Moves.{isThere, isStill, moveFits, Moves}
 use Rattle.buffers.proofs.Laws.{to-there}
 
 -- lengths np, nq and n of the buffers and of a store's bytes that fit
@@ -48,6 +48,25 @@ fitting v o c l given p q h =
       answer = rw nq (answer-ends at);
       store = λ e. rw (eqb-true (length given) (o .width) (rw e at (tests v o _ _ c l _ h .2)), np) (copy-ends at);
     }
+
+-- where no bytes move, the buffers stay whether the places fit or not
+still-is : (v : Move) → isStill v ≡ true → v ≡ Still
+still-is Still e = refl
+still-is Store e = never (sym e)
+still-is Answer e = never (sym e)
+still-is Receive e = never (sym e)
+still-is Writeback e = never (sym e)
+still-is Take e = never (sym e)
+
+stays : (t : Bool) (x : Bytes) → x ≡ pick t x x
+stays true x = refl
+stays false x = refl
+
+pub as-still : {v : Move} {o : Opening} {c l : ℕ} {given p q : Bytes} → isStill v ≡ true → Moves v o c l given p q p q
+unfolding movedPrivate movedShared
+as-still {v} {o} {c} {l} {given} {p} {q} e =
+    let t : Bool = moveFits Still o (length p) (length q) c l (length given) in
+    rw (still-is v e) (record { private = stays t p; shared = stays t q })
 
 -- the buffers are as the move leaves them
 pub as-moved :

@@ -1,15 +1,24 @@
 -- Moving one line of bytes between its places, for every opening, core, line and buffer.
 use Prim.Native.Nat.{ℕ}
-use mathlib.Core.{Path._≡_, Bool.Bool}
+use mathlib.Core.{Path._≡_, Bool.{Bool, true, false}}
 use lib.{Dec.ltb, ListN.length}
 use denote.Ref.{RefT, now}
 use Rattle.protocol.specs.{Pick.{pick, both}, Limits.openingFits, Buffers.{Bytes, givenFits, movedPrivate, movedShared}, Given.bytesAs}
-use Rattle.protocol.specs.declared.{Opening.Opening, Given.Given, Move.Move}
+use Rattle.protocol.specs.declared.{Opening.Opening, Given.Given, Move.{Move, the-variants.{Still, Store, Answer, Receive, Writeback, Take}}}
 use Rattle.refusals.specs.Input.{lengthsFit}
 
 -- the opening lies inside the limits, and core c and line l are there
 abbrev pub isThere : Opening → ℕ → ℕ → Bool
 isThere o c l = both (openingFits o) (both (ltb c (o .cores)) (ltb l (o .lines)))
+
+-- no bytes move
+abbrev pub isStill : Move → Bool
+isStill Still = true
+isStill Store = false
+isStill Answer = false
+isStill Receive = false
+isStill Writeback = false
+isStill Take = false
 
 -- the places and lengths of a move fit: the core and the line are there, both buffers have their exact lengths, and a store's bytes are one
 -- line's

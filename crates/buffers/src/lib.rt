@@ -6,7 +6,7 @@ mod lines;
 
 ghost use mathlib.Core.Path.{_≡_};
 ghost use Rattle.protocol.specs.{Pick.pick, Buffers.{copyStart, managerStart, writebackStart, answerStart, There, givenFits}};
-ghost use Rattle.buffers.specs.Moves.{isThere, moveFits, Moved};
+ghost use Rattle.buffers.specs.Moves.{isThere, isStill, moveFits, Moved};
 use protocol::Given;
 use protocol::Move;
 use protocol::Opening;
@@ -121,6 +121,20 @@ fn move_fits(
     given_fits(moves, width, count)
 }
 
+// Whether no bytes move.
+fn is_still(moves: Move) -> bool
+    ensures { λ r. ⌜ r ≡ isStill moves ⌝ }
+{
+    match moves {
+        Move::Still => true,
+        Move::Store => false,
+        Move::Answer => false,
+        Move::Receive => false,
+        Move::Writeback => false,
+        Move::Take => false,
+    }
+}
+
 // Moves the line of bytes that a step moves, if its places and lengths fit; else both buffers stay
 // as they were. `given` is what is given to a store, and `read` how it is read.
 pub fn move_bytes(
@@ -135,6 +149,9 @@ pub fn move_bytes(
 )
     ensures { λ _. ⌜ Moved moves read opening core line (given .entry) («private» .entry) (shared .entry) («private» .exit) (shared .exit) ⌝ }
 {
+    if is_still(moves) {
+        return;
+    }
     let count = read.count(given.len());
     if !move_fits(
         moves,

@@ -110,7 +110,18 @@ pub fn step(s: State, private: &mut [u8], shared: &mut [u8], call: Call, given: 
     let m = next.line[l];
     let copy = e.copy;
     let made = on_pieces(
-        n, call, read, opening, k, copy, m, private, shared, c, l, given,
+        n,
+        call,
+        read,
+        opening,
+        k,
+        copy,
+        m,
+        private,
+        shared,
+        c,
+        l,
+        given,
     );
     let answer = made.answer;
     let core = made.core;

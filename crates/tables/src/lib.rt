@@ -44,7 +44,9 @@ fn row(
     match call {
         Call::Load { core: c, line: l } => core_rows::load(c, l, core, copy, line),
         Call::Store {
-            core: c, line: l, ..
+            core: c,
+            line: l,
+            ..
         } => core_rows::store(c, l, core, copy, line),
         Call::Fence { core: c } => core_rows::fence(c, core, copy, line),
         Call::Evict { .. } => transfer_rows::evict(core, copy, line),

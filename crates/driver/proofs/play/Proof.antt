@@ -156,7 +156,7 @@ loop-again c =
       v .before .before .before .private .given ∙ i .0,
       v .before .shared .given ∙ i .1,
       step-made (made m) _ _ _ _ _ _ _ (p .put-answer .ensures) (e .e .given .1) (at-given (at-line m) .given .ensures)
-      (v .before .before .before .before .move-bytes .ensures) (c .met .ensures),
+          (v .before .before .before .before .move-bytes .ensures) (c .met .ensures),
     )
 
 pub play-spec : {M : Type 1} → statement M
@@ -183,7 +183,7 @@ play-spec =
     (λ c. let a = low (at-line (at-effect (at-put (c .before .before .before)))) in omega arith)
     (λ c. let a = low (at-line (at-effect (at-put (c .before .before .before)))) in omega arith)
     (λ c. let a = low (at-line (at-effect (at-put (c .before .before .before)))) in omega arith)
-    (λ c. let a = low (at-line (at-effect (at-put (c .before .before .before)))) in omega arith) 
+    (λ c. let a = low (at-line (at-effect (at-put (c .before .before .before)))) in omega arith)
     (λ c. let a = inside (at-effect (at-put (c .before .before .before .before .before))) in omega arith)
     (λ c. let a = inside (at-effect (at-put (c .before .before .before .before .before))) in omega arith)
     (λ c. let a = inside (at-effect (at-put (c .before .before .before .before .before))) in omega arith) (λ c κs. search needs)
