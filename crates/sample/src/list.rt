@@ -1,9 +1,9 @@
 // A list of calls by `step`: bytes move at every place where they can, and each refusal of an opening or
-// a call, 1 to 7, 20 to 27 and 30, is met. Three cores, two lines, a width of two bytes, a lease of 2.
+// a call, 1 to 7, 13, 20 to 27 and 30, is met. Three cores, two lines, a width of two bytes, a lease of 2.
 //
 // A list has five bytes for each call: its kind, a digit for the core, a digit for the line, one byte
-// more, and a blank. The kinds are L load, S store (the byte and a `-`), s store of no bytes,
-// F fence, E evict, D drop, W writeback, A advance (by the digit), M advance by the greatest number,
+// more, and a blank. The kinds are L load, S store (the byte and a `-`), s store of no bytes, H store in
+// digits (the byte, four times), F fence, E evict, D drop, W writeback, A advance (by the digit), M advance by the greatest number,
 // V serve, R receive, Y yield and T take. The core and the line say besides what is shown.
 use super::print;
 use engine::Returned;
@@ -18,6 +18,11 @@ fn call_of(kind: u8, core: usize, line: usize, by: u32) -> Call {
         b'L' => Call::Load { core, line },
         b'S' | b's' => Call::Store {
             given: Given::Bytes,
+            core,
+            line,
+        },
+        b'H' => Call::Store {
+            given: Given::Digits,
             core,
             line,
         },
@@ -49,8 +54,12 @@ fn make(
 ) -> Returned {
     let call = call_of(kind, core, line, (value % 16) as u32);
     let given = [value, b'-'];
+    let digits = [value, value, value, value];
     if kind == b's' {
         return engine::step(d.state, private, shared, call, b"");
+    }
+    if kind == b'H' {
+        return engine::step(d.state, private, shared, call, &digits);
     }
     engine::step(d.state, private, shared, call, &given)
 }
@@ -107,6 +116,8 @@ fn play(list: &[u8]) {
 // Calls 51 to 54: core 2 owns line 1 and stores. Calls 55 to 59: 3, 4, 5, 6 and 27.
 // Calls 60 to 69: core 2 writes line 1 back, which is no copy to drop, and the manager takes it; core 2
 // shares it, which is no copy to write back, loads it and drops it. On the way 30, 26 and 30.
+// Calls 70 to 76: core 2 owns line 1 and stores to it in digits. On the way 13, and 13 again where the slot
+// is in use.
 pub(crate) fn play_all() {
     play(
         b"L00. L01. R00. V00. V00. R00. L00. S10a V10. R10. S10a L00. A003 L00. V00. Y10. Y10. T20. \
@@ -115,7 +126,8 @@ pub(crate) fn play_all() {
           S00b V00. R00. L00. S00b L00. F00. S10c Y00. V10. Y00. T20. V10. R10. S10c E10. T10. \
           S21d V21. R21. S21d \
           L30. L02. s00e A000 M00. \
-          D21. W21. W21. T21. L21. V21. R21. W21. L21. D21. ",
+          D21. W21. W21. T21. L21. V21. R21. W21. L21. D21. \
+          H21e H21z H21- V21. R21. H21e L21. ",
     );
     outside();
 }

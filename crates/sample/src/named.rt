@@ -52,7 +52,24 @@ fn others() {
     shown(8, d, &private, &shared);
 }
 
+// Core 1 owns line 0 and stores to it by the digits of its byte; by a digit that is none (13), and by one digit (13), it does not.
+fn digits() {
+    let mut private = [0u8; 2];
+    let mut shared = [0u8; 4];
+    let o = opened();
+    let mut d = engine::store_digits(o.state, &mut private, &mut shared, 1, 0, b"1f");
+    d = engine::serve(d.state, &mut private, &mut shared, 1);
+    d = engine::receive(d.state, &mut private, &mut shared, 1);
+    d = engine::store_digits(d.state, &mut private, &mut shared, 1, 0, b"1f");
+    shown(4, d, &private, &shared);
+    d = engine::store_digits(d.state, &mut private, &mut shared, 1, 0, b"2g");
+    shown(5, d, &private, &shared);
+    d = engine::store_digits(d.state, &mut private, &mut shared, 1, 0, b"2");
+    shown(6, d, &private, &shared);
+}
+
 pub(crate) fn play_all() {
     evict();
     others();
+    digits();
 }

@@ -71,9 +71,9 @@ hex-more old at bs i r h =
     rw (← d .0, ← d .1, e, m, paste-suc old at (hex bs) (2 * i) 0 (omega arith) (omega arith), ← add-one (2 * i)) (paste-suc old at (hex bs) (2 * i + 1) 0 (omega arith) (omega arith))
 
 -- the byte of two digits more
-pub unhex-more : (old : List ℕ) (at : ℕ) (v : List ℕ) (i : ℕ) → at + length (unhex v) ≤ length old → i < length (unhex v) → 2 * i + 1 < length v
-    → set (paste old at (unhex v) i) (at + i) (nibble (getD v (2 * i) 0) * 16 + nibble (getD v (2 * i + 1) 0)) ≡ paste old at (unhex v) (i + 1)
-unhex-more old at v i r h l = rw (← unhex-at v i l, add-one) (paste-suc old at (unhex v) i 0 (omega arith) (omega arith))
+pub unhex-more : (old : List ℕ) (at : ℕ) (v : List ℕ) (i b : ℕ) → at + length (unhex v) ≤ length old → i < length (unhex v) → 2 * i + 1 < length v
+    → b ≡ nibble (getD v (2 * i) 0) * 16 + nibble (getD v (2 * i + 1) 0) → set (paste old at (unhex v) i) (at + i) b ≡ paste old at (unhex v) (i + 1)
+unhex-more old at v i b r h l e = rw (e, ← unhex-at v i l, add-one) (paste-suc old at (unhex v) i 0 (omega arith) (omega arith))
 
 -- one text after another
 pub over-append : (old : List ℕ) (at : ℕ) (t u : List ℕ) → at + length (t ++ u) ≤ length old → over (over old at t) (at + length t) u ≡ over old at (t ++ u)

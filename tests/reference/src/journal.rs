@@ -177,7 +177,7 @@ fn number(text: &[u8]) -> Result<u32, u32> {
 }
 
 /// Lower-case hex pairs, at least one, or 13.
-fn hex(text: &[u8]) -> Result<Bytes, u32> {
+pub fn hex(text: &[u8]) -> Result<Bytes, u32> {
     if text.is_empty() || text.len() & 1 == 1 {
         return Err(13);
     }

@@ -1,9 +1,11 @@
 //! The machine of document 01: its parts, its steps and its refusals; with drop
-//! and writeback and their refusal 30, of 02, "Evict becomes drop and writeback".
+//! and writeback and their refusal 30, of 02, "Evict becomes drop and writeback";
+//! and the store in digits of 02, "Store bytes without the scratch line".
 //!
 //! The file follows 01's sections: "Parts of the machine", "Refused because of
 //! the input", "Refused because of the state", "Steps".
 
+use crate::journal;
 use std::ops::Range;
 
 /// Limits of an engine's sizes and lease (01, "Parts of the machine").
@@ -319,6 +321,15 @@ impl Machine {
         match self.whole_refusal() {
             Some(number) => Answer::Refused(number),
             None => self.step(step),
+        }
+    }
+
+    /// The store whose bytes are given as the digits of `data=`: wrong digits are
+    /// 13, before every other number; else it is the store of the bytes spelt.
+    pub fn store_digits(&mut self, core: u32, line: u32, digits: &[u8]) -> Answer {
+        match journal::hex(digits) {
+            Err(number) => Answer::Refused(number),
+            Ok(data) => self.call(&Step::Store { core, line, data }),
         }
     }
 

@@ -1,7 +1,7 @@
 -- The order theorem: the sorted order of the commits of every list of calls on a fresh engine obeys TSO; that this order is one; and that
 -- the test of keys decides it.
 use Prim.Native.Nat.{ℕ, suc, _+_, _*_, _≤_, _<_}
-use mathlib.Core.{Path.{_≡_, refl, sym, _∙_, ap}, Logic.{_⊎_, inl, inr, ⊎-elim}, Bool.{Bool, true, false}, List.{List, [], _∷_, _++_}}
+use mathlib.Core.{Path.{_≡_, refl, sym, _∙_, ap, subst}, Logic.{_⊎_, inl, inr, ⊎-elim}, Bool.{Bool, true, false}, List.{List, [], _∷_, _++_}}
 use native.Mathlib.{Omega.arith, Decide.decLt}
 use lib.Dec.{ltb, eqb}
 use borrow.Author.Tests.{ltb-true, eqb-true, lt-ltb, le-ltb, eq-eqb}
@@ -28,7 +28,7 @@ along-step : {z : Value} {p : ℕ} {m m′ : Machine} {H : List (Commit Bytes)} 
     → Good z p H (g .call) (bytesGiven (g .call) (g .bytes)) r m′ → Along z (suc p) (commitOf (place p) g r ++ H) m′
 along-step g (refused n) R G = record { inv = G; lawful = R .lawful; old = all-map (λ a h. omega arith) (R .old) }
 along-step g (done d) R G = record { inv = G; lawful = R .lawful; old = all-map (λ a h. omega arith) (R .old) }
-along-step {p = p} g (commit c t o) R G = rw (G .0) (record {
+along-step {z} {p} {m′ = m′} {H} g (commit c t o) R G = subst (λ (cs : List (Commit Bytes)). Along z (suc p) (cs ++ H) m′) (sym (G .0)) (record {
   inv = G .2;
   lawful = log-step (R .old) (G .1) (R .lawful);
   old = more {e = commitBy p c t o} (omega arith) (all-map (λ a h. omega arith) (R .old));

@@ -34,7 +34,9 @@ loop-again c =
       l .inv .0,
       omega arith,
       l .inv .2,
-      rw (l .inv .3, c .before .before .nibble .ensures, c .nibble2 .ensures) (unhex-more (a .out .now) (a .at) (a .digits .now) (l .i) (l .inv .0) (omega arith) (omega arith)),
+      rw (l .inv .3)
+          (unhex-more (a .out .now) (a .at) (a .digits .now) (l .i) _ (l .inv .0) (omega arith) (omega arith)
+          (omega (arith, c .before .before .nibble .ensures, c .nibble2 .ensures))),
       simp length-set (l .inv .4),
     )
 
