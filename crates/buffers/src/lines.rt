@@ -1,8 +1,8 @@
 // Copying one line's bytes to its place in a lent buffer.
 //
-// `copy_line` is the one function that copies a line; the others lend it the middle part of a buffer. Bytes
-// given in digits are decoded straight into that part. Each `requires` that the line and its place lie in
-// the buffer: `move_bytes`, which calls them, has looked.
+// `copy_line` is the one function that copies a line, into the middle part of a buffer that is lent to it;
+// the bytes that digits spell are decoded straight into such a part. Each function `requires` that the line
+// and its place lie in the buffer: `move_bytes`, which calls them, has looked.
 ghost use mathlib.Core.Path.{_≡_};
 ghost use Prim.Native.Nat.{_+_, _≤_};
 ghost use lib.ListN.{length, replicate};

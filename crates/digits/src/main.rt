@@ -2,8 +2,9 @@
 // with, and that nothing is stored where a call asks or is refused. What it prints is compared with what the second implementation
 // answers to the same calls.
 //
-// For each width, on an engine of two cores and two lines, it prints the answers to a list of calls and line 1 as core 1 sees it;
-// then how many of the stores with one wrong digit, at each position in turn, were refused with 13, and the line again.
+// For each width, on an engine of two cores and two lines, it prints the answers to a list of calls, each with digits of its own,
+// and line 1 as core 1 sees it; then how many of the stores with one wrong digit, at each position in turn, were refused with 13;
+// then both buffers.
 //
 // A list has five bytes for each call: its kind, a digit for the core, a digit for the line, which digits it is given, and a blank.
 // The kinds are S a store in digits, B the same on a state with a lease of 0, T the same with a private buffer that is a byte short,
@@ -27,8 +28,10 @@ const MOST_DIGITS: usize = 130;
 // The digits.
 const HEX: [u8; 16] = *b"0123456789abcdef";
 
-// The calls.
-const LIST: [u8; 130] =
+// How many calls there are, and the calls.
+const CALLS: usize = 26;
+
+const LIST: [u8; 5 * CALLS] =
     *b"S11r V1.. R1.. S11r S11x S11o S11l S11e S11f S11m S21r S21x S12r S12x S01r S01r S01x B11r B11x T11r \
       T11x M1.. S11r S11r S11x R0.. ";
 
@@ -55,12 +58,11 @@ fn print_record(n: u64, d: Returned, private: &[u8]) {
     write(&out, record);
 }
 
-// Prints a text, and line 1 as core 1 sees it.
-fn print_shown<'a>(text: &[u8], d: Returned, private: &'a [u8], shared: &'a [u8]) {
-    let mut out = [0u8; 256];
-    let bytes = engine::show(d.state, private, shared, 1, 1);
-    let shown = listing::put_with_data(&mut out, 0, text, Given::Bytes, bytes);
-    write(&out, shown);
+// Prints a text and bytes behind it.
+fn print_bytes(text: &[u8], bytes: &[u8]) {
+    let mut out = [0u8; 1024];
+    let line = listing::put_with_data(&mut out, 0, text, Given::Bytes, bytes);
+    write(&out, line);
 }
 
 // A call of a kind that is no store.
@@ -119,14 +121,14 @@ fn digit_count(which: u8, width: usize) -> usize
     }
 }
 
-// Digits that tell the bytes of a line apart, and the halves of a byte.
-fn spell(width: usize) -> [u8; MOST_DIGITS]
-    requires { ⌜ width ≤ 64 ⌝ }
+// Digits that tell the bytes of a line apart, and the halves of a byte; other digits for another number.
+fn spell(n: usize) -> [u8; MOST_DIGITS]
+    requires { ⌜ n ≤ 100 ⌝ }
 {
     let mut digits = [0u8; MOST_DIGITS];
     let mut i: usize = 0;
     while i < MOST_DIGITS {
-        digits[i] = HEX[(7 * i + width) % 16];
+        digits[i] = HEX[(7 * i + n) % 16];
         i += 1;
     }
     digits
@@ -160,7 +162,7 @@ fn number(b: u8) -> usize {
 }
 
 // Plays the list on a fresh engine of this width, and prints each answer.
-fn play(width: usize, private: &mut [u8], shared: &mut [u8], right: [u8; MOST_DIGITS]) -> Returned
+fn play(width: usize, private: &mut [u8], shared: &mut [u8]) -> Returned
     requires { ⌜ (1 ≤ width) × (width ≤ 64) ⌝ }
 {
     let o = engine::open(Opening {
@@ -177,16 +179,16 @@ fn play(width: usize, private: &mut [u8], shared: &mut [u8], right: [u8; MOST_DI
         count: 0,
         state,
     };
-    let mut digits = right;
     let mut i: usize = 0;
-    while i < 26 {
+    while i < CALLS {
         let at = 5 * i;
         let kind = LIST[at];
         let core = number(LIST[at + 1]);
         let line = number(LIST[at + 2]);
         let which = LIST[at + 3];
         let count = digit_count(which, width);
-        digits[0] = first_digit(which, right[0]);
+        let mut digits = spell(width + i);
+        digits[0] = first_digit(which, digits[0]);
         d = make(d, private, shared, kind, core, line, &digits[0..count]);
         print_record(i as u64 + 1, d, private);
         i += 1;
@@ -195,16 +197,11 @@ fn play(width: usize, private: &mut [u8], shared: &mut [u8], right: [u8; MOST_DI
 }
 
 // Stores with one wrong digit, at each position of a line's in turn, and prints how many were refused with 13.
-fn one_wrong(
-    from: Returned,
-    width: usize,
-    private: &mut [u8],
-    shared: &mut [u8],
-    right: [u8; MOST_DIGITS],
-) -> Returned
+fn one_wrong(from: Returned, width: usize, private: &mut [u8], shared: &mut [u8])
     requires { ⌜ (1 ≤ width) × (width ≤ 64) ⌝ }
 {
     let count = 2 * width;
+    let right = spell(width + CALLS);
     let mut d = from;
     let mut digits = right;
     let mut refused: u64 = 0;
@@ -220,18 +217,17 @@ fn one_wrong(
     io::write_all(STDOUT_FILENO, b"one wrong digit, refused=13: ");
     io::print_decimal(STDOUT_FILENO, refused);
     io::write_all(STDOUT_FILENO, b"\n");
-    d
 }
 
-// The list and the wrong digits, on an engine of this width and its buffers, with the line after each.
+// The list and the wrong digits, on an engine of this width and its buffers.
 fn play_all<'a>(width: usize, private: &'a mut [u8], shared: &'a mut [u8])
     requires { ⌜ (1 ≤ width) × (width ≤ 64) ⌝ }
 {
-    let digits = spell(width);
-    let mut d = play(width, private, shared, digits);
-    print_shown(b"shown data=", d, private, shared);
-    d = one_wrong(d, width, private, shared, digits);
-    print_shown(b"shown data=", d, private, shared);
+    let d = play(width, private, shared);
+    print_bytes(b"shown data=", engine::show(d.state, private, shared, 1, 1));
+    one_wrong(d, width, private, shared);
+    print_bytes(b"private data=", private);
+    print_bytes(b"shared data=", shared);
 }
 
 // All of it at one width.

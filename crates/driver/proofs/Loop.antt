@@ -73,31 +73,31 @@ module _ {j : Bytes} {from : Checkpoint} {p₀ q₀ old : Bytes} {o : Sizes} {ba
   -- ---- a step
 
   module _ {call : Call} {n start end next : ℕ} (x : StepDue j (there .at) (there .form) base o call n start end next) where
-    abbrev bs : Bytes
-    bs = part j start (end - start)
+    abbrev digits : Bytes
+    digits = part j start (end - start)
 
     abbrev m : Machine
     m = machine (there .state) p q
 
     abbrev reply : Reply
-    reply = step m call bs .reply
+    reply = step m call digits .reply
 
-    input : n ≡ inputRefusal m call bs
+    input : n ≡ inputRefusal m call digits
     input = rw (x .right, ← g .based, g .opening) (x .number)
 
     -- a step more, whose line was put
     stepped :
-        (s' : State) (p' q' out' : Bytes) (e : ℕ) (k : Counts) → machine s' p' q' ≡ step m call bs .machine → s' .opening ≡ o → k ≡ sum (there .counts) (countsOf call reply)
+        (s' : State) (p' q' out' : Bytes) (e : ℕ) (k : Counts) → machine s' p' q' ≡ step m call digits .machine → s' .opening ≡ o → k ≡ sum (there .counts) (countsOf call reply)
         → Written out used (recordText (place (there .counts .steps + 1)) reply) out' e
         → Reached j from p₀ q₀ old o base p' q' out' (checkpointAt next (there .form) k s') e
     stepped s' p' q' out' e k em eo ek v =
         record {
           start = g .start;
           opening = eo;
-          based = rw em (g .based ∙ still m call bs);
-          gs = g .gs ++ (entryOf call bs ∷ []);
-          leads = leads-more (g .leads) call bs (checkpointAt next (there .form) k s') p' q' (x .line) refl refl em ek;
-          text = v .before ∙ rw (g .text) (sym (lines-more (g .leads) call bs));
+          based = rw em (g .based ∙ still m call digits);
+          gs = g .gs ++ (entryOf call digits ∷ []);
+          leads = leads-more (g .leads) call digits (checkpointAt next (there .form) k s') p' q' (x .line) refl refl em ek;
+          text = v .before ∙ rw (g .text) (sym (lines-more (g .leads) call digits));
           fills = fills-more (g .fills) v;
         }
 
@@ -149,17 +149,17 @@ pub record StepInPlace (j : Bytes) (from : Checkpoint) (p₀ q₀ old : Bytes) :
   pub effect : d ≡ effectWith n call (piecesAt (there .state) c l) o
 
 module _ {j : Bytes} {from : Checkpoint} {p₀ q₀ old : Bytes} (s : StepInPlace j from p₀ q₀ old) where
-  -- its digits
-  abbrev digits : Bytes
-  digits = part j (s .start) (s .end - s .start)
+  -- what is given to it
+  abbrev given : Bytes
+  given = part j (s .start) (s .end - s .start)
 
   abbrev here : Machine
   here = machine (s .there .state) (s .p) (s .q)
 
   abbrev outcome : Outcome
-  outcome = step here (s .call) digits
+  outcome = step here (s .call) given
 
-  number-is : s .n ≡ inputRefusal here (s .call) digits
+  number-is : s .n ≡ inputRefusal here (s .call) given
   number-is = input (s .reached) (s .due)
 
   finds : Finds here (s .call) (s .v) (s .c) (s .l)
@@ -168,26 +168,26 @@ module _ {j : Bytes} {from : Checkpoint} {p₀ q₀ old : Bytes} (s : StepInPlac
       let w = s .about in
       record { named = rw (o, ← w) (s .named .is); core = rw (o, ← w) (s .core .is); line = rw (o, ← w) (s .line .is) }
 
-  effect-is : s .d ≡ made here (s .call) digits (s .n) number-is (s .v) (s .c) (s .l) finds
+  effect-is : s .d ≡ made here (s .call) given (s .n) number-is (s .v) (s .c) (s .l) finds
   effect-is = rw (s .reached .opening) (s .effect)
 
   -- the bytes beside the answer lie in the private buffer
   pub shows : BesideInside (s .d .answer) (s .o) (s .c) (s .l) (length (s .p))
-  shows = rw (effect-is, ← s .reached .opening) (is-inside here (s .call) digits (s .n) number-is (s .v) (s .c) (s .l) finds _ refl)
+  shows = rw (effect-is, ← s .reached .opening) (is-inside here (s .call) given (s .n) number-is (s .v) (s .c) (s .l) finds _ refl)
 
   -- the line that is put is the reply's
   abbrev line-put : Bytes
-  line-put = answerLine (s .there .counts .steps + 1) (s .w .act) (s .d .answer) digits (s .o) (s .p) (s .c) (s .l)
+  line-put = answerLine (s .there .counts .steps + 1) (s .w .act) (s .d .answer) given (s .o) (s .p) (s .c) (s .l)
 
   line-is : line-put ≡ recordText (place (s .there .counts .steps + 1)) (outcome .reply)
   line-is =
       rw (effect-is, s .about, ← s .reached .opening)
-      (reply-printed here (s .call) digits (s .n) number-is (s .v) (s .c) (s .l) finds (place (s .there .counts .steps + 1)) (s .due .right))
+      (reply-printed here (s .call) given (s .n) number-is (s .v) (s .c) (s .l) finds (place (s .there .counts .steps + 1)) (s .due .right))
 
   reply-is :
-      meaning (s .d .answer) (actBytes (s .w .act) (bytesGiven (s .call) digits) (beside (s .d .answer) (s .o) (s .p) (s .c) (s .l)))
+      meaning (s .d .answer) (actBytes (s .w .act) (bytesGiven (s .call) given) (beside (s .d .answer) (s .o) (s .p) (s .c) (s .l)))
       ≡ outcome .reply
-  reply-is = rw (effect-is, s .about, ← s .reached .opening) (replied here (s .call) digits (s .n) number-is (s .v) (s .c) (s .l) finds)
+  reply-is = rw (effect-is, s .about, ← s .reached .opening) (replied here (s .call) given (s .n) number-is (s .v) (s .c) (s .l) finds)
 
   counts-are :
       {k : Counts} → k ≡ sum (s .there .counts) (countsOf (s .call) (meaning (s .d .answer) []))
@@ -201,17 +201,17 @@ module _ {j : Bytes} {from : Checkpoint} {p₀ q₀ old : Bytes} (s : StepInPlac
   step-short out' put r y z e = no-room (s .reached) _ out' put r (aStep (s .due .line)) (rw line-is at y) z e
 
   machine-is :
-      (p' q' : Bytes) (g : Given) → g ≡ givenAs (s .w .act) → Moves (s .d .moves) (s .o) (s .c) (s .l) (bytesAs g digits) (s .p) (s .q) p' q'
+      (p' q' : Bytes) (g : Given) → g ≡ givenAs (s .w .act) → Moves (s .d .moves) (s .o) (s .c) (s .l) (bytesAs g given) (s .p) (s .q) p' q'
       → machine (written (s .there .state) (s .c) (s .l) (s .d)) p' q' ≡ outcome .machine
   unfolding accepted applied
   machine-is p' q' g h b =
-      let i = is-moved here (s .call) digits (s .n) number-is (s .v) (s .c) (s .l) finds p' q' (rw (h, s .about, effect-is, ← s .reached .opening) at b) in
-      rw (effect-is, i .0, i .1) (sym (ap (λ (x : Outcome). x .machine) (is-step here (s .call) digits (s .n) number-is (s .v) (s .c) (s .l) finds)))
+      let i = is-moved here (s .call) given (s .n) number-is (s .v) (s .c) (s .l) finds p' q' (rw (h, s .about, effect-is, ← s .reached .opening) at b) in
+      rw (effect-is, i .0, i .1) (sym (ap (λ (x : Outcome). x .machine) (is-step here (s .call) given (s .n) number-is (s .v) (s .c) (s .l) finds)))
 
   -- it was put, and the effect is written back
   pub step-made :
       (p' q' out' : Bytes) (put : Put) (e : ℕ) (k : Counts) (g : Given) → PutAt (s .out) (s .used) line-put out' put → put ≡ PutEnd e
-      → g ≡ givenAs (s .w .act) → Moves (s .d .moves) (s .o) (s .c) (s .l) (bytesAs g digits) (s .p) (s .q) p' q'
+      → g ≡ givenAs (s .w .act) → Moves (s .d .moves) (s .o) (s .c) (s .l) (bytesAs g given) (s .p) (s .q) p' q'
       → k ≡ sum (s .there .counts) (countsOf (s .call) (meaning (s .d .answer) []))
       → Reached j from p₀ q₀ old (s .o) (s .base) p' q' out'
       (checkpointAt (s .next) (s .there .form) k (written (s .there .state) (s .c) (s .l) (s .d))) e

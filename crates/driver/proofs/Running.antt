@@ -27,19 +27,19 @@ unfolding run
 run-records [] hs p m = ap (λ (k : ℕ). run hs k m .records) (omega arith)
 run-records (g ∷ gs) hs p m =
     let n : suc p + length gs ≡ p + suc (length gs) = omega arith in
-    rw (run-records gs hs (suc p) (step m (g .call) (g .bytes) .machine), n)
+    rw (run-records gs hs (suc p) (step m (g .call) (g .given) .machine), n)
 
 run-last : (gs hs : List Entry) (p : ℕ) (m : Machine) → run (gs ++ hs) p m .last ≡ run hs (p + length gs) (run gs p m .last) .last
 unfolding run
 run-last [] hs p m = ap (λ (k : ℕ). run hs k m .last) (omega arith)
 run-last (g ∷ gs) hs p m =
     let n : suc p + length gs ≡ p + suc (length gs) = omega arith in
-    rw (run-last gs hs (suc p) (step m (g .call) (g .bytes) .machine), n)
+    rw (run-last gs hs (suc p) (step m (g .call) (g .given) .machine), n)
 
 pub run-length : (gs : List Entry) (p : ℕ) (m : Machine) → length (run gs p m .records) ≡ length gs
 unfolding run
 run-length [] p m = refl
-run-length (g ∷ gs) p m = ap suc (run-length gs (suc p) (step m (g .call) (g .bytes) .machine))
+run-length (g ∷ gs) p m = ap suc (run-length gs (suc p) (step m (g .call) (g .given) .machine))
 
 -- ---- from one checkpoint to another
 
@@ -47,9 +47,9 @@ pub leads-none : (j : Bytes) (s : Checkpoint) (p q : Bytes) → Leads j s p q []
 unfolding run howMany
 leads-none j s p q = record { steps = noLine; form = refl; machine = refl; counts = sym (plus-none (s .counts)) }
 
--- a call with its bytes, and the record of it at a checkpoint
+-- a call with what is given to it, and the record of it at a checkpoint
 abbrev pub entryOf : Call → Bytes → Entry
-entryOf call bs = record { call = call; bytes = bs }
+entryOf call bs = record { call = call; given = bs }
 
 abbrev recordAt : Checkpoint → Bytes → Bytes → Call → Bytes → Record
 recordAt b p q call bs = record { place = place (b .counts .steps + 1); entry = entryOf call bs; reply = step (machine (b .state) p q) call bs .reply }

@@ -16,7 +16,7 @@ pub data Ending : Type 0 where
 
 -- a step of a journal: its call, given the digits of its `data=`, which lie from one offset up to another; a step without data is given nothing
 abbrev pub entryAt : Bytes → Call → ℕ → ℕ → Entry
-entryAt journal call start end = record { call = call; bytes = part journal start (end - start) }
+entryAt journal call start end = record { call = call; given = part journal start (end - start) }
 
 -- the lines of a journal of some form from one offset up to another spell these steps, one after the other
 pub data Between (journal : Bytes) (form : ℕ) : ℕ → List Entry → ℕ → Type 0 where

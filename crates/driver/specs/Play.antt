@@ -4,7 +4,7 @@ use Prim.Native.Nat.{ℕ, _+_, _-_, _≤_, _<_}
 use mathlib.Core.{Path._≡_, Bool.{Bool, true, false}, List.{List, [], _∷_, _++_}}
 use lib.{Dec.{leb, eqb}, ListN.{length, take, drop}}
 use denote.Ref.{RefT, now}
-use Rattle.protocol.specs.{Pick.{both, every, fails as untrue}, Fresh.{freshState, smallest}, Buffers.{Bytes, part}, Machine.machine, Refusals.openRefusal}
+use Rattle.protocol.specs.{Pick.{both, every, fails as untrue}, Fresh.{freshState, smallest}, Buffers.Bytes, Machine.machine, Refusals.openRefusal}
 use Rattle.protocol.specs.{Step.{openReply, step}, Run.{Entry, Run, place, run}, Counts.{nothingMet, sum, tally}, declared.Opening.Opening as Sizes}
 use Rattle.protocol.specs.declared.{Call.Call, Counts.Counts}
 use Rattle.journal.specs.{Journal.NextOf, declared.Next.the-variants.{Opening, Step}}
@@ -47,7 +47,7 @@ pub record Leads (journal : Bytes) (a : Checkpoint) (p q : Bytes) (gs : List Ent
 pub data Piece (journal : Bytes) (s : Checkpoint) (p q : Bytes) : Bytes → Type 0 where
   aStep :
       {call : Call} {start end next : ℕ} → NextOf journal (s .at) (s .form) (Step call start end next)
-      → Piece journal s p q (recordText (place (s .counts .steps + 1)) (step (machine (s .state) p q) call (entryAt journal call start end .bytes) .reply))
+      → Piece journal s p q (recordText (place (s .counts .steps + 1)) (step (machine (s .state) p q) call (entryAt journal call start end .given) .reply))
   theEnd : {e : Ending} → EndsAt journal (s .form) (s .at) e → Piece journal s p q (lastLines (s .counts) e)
 
 -- ---- the output

@@ -1,7 +1,7 @@
 // The parts of the driver's loop, which goes through the journal line by line. A function that has a
 // `requires` says what the loop knows where it calls it.
 ghost use mathlib.Core.{Path._≡_, Bool.true, List.[]};
-ghost use Prim.Native.Nat.{_≤_, _<_};
+ghost use Prim.Native.Nat.{_<_};
 ghost use lib.ListN.{length};
 ghost use Rattle.protocol.specs.{Refusals.{machineRefusal, callRefusal, orElse}, Run.place, Counts.{countsOf, oneOf, sum}};
 ghost use Rattle.protocol.specs.Step.{done, meaning};

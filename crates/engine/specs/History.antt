@@ -26,7 +26,7 @@ pub data MadeFrom : Machine → List Made → Type 0 where
   none : {m : Machine} → MadeFrom m []
   next :
       {m : Machine} {e : Made} {es : List Made}
-      → Performs m (e .entry .call) (e .entry .bytes) (e .returned) (e .private) (e .shared) → MadeFrom (left e) es → MadeFrom m (e ∷ es)
+      → Performs m (e .entry .call) (e .entry .given) (e .returned) (e .private) (e .shared) → MadeFrom (left e) es → MadeFrom m (e ∷ es)
 
 -- what a call answered, in the scope document's terms; a commit's bytes are read where the call says that they lie, in the private buffer as
 -- it left it

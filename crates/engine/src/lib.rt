@@ -145,32 +145,23 @@ pub fn load(s: State, private: &mut [u8], shared: &mut [u8], core: usize, line: 
     step(s, private, shared, Call::Load { core, line }, b"")
 }
 
-// A core stores the bytes given to a line.
+// A core stores bytes to a line.
 pub fn store(
     s: State,
     private: &mut [u8],
     shared: &mut [u8],
     core: usize,
     line: usize,
-    given: &[u8],
+    bytes: &[u8],
 ) -> Returned
-    ensures { λ r. ⌜ Makes (Call.Store Given.Bytes core line) (now (given .entry)) s («private» .entry) (shared .entry) r («private» .exit) (shared .exit) ⌝ }
+    ensures { λ r. ⌜ Makes (Call.Store Given.Bytes core line) (now (bytes .entry)) s («private» .entry) (shared .entry) r («private» .exit) (shared .exit) ⌝ }
 {
-    step(
-        s,
-        private,
-        shared,
-        Call::Store {
-            given: Given::Bytes,
-            core,
-            line,
-        },
-        given,
-    )
+    let given = Given::Bytes;
+    step(s, private, shared, Call::Store { given, core, line }, bytes)
 }
 
 // A core stores the bytes that digits spell, as `data=` has them, to a line: what `store` gives for those
-// bytes, or 13, before any other number, where they are no digits of bytes.
+// bytes; or 13, before any other number, where they spell none.
 pub fn store_digits(
     s: State,
     private: &mut [u8],
@@ -181,15 +172,12 @@ pub fn store_digits(
 ) -> Returned
     ensures { λ r. ⌜ Makes (Call.Store Given.Digits core line) (now (digits .entry)) s («private» .entry) (shared .entry) r («private» .exit) (shared .exit) ⌝ }
 {
+    let given = Given::Digits;
     step(
         s,
         private,
         shared,
-        Call::Store {
-            given: Given::Digits,
-            core,
-            line,
-        },
+        Call::Store { given, core, line },
         digits,
     )
 }

@@ -1,6 +1,6 @@
 -- Every journal reads in exactly one way.
 use Prim.Native.Nat.{ℕ, zero, suc, _-_, _≤_, _<_}
-use mathlib.Core.{Path.{_≡_, refl, sym, _∙_, ap, ap₂, subst}, List.{List, _∷_, _++_}}
+use mathlib.Core.{Path.{_≡_, refl, sym, _∙_, ap₂, subst}, List.{List, _∷_, _++_}}
 use native.Mathlib.Omega.{arith}
 use lib.ListN.{length}
 use Rattle.protocol.specs.{Buffers.Bytes, Run.Entry, declared.Call.Call}

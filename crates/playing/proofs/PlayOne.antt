@@ -33,7 +33,7 @@ passed :
 passed {j} {a = a} {p = p} {q = q} {gs = gs} {ks = ks} l (aStep {call = c} {start = start} {end = end} x) (aLine y r) =
     let g = entryAt j c start end in
     let s = step-same (rw (l .form) at x) y in
-    let e = ap length (lines-more l c (g .bytes)) ∙ length-append (linesFrom a p q gs) _ in
+    let e = ap length (lines-more l c (g .given)) ∙ length-append (linesFrom a p q gs) _ in
     let i = lines-grow (gs ++ (g ∷ [])) ks (a .counts .steps + 1) (machine (a .state) p q) in
     rw (s .entry, ← append-snoc gs g ks) (omega arith)
 passed l (theEnd x) (aLine y r) = absurd (no-end y (rw (l .form) at x))

@@ -63,7 +63,7 @@ last-length k (stopped n) =
 -- what is written next, whatever it is
 piece-length : {j : Bytes} {s : Checkpoint} {p q t : Bytes} → Piece j s p q t → length t ≤ pieceBytes
 piece-length {j} {s} {p} {q} (aStep {call = call} {start = start} {end = end} x) =
-    step-length (place (s .counts .steps + 1)) (machine (s .state) p q) call (entryAt j call start end .bytes)
+    step-length (place (s .counts .steps + 1)) (machine (s .state) p q) call (entryAt j call start end .given)
 piece-length {s = s} (theEnd {e = e} x) = last-length (s .counts) e
 
 -- the line of an opening, and the listing of a journal that opens no engine

@@ -1,16 +1,16 @@
--- What is given in digits: 13 is refused exactly where the digits spell nothing, and a store in digits is the store of the bytes spelt.
-use Prim.Native.Nat.{ℕ, _+_, _*_, _/_, _%_, _≤_, _<_}
-use mathlib.Core.{Path.{_≡_, refl, sym, _∙_, ap}, Bool.{Bool, true, false}, List.{List, [], _∷_}, Logic.{_⊎_, inl, inr, by-cases, ⊎-elim}}
+-- What is given in digits: 13 is answered exactly where the digits spell nothing, and a store in digits is the store of the bytes spelt.
+use Prim.Native.Nat.{ℕ, _%_}
+use mathlib.Core.{Path.{_≡_, refl, _∙_, ap}, Bool.{Bool, true, false}, List.{[], _∷_}, Logic.{_⊎_, inl, inr, ⊎-elim}}
 use native.Mathlib.Omega.{arith}
 use lib.{Dec.{leb, eqb}, ListN.length}
-use borrow.Author.Tests.{leb-true, le-leb, lt-leb, eqb-false, eqb-true, ne-eqb}
-use Rattle.spelling.specs.{Bytes.All, Hex.{hex, unhex, Spells, IsData, HexDigit}}
-use Rattle.spelling.proofs.{HexLaws.{spelt, spells-length, hex-digits, unhex-hex, unhex-length, data-spelt}, Decide.data-told}
+use borrow.Author.Tests.{leb-true, le-leb, lt-leb, eqb-false, ne-eqb}
+use Rattle.spelling.specs.{Bytes.All, Hex.{unhex, Spells, IsData, HexDigit}}
+use Rattle.spelling.proofs.HexLaws.{spelt, spells-length, hex-digits, unhex-hex, unhex-length}
 use Rattle.protocol.specs.{Pick.{pick, both, fails, every, first}, Buffers.Bytes, Given.{bytesAs, countAs}, Machine.Machine}
-use Rattle.protocol.specs.Refusals.{isDigit, digitRules, givenRefusal, callRules, callRefusal, stateRules, stateRefusal, refusal}
+use Rattle.protocol.specs.Refusals.{isDigit, digitRules, callRules, callRefusal, stateRules, stateRefusal, refusal}
 use Rattle.protocol.specs.{Tables.tableOf, Step.{refused, accepted, step}, Digits.DigitsTheorem}
 use Rattle.protocol.specs.declared.{Call.the-variants.Store, Given.{Given, the-variants.{Bytes as AsBytes, Digits as AsDigits}}}
-use Rattle.protocol.proofs.{Tests.{never, both-true}, Refusals.{not-true, passed}}
+use Rattle.protocol.proofs.{Tests.both-true, Refusals.{not-true, passed}}
 
 -- ---- the test of digits
 
@@ -37,7 +37,7 @@ digits-all (d ∷ ds) a = rw (digit-is d (a .0)) (digits-all ds (a .1))
 
 -- ---- 13
 
--- digits that 13 does not refuse spell the bytes of `unhex`
+-- digits that are not 13 spell the bytes of `unhex`
 pub right-digits : (ds : Bytes) → first (digitRules ds) ≡ 0 → Spells ds (unhex ds)
 unfolding digitRules
 right-digits ds e =
@@ -46,7 +46,7 @@ right-digits ds e =
     let c = passed (fails (every isDigit ds)) 13 [] (omega arith) (b .1) in
     spelt ds (all-digits ds (not-true (every isDigit ds) (c .0))) (omega (arith, eqb-false (length ds % 2) 1 (b .0))) (omega (arith, eqb-false (length ds) 0 (a .0)))
 
--- and what spells bytes 13 does not refuse
+-- and what spells bytes is not 13
 pub digits-right : (ds bs : Bytes) → Spells ds bs → first (digitRules ds) ≡ 0
 unfolding digitRules first
 digits-right ds bs s =
@@ -62,7 +62,7 @@ thirteen false true c = inr refl
 thirteen false false true = inr refl
 thirteen false false false = inl refl
 
--- what spells nothing it does
+-- what spells nothing is 13
 pub digits-wrong : (ds : Bytes) → (IsData ds → ⊥) → first (digitRules ds) ≡ 13
 unfolding digitRules first
 digits-wrong ds n =

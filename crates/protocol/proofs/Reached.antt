@@ -6,7 +6,7 @@ use Rattle.protocol.specs.{Buffers.Bytes, Machine.Machine, Step.step, Ru
 
 -- the record of a call at place p
 abbrev pub recorded : ℕ → Machine → Entry → Record
-recorded p m g = record { place = place p; entry = g; reply = step m (g .call) (g .bytes) .reply }
+recorded p m g = record { place = place p; entry = g; reply = step m (g .call) (g .given) .reply }
 
 -- records made after others, newest first
 unfoldable pub onto : List Record → List Record → List Record
@@ -15,11 +15,11 @@ onto (x ∷ xs) rs = onto xs (x ∷ rs)
 
 -- P p rs m: the machine m is reached before place p, with the records rs, newest first
 module _ (P : ℕ → List Record → Machine → Type 0)
-    (next : (p : ℕ) (rs : List Record) (m : Machine) (g : Entry) → P p rs m → P (suc p) (recorded p m g ∷ rs) (step m (g .call) (g .bytes) .machine)) where
+    (next : (p : ℕ) (rs : List Record) (m : Machine) (g : Entry) → P p rs m → P (suc p) (recorded p m g ∷ rs) (step m (g .call) (g .given) .machine)) where
   pub reached : (gs : List Entry) (p : ℕ) (rs : List Record) (m : Machine) → P p rs m → (p′ : ℕ) × P p′ (onto (run gs p m .records) rs) (run gs p m .last)
   unfolding run onto
   reached [] p rs m h = (p, h)
-  reached (g ∷ gs) p rs m h = reached gs (suc p) (recorded p m g ∷ rs) (step m (g .call) (g .bytes) .machine) (next p rs m g h)
+  reached (g ∷ gs) p rs m h = reached gs (suc p) (recorded p m g ∷ rs) (step m (g .call) (g .given) .machine) (next p rs m g h)
 
 -- ---- the commits of a run, in its order and newest first
 

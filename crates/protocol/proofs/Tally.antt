@@ -87,10 +87,10 @@ module _ {m : Machine} (arrays : Arrays (m .state)) where
       (arrays-written arrays q d, omega (arith, flow (commitBytes call (bytesGiven call given) (copyBytes (s .opening) (m .private) c (lineOf call s))) w, cores))
 
 -- a call more
-balance-more : {p : ℕ} {rs : List Record} {m : Machine} {g : Entry} → Balance rs m → Balance (recorded p m g ∷ rs) (step m (g .call) (g .bytes) .machine)
+balance-more : {p : ℕ} {rs : List Record} {m : Machine} {g : Entry} → Balance rs m → Balance (recorded p m g ∷ rs) (step m (g .call) (g .given) .machine)
 unfolding howMany
 balance-more {m = m} {g} b =
-    let f = flows (b .arrays) (g .call) (case-of m (g .call) (g .bytes)) in
+    let f = flows (b .arrays) (g .call) (case-of m (g .call) (g .given)) in
     record { arrays = f .0; asks = omega (arith, b .asks, f .1) }
 
 -- ---- a list of calls

@@ -8,7 +8,7 @@ use Rattle.protocol.specs.declared.Act.{Act, the-variants.{Load as Loads
 -- a call of a list, with what is given to it: a store's bytes, or the digits that spell them, as the call says; any other call passes over it
 pub record Entry : Type 0 where
   pub call : Call
-  pub bytes : Bytes
+  pub given : Bytes
 
 -- what is known of a call after it was made: its place in the list, the call, its answer
 pub record Record : Type 0 where
@@ -32,9 +32,9 @@ run [] p m = record { records = []; last = m }
 run (g ∷ gs) p m =
     record {
       records =
-          record { place = place p; entry = g; reply = step m (g .call) (g .bytes) .reply }
-          ∷ run gs (suc p) (step m (g .call) (g .bytes) .machine) .records;
-      last = run gs (suc p) (step m (g .call) (g .bytes) .machine) .last;
+          record { place = place p; entry = g; reply = step m (g .call) (g .given) .reply }
+          ∷ run gs (suc p) (step m (g .call) (g .given) .machine) .records;
+      last = run gs (suc p) (step m (g .call) (g .given) .machine) .last;
     }
 
 -- "A commit carries kind, core, timestamp and, but for a fence, line and bytes"; and the place of its call
@@ -67,7 +67,7 @@ commitAt p call given t o = actCommit (about call .act) p (namedCore (about call
 abbrev pub commitOf : Place → Entry → Reply → List (Commit Bytes)
 commitOf p g (refused n) = []
 commitOf p g (done d) = []
-commitOf p g (commit c t o) = commitAt p (g .call) (bytesGiven (g .call) (g .bytes)) t o
+commitOf p g (commit c t o) = commitAt p (g .call) (bytesGiven (g .call) (g .given)) t o
 
 -- the commits of a list of records
 unfoldable pub commits : List Record → List (Commit Bytes)

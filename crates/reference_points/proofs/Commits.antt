@@ -1,7 +1,7 @@
 -- The commits are as the definitions give them: antt runs the calls.
 use mathlib.Core.Path.{refl}
 use Rattle.protocol.specs.Run.{run, commits}
-use Rattle.reference_points.specs.Commits.{exchanges, committed, givenUp, givenUpCommits, inDigits, inDigitsCommits, Commits, CommitsTheorem}
+use Rattle.reference_points.specs.Commits.{exchanges, committed, givenUp, givenUpCommits, spelled, spelledCommits, Commits, CommitsTheorem}
 use Rattle.reference_points.proofs.Rows.{calling}
 
 first : Commits exchanges committed
@@ -12,7 +12,7 @@ second : Commits givenUp givenUpCommits
 unfolding calling run commits
 second = record { replies = refl; committed = refl }
 
-third : Commits inDigits inDigitsCommits
+third : Commits spelled spelledCommits
 unfolding calling run commits
 third = record { replies = refl; committed = refl }
 

@@ -23,4 +23,4 @@ line j form at s h =
 
 -- a call and what is given to it
 abbrev pub call : Call → Bytes → Entry
-call k bs = record { call = k; bytes = bs }
+call k bs = record { call = k; given = bs }

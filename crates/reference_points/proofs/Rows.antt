@@ -33,7 +33,7 @@ numbers-theorem = agree called turnedAway refusals refl
 
 pub spelt-theorem : SpeltTheorem
 unfolding calling
-spelt-theorem = record { rows = agree stored toldOf speltRows refl; numbers = agree called turnedAway digitRefusals refl }
+spelt-theorem = record { spelled = refl; rows = agree stored toldOf speltRows refl; numbers = agree called turnedAway digitRefusals refl }
 
 pub openings-theorem : OpeningsTheorem
 unfolding calling

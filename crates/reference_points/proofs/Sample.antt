@@ -58,6 +58,7 @@ sample-theorem =
       tally = counted opened;
       line = refl;
       reader = passed;
+      digits = refl;
       none = nothingMet;
       empty = nothing (refusedFirst (empty (lit≤ tt) (lit≤ tt) refl));
       zeros = refl;

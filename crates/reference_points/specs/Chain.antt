@@ -8,9 +8,9 @@ use Rattle.protocol.specs.declared.{Kind.the-variants.Fence as OfFence, Name.th
 use Rattle.engine.specs.History.{Made, MadeFrom, history}
 use Rattle.reference_points.specs.Commits.{aCommit}
 
--- a call, the bytes given to it, what it answers, and where the bytes of its commit lie: so many from a start in the private buffer
+-- a call, what is given to it, what it answers, and where the bytes of its commit lie: so many from a start in the private buffer
 pub data Expected : Type 0 where
-  expected : (call : Call) (bytes : Bytes) (answer : Answer) (start count : ℕ) → Expected
+  expected : (call : Call) (given : Bytes) (answer : Answer) (start count : ℕ) → Expected
 
 -- the calls made one after the other, from a machine on
 abbrev pub chain : Machine → List Expected → List Made
@@ -18,7 +18,7 @@ chain m [] = []
 chain m (expected call bs a start count ∷ ks) =
     let after = step m call bs .machine in
     record {
-      entry = record { call = call; bytes = bs };
+      entry = record { call = call; given = bs };
       returned = record { answer = a; start = start; count = count; state = after .state };
       private = after .private;
       shared = after .shared;

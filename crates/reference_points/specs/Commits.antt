@@ -16,10 +16,10 @@ small = opening 2 3 2 10
 
 -- a call, what is given to it, and what it answers
 pub data Exchange : Type 0 where
-  exchange : (call : Call) (bytes : Bytes) (reply : Reply) → Exchange
+  exchange : (call : Call) (given : Bytes) (reply : Reply) → Exchange
 
 abbrev pub entryOf : Exchange → Entry
-entryOf (exchange k bs r) = record { call = k; bytes = bs }
+entryOf (exchange k bs r) = record { call = k; given = bs }
 
 abbrev pub replyOf : Exchange → Reply
 replyOf (exchange k bs r) = r
@@ -64,8 +64,8 @@ givenUp =
     ∷ []
 
 -- core 1 stores to line 2, by bytes and by the digits that spell them; wrong digits are refused and store nothing (02, Three)
-abbrev pub inDigits : List Exchange
-inDigits =
+abbrev pub spelled : List Exchange
+spelled =
     exchange (Store AsDigits 1 2) (text "zz") (refused 13)
     ∷ exchange (Store AsDigits 1 2) (text "0708") (done ask)
     ∷ exchange (Serve 1) [] (done own)
@@ -95,8 +95,8 @@ committed =
 abbrev pub givenUpCommits : List (Commit Bytes)
 givenUpCommits = aCommit 4 1 1 (store 2 (5 ∷ 6 ∷ [])) ∷ aCommit 13 0 1 (load 2 (5 ∷ 6 ∷ [])) ∷ []
 
-abbrev pub inDigitsCommits : List (Commit Bytes)
-inDigitsCommits =
+abbrev pub spelledCommits : List (Commit Bytes)
+spelledCommits =
     aCommit 5 1 1 (store 2 (31 ∷ 160 ∷ []))
     ∷ aCommit 7 1 0 (load 2 (31 ∷ 160 ∷ []))
     ∷ aCommit 8 1 2 (store 2 (49 ∷ 50 ∷ []))
@@ -109,4 +109,4 @@ pub record Commits (xs : List Exchange) (cs : List (Commit Bytes)) : Type 0 wher
   pub committed : commitsOf small (map entryOf xs) ≡ cs
 
 abbrev pub CommitsTheorem : Type 0
-CommitsTheorem = Commits exchanges committed × Commits givenUp givenUpCommits × Commits inDigits inDigitsCommits
+CommitsTheorem = Commits exchanges committed × Commits givenUp givenUpCommits × Commits spelled spelledCommits

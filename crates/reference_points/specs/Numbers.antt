@@ -21,9 +21,9 @@ use Rattle.reference_points.specs.Rows.{withLine, Agree}
 abbrev pub usual : Pieces → Machine
 usual p = machineOf 10 p unmoved
 
--- a call on a machine, the bytes given to it, and its number
+-- a call on a machine, what is given to it, and its number
 pub data Refusal : Type 0 where
-  refusal : (number : ℕ) (on : Machine) (call : Call) (bytes : Bytes) → Refusal
+  refusal : (number : ℕ) (on : Machine) (call : Call) (given : Bytes) → Refusal
 
 abbrev pub called : Refusal → Outcome
 called (refusal n m call bs) = step m call bs

@@ -1,10 +1,11 @@
--- The lines that the program prints, byte for byte (01, "Journal and driver"; 02, Two).
+-- The lines that the program prints, byte for byte (01, "Journal and driver"; 02, Two and Three).
 use Prim.Native.Nat.{ℕ}
 use mathlib.Core.{Path._≡_, List.{List, [], _∷_, _++_}}
 use Rattle.protocol.specs.{Stamps.stamp, Buffers.Bytes, Step.{load, store, fence, Reply, refused, done, commit}, Run.place}
 use Rattle.protocol.specs.declared.{Counts.Counts, Name.the-variants.{Open, Ask, Recall, Share, Renew, Own, Drop, Evict, Writeback, Advance, Yield, Take}}
 use Rattle.spelling.specs.Text.{text}
-use Rattle.listing.specs.Record.{recordText, endText}
+use Rattle.protocol.specs.declared.Given.the-variants.{Digits as AsDigits}
+use Rattle.listing.specs.Record.{recordAs, recordText, endText}
 use Rattle.driver.specs.Listing.{ended, stopped, lastLines, notOpened}
 use Rattle.reference_points.specs.Rows.{Agree}
 
@@ -45,6 +46,20 @@ records =
     ∷ printed 12 (refused 30) (text "n=12 refused=30\n")
     ∷ []
 
+-- the data of a commit put from digits: "Listings are unchanged", so digits are printed as they are
+abbrev pub fromDigits : Printed → Bytes
+fromDigits (printed n r s) = recordAs AsDigits (place n) r
+
+abbrev pub digitRecords : List Printed
+digitRecords =
+    printed 7 (commit 3 (stamp 45) (store 6 (text "abcd"))) (text "n=7 commit=store core=3 line=6 ts=45 data=abcd\n")
+    ∷ printed 7 (commit 3 (stamp 45) (load 6 (text "abc"))) (text "n=7 commit=load core=3 line=6 ts=45 data=abc\n")
+    ∷ printed 7 (commit 3 (stamp 45) (store 6 [])) (text "n=7 commit=store core=3 line=6 ts=45 data=\n")
+    ∷ printed 8 (commit 3 (stamp 45) fence) (text "n=8 commit=fence core=3 ts=45\n")
+    ∷ printed 1 (done Ask) (text "n=1 done=ask\n")
+    ∷ printed 9 (refused 13) (text "n=9 refused=13\n")
+    ∷ []
+
 -- 12 steps were met, of which 3 committed and 4 were refused
 abbrev pub met : Counts
 met = record { steps = 12; commits = 3; refusals = 4; loads = 2; stores = 1; fences = 0; asks = 3; shares = 1; renews = 0; owns = 1 }
@@ -53,6 +68,7 @@ pub record RecordsTheorem : Type 0 where
   -- a text is its bytes in ASCII, and `\n` is the newline, 10
   pub bytes : text "n=0 az\n" ≡ 110 ∷ 61 ∷ 48 ∷ 32 ∷ 97 ∷ 122 ∷ 10 ∷ []
   pub records : Agree recorded printedLine records
+  pub digits : Agree fromDigits printedLine digitRecords
   -- "The end line counts step lines met, the one that ends the run too, commits, and `refused=` lines above it."
   pub end : endText met ≡ text "end=12 commits=3 refused=4\n"
   pub ended : lastLines met ended ≡ text "end=12 commits=3 refused=4\n"

@@ -1,12 +1,12 @@
 -- The store whose bytes are given in digits (02, Three), row by row: what it does to the core, its copy and the bytes; and its refusals, of which
 -- 13 is the first.
 use Prim.Native.Nat.{ℕ}
-use mathlib.Core.List.{List, [], _∷_, _++_, map}
+use mathlib.Core.{Path._≡_, List.{List, [], _∷_, _++_, map}}
 use Rattle.protocol.specs.{Stamps.stamp, Buffers.Bytes, Machine.{Machine, Pieces}, Step.{Reply, done, commit, store, Outcome, step}}
 use Rattle.protocol.specs.declared.{Call.the-variants.Store, Given.the-variants.Digits as AsDigits, Name.the-variants.Ask as ask}
 use Rattle.protocol.specs.declared.{Copy.the-variants.None as NoCopy, Slot.the-variants.Empty, Recall.the-variants.None as NoRecall}
 use Rattle.protocol.specs.declared.{Want.the-variants.Store as WantStore, Held.the-variants.{None as NothingHeld, Version}}
-use Rattle.spelling.specs.Text.{text}
+use Rattle.spelling.specs.{Text.text, Hex.unhex}
 use Rattle.reference_points.specs.Rows.{core, asked, askedElsewhere, sharedCopy, cleanCopy, dirtyCopy, pieces, sharedLine, ownedLine, busy, Places}
 use Rattle.reference_points.specs.Rows.{places, managerBytes, writebackBytes, answerBytes, unmoved, machineOf, Agree}
 use Rattle.reference_points.specs.Numbers.{Refusal, refusal, called, turnedAway, usual, idle, waiting, full, shortened, misowned}
@@ -147,5 +147,7 @@ digitRefusals =
     ∷ [])
 
 pub record SpeltTheorem : Type 0 where
+  -- two digits are a byte, and one that is left over is none
+  pub spelled : unhex (text "1fa0c") ≡ 31 ∷ 160 ∷ []
   pub rows : Agree stored toldOf speltRows
   pub numbers : Agree called turnedAway digitRefusals

@@ -2,8 +2,8 @@
 // a call, 1 to 7, 13, 20 to 27 and 30, is met. Three cores, two lines, a width of two bytes, a lease of 2.
 //
 // A list has five bytes for each call: its kind, a digit for the core, a digit for the line, one byte
-// more, and a blank. The kinds are L load, S store (the byte and a `-`), s store of no bytes, H store in
-// digits (the byte, four times), F fence, E evict, D drop, W writeback, A advance (by the digit), M advance by the greatest number,
+// more, and a blank. The kinds are L load, S store (the byte and a `-`), s store of no bytes,
+// H store in digits (the byte, four times), F fence, E evict, D drop, W writeback, A advance (by the digit), M advance by the greatest number,
 // V serve, R receive, Y yield and T take. The core and the line say besides what is shown.
 use super::print;
 use engine::Returned;
@@ -116,8 +116,8 @@ fn play(list: &[u8]) {
 // Calls 51 to 54: core 2 owns line 1 and stores. Calls 55 to 59: 3, 4, 5, 6 and 27.
 // Calls 60 to 69: core 2 writes line 1 back, which is no copy to drop, and the manager takes it; core 2
 // shares it, which is no copy to write back, loads it and drops it. On the way 30, 26 and 30.
-// Calls 70 to 76: core 2 owns line 1 and stores to it in digits. On the way 13, and 13 again where the slot
-// is in use.
+// Calls 70 to 76: core 2 asks for line 1 by a store in digits, owns it, and stores to it. On the way 13
+// twice, with the slot in use.
 pub(crate) fn play_all() {
     play(
         b"L00. L01. R00. V00. V00. R00. L00. S10a V10. R10. S10a L00. A003 L00. V00. Y10. Y10. T20. \

@@ -1,6 +1,6 @@
 -- Laws of bytes laid over a part of a buffer. Assumes nothing.
 use Prim.Native.Nat.{ℕ, suc, _+_, _*_, _/_, _%_, _≤_, _<_, _-_}
-use mathlib.Core.{Path.{_≡_, refl, sym, _∙_, ap, ap₂, subst}, Bool.{Bool, true, false, cond, not}, List.{List, [], _∷_, _++_, append-assoc, append-nil}}
+use mathlib.Core.{Path.{_≡_, refl, sym, _∙_, ap, ap₂}, Bool.{Bool, true, false, cond, not}, List.{List, [], _∷_, _++_, append-assoc, append-nil}}
 use native.Mathlib.{Omega.arith, Nat.add-zero, Numerals.add-one}
 use lib.ListN.{length, getD, take, drop, set, length-append, length-take, length-drop, take-append-drop}
 use lib.{Seq.{set-split, take-at, drop-at, take-length, length-take-le, take-append-le, drop-append-le, drop-append-seam, paste, paste-suc, drop-drop}, Dec.leb}

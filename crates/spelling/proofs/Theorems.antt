@@ -1,4 +1,4 @@
--- The theorems of specs/Theorems: reading numbers and data leaves no freedom, and what is printed is read back. Assumes nothing.
+-- The theorems of specs/Theorems: reading a number leaves no freedom, and what is printed is read back. Assumes nothing.
 use Prim.Native.Nat.{ℕ}
 use mathlib.Core.{Path.{_≡_, refl, sym, _∙_, ap}, List.List, Logic.⊎-elim}
 use native.Mathlib.Omega.{arith}

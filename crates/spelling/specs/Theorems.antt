@@ -1,5 +1,5 @@
--- What is proved of the spelling: reading leaves no freedom, what is printed is read back as it was, and what is read prints as it
--- was. Assumes nothing.
+-- What is proved of the spelling: reading a number leaves no freedom, what is printed is read back as it was, and what is read prints as
+-- it was. Assumes nothing.
 use Prim.Native.Nat.{ℕ, _≤_}
 use mathlib.Core.{Path._≡_, List.List}
 use Rattle.spelling.specs.{Bytes.{All, Byte}, One.One, Decimal.{decimal, greatest, NumberOf}, Hex.{hex, unhex, IsData}}

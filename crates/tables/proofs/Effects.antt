@@ -8,7 +8,7 @@ use Rattle.protocol.specs.{Pick.pick, Fresh.{freshCore, freshCell, freshLine}}
 use Rattle.protocol.specs.Buffers.{Bytes, part, copyStart, copyBytes, There, givenFits, movedPrivate, movedShared}
 use Rattle.protocol.specs.{Given.{givenAs, bytesGiven}, Machine.{Machine, coreAt, copyAt, lineAt, Pieces, coreOf, lineOf, applied}}
 use Rattle.protocol.specs.Refusals.{givenRefusal, wrongCount, buffersFit, machineRefusal, callRefusal, stateRefusal, refusal, orElse}
-use Rattle.protocol.specs.Step.{refused, meaning, Outcome, commitBytes, accepted, step}
+use Rattle.protocol.specs.Step.{refused, meaning, commitBytes, accepted, step}
 use Rattle.protocol.specs.{declared.{Opening.Opening, Call.Call, Effect.Effect, Answer.the-variants.Refused, Move.the-variants.Still}, About.about}
 use Rattle.protocol.specs.Tables.{row, refusedRow, loadOwned, storeTable, fenceTable, advanceTable, evictTable, serveLoad, serveAsked, receiveRenew, receiveGrant}
 use Rattle.protocol.specs.Tables.{yieldTable, takeTable, effectOf}

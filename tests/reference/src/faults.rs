@@ -43,6 +43,12 @@ faults! {
     StoreAtRts "store-at-rts" "a store commits at rts, where a shared reader may stand"
     RenewalRevives "renewal-revives" "a renewal makes an evicted copy again"
     TiesByCore "ties-by-core" "commits of equal timestamp are sorted by core"
+    // Of the store whose bytes are given in digits (02, "Store bytes without the scratch line").
+    SwapsHalves "swaps-halves" "a store stores the halves of each byte swapped, and prints them right"
+    StoresOnePlaceOff "stores-one-place-off" "a store's bytes lie one place off"
+    StoresHalfALine "stores-half-a-line" "a store stores the first half of its bytes"
+    AskStores "ask-stores" "a store that asks writes its bytes"
+    Refusal27Stores "refusal-27-stores" "a store that is refused with 27 writes its bytes"
     // Named in 01, "Handshake".
     AlwaysAsks "always-asks" "every load and store asks and nothing ever commits"
     ServeMovesNothing "serve-moves-nothing" "a serve moves no bytes"
@@ -449,11 +455,46 @@ impl Faulty {
             Fault::DropAnswersEvict | Fault::WritebackAnswersEvict | Fault::EvictAnswersByCopy => {
                 self.other_answer(step, before, answer)
             }
+            Fault::SwapsHalves
+            | Fault::StoresOnePlaceOff
+            | Fault::StoresHalfALine
+            | Fault::AskStores
+            | Fault::Refusal27Stores => self.misstored(step, before, answer),
             Fault::RefusalChangesClock => self.refusal_changes_clock(step, answer),
             Fault::RefusalChangesBytes => self.refusal_changes_bytes(answer),
             Fault::OtherCoreTs => self.other_core_ts(answer),
             _ => answer,
         }
+    }
+
+    /// What a store leaves in its copy's place, whatever it prints: the bytes that
+    /// its digits spell, but wrong, or where nothing is to be stored.
+    fn misstored(&mut self, step: &Step, before: &Machine, answer: Answer) -> Answer {
+        let Step::Store { core, line, data } = *step else {
+            return answer;
+        };
+        let hit = match self.fault {
+            Fault::AskStores => answer == Answer::Ask,
+            Fault::Refusal27Stores => answer == Answer::Refused(27),
+            _ => matches!(answer, Answer::Commit(_)),
+        };
+        if !hit {
+            return answer;
+        }
+        let bytes = data.as_slice();
+        let place = self.machine.private_place(core, line);
+        let private = &mut self.machine.private;
+        private.clone_from(&before.private);
+        let places = private[place.start..].iter_mut();
+        match self.fault {
+            Fault::SwapsHalves => places.zip(bytes).for_each(|(to, byte)| *to = byte.rotate_left(4)),
+            Fault::StoresOnePlaceOff => places.skip(1).zip(bytes).for_each(|(to, byte)| *to = *byte),
+            Fault::StoresHalfALine => {
+                places.zip(&bytes[..bytes.len() / 2]).for_each(|(to, byte)| *to = *byte)
+            }
+            _ => places.zip(bytes).for_each(|(to, byte)| *to = *byte),
+        }
+        answer
     }
 
     /// The copy that a step named, before it.

@@ -93,8 +93,13 @@ fn wrong_digits_come_first() {
 const LIST: &str = "S11r V1.. R1.. S11r S11x S11o S11l S11e S11f S11m S21r S21x S12r S12x S01r S01r S01x B11r B11x T11r \
                     T11x M1.. S11r S11r S11x R0..";
 
-/// The digits of a call: `right` are those of a line and one byte more.
-fn digits_of(which: u8, right: &[u8], width: usize) -> Vec<u8> {
+/// Digits of a line and one byte more: other digits for another number.
+fn right(n: usize) -> Vec<u8> {
+    (0..130).map(|i| b"0123456789abcdef"[(7 * i + n) % 16]).collect()
+}
+
+/// The digits of the call at a place of the list.
+fn digits_of(which: u8, width: usize, at: usize) -> Vec<u8> {
     let count = match which {
         b'o' => 2 * width - 1,
         b'l' => 2 * width + 1,
@@ -103,7 +108,7 @@ fn digits_of(which: u8, right: &[u8], width: usize) -> Vec<u8> {
         b'e' => 0,
         _ => 2 * width,
     };
-    let mut digits = right[..count].to_vec();
+    let mut digits = right(width + at)[..count].to_vec();
     if which == b'x' {
         digits[0] = b'g';
     }
@@ -132,32 +137,32 @@ fn made(machine: &mut Machine, kind: u8, core: u32, line: u32, digits: &[u8]) ->
     }
 }
 
-fn write_shown(out: &mut Vec<u8>, machine: &Machine) {
-    out.extend_from_slice(b"shown data=");
-    write_hex(out, machine.show(1, 1));
+fn write_bytes(out: &mut Vec<u8>, text: &str, bytes: &[u8]) {
+    out.extend_from_slice(text.as_bytes());
+    write_hex(out, bytes);
     out.push(b'\n');
 }
 
 /// What the program prints at one width.
 fn printed(width: usize) -> Vec<u8> {
-    let right: Vec<u8> = (0..130).map(|i| b"0123456789abcdef"[(7 * i + width) % 16]).collect();
     let mut machine = Machine::open(Sizes { cores: 2, lines: 2, width: width as u32, lease: 10 }).unwrap();
     let mut out = format!("width={width}\n").into_bytes();
     for (at, call) in LIST.split(' ').map(str::as_bytes).enumerate() {
-        let digits = digits_of(call[3], &right, width);
+        let digits = digits_of(call[3], width, at);
         let number = |byte: u8| u32::from(byte & 15);
         let answer = made(&mut machine, call[0], number(call[1]), number(call[2]), &digits);
         write_record(&mut out, &Record { place: at as u32 + 1, step: None, answer });
     }
-    write_shown(&mut out, &machine);
+    write_bytes(&mut out, "shown data=", machine.show(1, 1));
     let one_wrong = |&at: &usize| {
-        let mut digits = right[..2 * width].to_vec();
+        let mut digits = right(width + LIST.split(' ').count())[..2 * width].to_vec();
         digits[at] = b'g';
         machine.store_digits(1, 1, &digits) == Answer::Refused(13)
     };
     let refused = (0..2 * width).filter(one_wrong).count();
     out.extend_from_slice(format!("one wrong digit, refused=13: {refused}\n").as_bytes());
-    write_shown(&mut out, &machine);
+    write_bytes(&mut out, "private data=", &machine.private);
+    write_bytes(&mut out, "shared data=", &machine.shared);
     out
 }
 

@@ -8,11 +8,11 @@ use Rattle.digits.proofs.one_wrong.Statement.{statement}
 use Rattle.digits.proofs.one_wrong.Tie as tie
 
 abbrev Inv-loop : tie.InvT-loop
-Inv-loop width private₀ shared₀ right count d₀ digits₀ refused₀ i₀ t13 t14 private shared d digits refused i =
+Inv-loop width private₀ shared₀ count right d₀ digits₀ refused₀ i₀ t12 t13 private shared d digits refused i =
     (i ≤ count) × (count ≤ 128) × (length digits ≡ 130) × (length private ≡ length private₀) × (length shared ≡ length shared₀)
 
 abbrev μ-loop : tie.MeasureT-loop
-μ-loop width private₀ shared₀ right count d₀ digits₀ refused₀ i₀ t13 t14 private shared d digits refused i = count - i
+μ-loop width private₀ shared₀ count right d₀ digits₀ refused₀ i₀ t12 t13 private shared d digits refused i = count - i
 
 loop-again : tie.Need-loop-again Inv-loop μ-loop
 loop-again c =
@@ -27,7 +27,8 @@ one-wrong-spec =
     (tie.spec
     Inv-loop
     μ-loop
-    (λ c. search needs) (λ c. search needs) (λ c. search needs) (λ c. search needs) (λ c. search needs) (λ c. simp length-set (omega arith))
+    (λ c. search needs) (λ c. search needs) (λ c κs. search needs) (λ c. search needs) (λ c. search needs) (λ c. search needs) (λ c. search needs)
+    (λ c. simp length-set (omega arith))
     (λ c κs. search needs) (λ c. search needs) (λ c. search needs) (λ c κs. search needs) (λ c κs. search needs) (λ c. search needs) (λ c. search needs) loop-again
     (λ c. search needs) (λ c κs. search needs) (λ c κs. search needs) (λ c. search needs) (λ c κs. search needs) (λ c. search needs) (λ c. search needs)
     (λ c. search needs))

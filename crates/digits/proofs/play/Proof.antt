@@ -1,25 +1,24 @@
 -- The list has 26 calls; the buffers keep their lengths.
 use Prim.Native.Nat.{_≤_, _-_}
 use mathlib.Core.Path.{_≡_, _∙_}
-use borrow.Author.Needs.{needs}
 use native.Mathlib.Omega.{arith}
+use borrow.Author.Needs.{needs}
 use lib.ListN.{length, length-set}
 use Rattle.digits.proofs.play.Statement.{statement}
 use Rattle.digits.proofs.play.Tie as tie
 
 abbrev Inv-loop : tie.InvT-loop
-Inv-loop width private₀ shared₀ right d₀ digits₀ i₀ private shared d digits i =
-    (i ≤ 26) × (length digits ≡ 130) × (length private ≡ length private₀) × (length shared ≡ length shared₀)
+Inv-loop width private₀ shared₀ d₀ i₀ private shared d i = (i ≤ 26) × (length private ≡ length private₀) × (length shared ≡ length shared₀)
 
 abbrev μ-loop : tie.MeasureT-loop
-μ-loop width private₀ shared₀ right d₀ digits₀ i₀ private shared d digits i = 26 - i
+μ-loop width private₀ shared₀ d₀ i₀ private shared d i = 26 - i
 
 loop-again : tie.Need-loop-again Inv-loop μ-loop
 loop-again c =
     let p = c .before .before .before .before .before in
-    let t = p .before .before .before .before .before .before .before .before .before .before in
+    let t = p .before .before .before .before .before .before .before .before .before .before .before in
     let l = t .before .loop in
-    (omega (arith, t .loop-test .taken), simp length-set (l .inv .1), p .private .given ∙ l .inv .2, c .before .before .before .shared .given ∙ l .inv .3)
+    (omega (arith, t .loop-test .taken), p .private .given ∙ l .inv .1, c .before .before .before .shared .given ∙ l .inv .2)
 
 pub play-spec : {M : Type 1} → statement M
 play-spec =
@@ -29,6 +28,6 @@ play-spec =
     μ-loop
     (λ c κs. search needs) (λ c. search needs) (λ c. search needs) (λ c. search needs) (λ c. search needs) (λ c. search needs) (λ c κs. search needs)
     (λ c. search needs) (λ c. search needs) (λ c κs. search needs) (λ c. search needs) (λ c. search needs) (λ c κs. search needs) (λ c. search needs)
-    (λ c κs. search needs) (λ c. search needs) (λ c. search needs) (λ c. search needs) (λ c. simp length-set (omega arith)) (λ c κs. search needs)
-    (λ c. search needs) (λ c κs. search needs) (λ c. search needs) (λ c. search needs) loop-again (λ c. search needs) (λ c. search needs)
-    (λ c. search needs))
+    (λ c κs. search needs) (λ c. search needs) (λ c κs. search needs) (λ c. search needs) (λ c. search needs) (λ c. search needs)
+    (λ c. simp length-set (omega arith)) (λ c κs. search needs) (λ c. search needs) (λ c κs. search needs) (λ c. search needs) (λ c. search needs)
+    loop-again (λ c. search needs) (λ c. search needs) (λ c. search needs))

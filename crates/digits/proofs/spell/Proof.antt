@@ -7,10 +7,10 @@ use Rattle.digits.proofs.spell.Statement.{statement}
 use Rattle.digits.proofs.spell.Tie as tie
 
 abbrev Inv-loop : tie.InvT-loop
-Inv-loop width digits₀ i₀ digits i = (i ≤ 130) × (length digits ≡ 130)
+Inv-loop n digits₀ i₀ digits i = (i ≤ 130) × (length digits ≡ 130)
 
 abbrev μ-loop : tie.MeasureT-loop
-μ-loop width digits₀ i₀ digits i = 130 - i
+μ-loop n digits₀ i₀ digits i = 130 - i
 
 pub spell-spec : {M : Type 1} → statement M
 spell-spec =

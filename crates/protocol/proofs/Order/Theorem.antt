@@ -25,7 +25,7 @@ record Along (z : Value) (p : ℕ) (H : List (Commit Bytes)) (m : Machine) : Typ
   old : All (λ a. a .place .0 < p) H
 
 along-step : {z : Value} {p : ℕ} {m m′ : Machine} {H : List (Commit Bytes)} (g : Entry) (r : Reply) → Along z p H m
-    → Good z p H (g .call) (bytesGiven (g .call) (g .bytes)) r m′ → Along z (suc p) (commitOf (place p) g r ++ H) m′
+    → Good z p H (g .call) (bytesGiven (g .call) (g .given)) r m′ → Along z (suc p) (commitOf (place p) g r ++ H) m′
 along-step g (refused n) R G = record { inv = G; lawful = R .lawful; old = all-map (λ a h. omega arith) (R .old) }
 along-step g (done d) R G = record { inv = G; lawful = R .lawful; old = all-map (λ a h. omega arith) (R .old) }
 along-step {z} {p} {m′ = m′} {H} g (commit c t o) R G = subst (λ (cs : List (Commit Bytes)). Along z (suc p) (cs ++ H) m′) (sym (G .0)) (record {
@@ -92,7 +92,7 @@ order-theorem o accepted gs =
 
     log : (p : ℕ) × Along z p (commits (onto records [])) (run gs 1 (freshMachine o) .last)
     log =
-        reached (λ p rs m. Along z p (commits rs) m) (λ p rs m g R. along-step g (step m (g .call) (g .bytes) .reply) R (step-good z p (R .inv) (g .call) (g .bytes)))
+        reached (λ p rs m. Along z p (commits rs) m) (λ p rs m g R. along-step g (step m (g .call) (g .given) .reply) R (step-good z p (R .inv) (g .call) (g .given)))
         gs 1 [] (freshMachine o) (record { inv = inv-fresh o (opening-fit o accepted); lawful = start; old = none })
 
 -- ---- the sorted order is one
@@ -118,7 +118,7 @@ made-at p g (refused n) = no-commit
 made-at p g (done d) = no-commit
 made-at p g (commit c t o) = go (about (g .call) .act)
   where
-    go : (a : Act) → OneAtMost p (actCommit a (place p) (namedCore (about (g .call) .core)) (namedLine (about (g .call) .line)) (bytesGiven (g .call) (g .bytes)) t o)
+    go : (a : Act) → OneAtMost p (actCommit a (place p) (namedCore (about (g .call) .core)) (namedLine (about (g .call) .line)) (bytesGiven (g .call) (g .given)) t o)
     go Load = one-commit refl
     go (Store g) = one-commit refl
     go Fence = one-commit refl
@@ -173,7 +173,7 @@ sort-theorem o gs = record {
 
     log : (p : ℕ) × Sequenced p (commits (onto records []))
     log =
-        reached (λ p rs m. Sequenced p (commits rs)) (λ p rs m g P. sequenced-more p (commits rs) (made-at p g (step m (g .call) (g .bytes) .reply)) P)
+        reached (λ p rs m. Sequenced p (commits rs)) (λ p rs m g P. sequenced-more p (commits rs) (made-at p g (step m (g .call) (g .given) .reply)) P)
         gs 1 [] (freshMachine o) (record { apart = no-commits; old = none })
 
 -- ---- the test of keys

@@ -1,5 +1,5 @@
 -- `spelling::put_unhex` meets its contract. The invariant: there is room, and the buffer holds the bytes of the digits that were passed. Assumes nothing.
-use Prim.Native.Nat.{ℕ, _≤_, _+_, _*_, _/_, _-_}
+use Prim.Native.Nat.{ℕ, _≤_, _+_, _-_}
 use mathlib.Core.Path.{_≡_, refl, _∙_, ap}
 use native.Mathlib.Omega.{arith}
 use borrow.Author.Needs.{needs}

@@ -1,4 +1,4 @@
--- `driver::one_line::put_answer` meets its contract: a store's bytes are those given, those of any other call lie in the private buffer. Assumes nothing.
+-- `driver::one_line::put_answer` meets its contract: a store's data are those given, the bytes of any other call lie in the private buffer. Assumes nothing.
 use Prim.Native.Nat.{_+_, _-_, _≤_}
 use lib.ListN.{length}
 use mathlib.Core.Path.{_≡_, sym, _∙_}

@@ -1,6 +1,6 @@
 -- Digits are looked at, bytes are not.
 use mathlib.Core.Path.{sym, subst}
-use borrow.Author.{Needs.needs, Tests.{not-true, not-false}}
+use borrow.Author.Needs.{needs}
 use Rattle.spelling.specs.Hex.{DataTest}
 use Rattle.protocol.proofs.Digits.{digits-right, digits-wrong}
 use Rattle.refusals.proofs.input.given_refusal.Statement.{statement}
