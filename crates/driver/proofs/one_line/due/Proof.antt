@@ -1,6 +1,8 @@
 -- `driver::one_line::due` meets its contract: what is known of the line there. Assumes nothing.
-use mathlib.Core.Path.{subst}
+use Prim.Native.Nat.{ℕ}
+use mathlib.Core.Path.{sym, _∙_, ap, subst}
 use native.Mathlib.Omega.{arith}
+use Rattle.protocol.specs.Refusals.{callRefusal, orElse}
 use Rattle.journal.specs.Journal.{NextOf}
 use Rattle.driver.specs.{Listing.{atEnd, atRefusal}, Pieces.{aStep, theEnd}, declared.Last.the-variants.Refused}
 use Rattle.driver.proofs.{Reading.known, one_line.due.Statement.statement}
@@ -22,13 +24,14 @@ returns-4 c =
     let s = c .before .before in
     let x = subst (NextOf _ _ _) (s .call .given .1) (s .before .before .step-at .ensures) in
     let k = known x .1 in
+    let a = s .before .before .before .before .args in
     aStep
     (record {
       line = x;
       order = k .order;
       ends = k .ends;
       right = k .right;
-      number = rw (← k .count) at (c .number-of .ensures);
+      number = c .number-of .ensures ∙ ap (λ (n : ℕ). orElse (a .base) (callRefusal (s .call .given .0 .0) (a .opening) n)) (sym (k .count));
       forward = k .forward;
       inside = k .inside;
     })
