@@ -6,19 +6,19 @@ use mathlib.Core.{Path.{_≡_, refl, sym}, Bool.{Bool, true, false}, List.[]}
 use native.Mathlib.Omega.{arith}
 use lib.{Dec.{leb, eqb}, ListN.length}
 use borrow.Author.Tests.{leb-true, leb-false, lt-ltb, eqb-true}
-use Rattle.protocol.specs.{Pick.{pick, both, fails}, Stamps.canAdd, Buffers.{Bytes, There}, Given.bytesGiven}
+use Rattle.protocol.specs.{Pick.{pick, both, fails}, Stamps.canAdd, Buffers.{Bytes, There}, Copies.{isHeld, isShared, isOwned}, Given.bytesGiven}
 use Rattle.protocol.specs.Machine.{Machine, Pieces, piecesAt, coreAt, copyAt, lineAt, slotLine, ownerOf, coreOf, lineOf, applied}
-use Rattle.protocol.specs.Refusals.{isEmpty, isAsked, isAnswered, isHeld, isShared, isOwned, hasOwner, stands, inFlight, loadAsks, storePasses}
+use Rattle.protocol.specs.Refusals.{isEmpty, isAsked, isAnswered, hasOwner, stands, inFlight, loadAsks, storePasses}
 use Rattle.protocol.specs.Refusals.{servePasses, stateRules, stateRefusal, refusal}
 use Rattle.protocol.specs.Tables.{refusedRow, asking, loadOwned, loadShared, loadTable, storeTable, fenceTable, advanceTable, evictTable, sameVersion}
-use Rattle.protocol.specs.Tables.{leasedTo, serveLoad, serveAsked, serveTable, receiveRenew, receiveGrant, receiveTable, yieldTable, takeTable, tableOf}
+use Rattle.protocol.specs.Tables.{leasedTo, serveLoad, serveAsked, serveTable, receiveRenew, receiveGrant, receiveTable, yieldTable, takeTable, victimTable, tableOf}
 use Rattle.protocol.specs.{Tables.effectOf, Step.{refused, Outcome, accepted, step}}
 use Rattle.protocol.specs.declared.{Stamp.Stamp, Copy.{Copy, the-variants.{None as NoCopy, Shared as CopyShared, Owned as CopyOwned}}}
 use Rattle.protocol.specs.declared.{Want.{Want, the-variants.{Load as WantLoad, Store as WantStore}}, Held.Held}
 use Rattle.protocol.specs.declared.{Slot.{Slot, the-variants.{Empty, Asked, Answered}}, Manager.{Manager, the-variants.{Shared, Owned}}}
 use Rattle.protocol.specs.declared.{Writeback.{Writeback, the-variants.{None as NoWriteback, Flight}}, Opening.Opening, State.State}
 use Rattle.protocol.specs.declared.Call.{Call, the-variants.{Load, Store, Fence, Evict, Drop, Writeback as WriteBack, Advance}}
-use Rattle.protocol.specs.declared.{Call.the-variants.{Serve, Receive, Yield, Take}, Given.Given, Effect.Effect}
+use Rattle.protocol.specs.declared.{Call.the-variants.{Serve, Receive, Yield, Take, Victim}, Given.Given, Effect.Effect}
 use Rattle.protocol.specs.declared.Name.{Name, the-variants.{Drop as Dropped, Evict as Evicted, Writeback as WrittenBack}}
 use Rattle.protocol.specs.declared.Grant.the-variants.{Share as GrantShare, Renew as GrantRenew, Own as GrantOwn}
 use Rattle.protocol.proofs.{Tests.{never, both-true, both-false}, Refusals.{not-true, passed, machine-fit, call-there, NotRefused, not-refused}}
@@ -65,6 +65,7 @@ pub data Row (c l : ℕ) (p : Pieces) (o : Opening) : Call → Effect → Type 0
   yields : {d : Bool} {w r : Stamp} → p .copy ≡ CopyOwned d w r → p .line .manager ≡ Owned c → stands (p .line .recall) ≡ true
       → Row c l p o (Yield l) (yieldTable (CopyOwned d w r) p)
   takes : {w r : Stamp} → p .line .writeback ≡ Flight w r → Row c l p o (Take l) (takeTable (Flight w r) p)
+  names-victim : Row c l p o (Victim c) (victimTable p)
 
 -- the owner of an owned line
 owner-is : (v : Manager) → hasOwner v ≡ true → v ≡ Owned (ownerOf v)
@@ -176,12 +177,13 @@ row-of s (Advance c by) h = advances (not-true _ (passed _ 27 [] (omega arith) h
 row-of s (Serve c) h =
     let a = passed _ 21 _ (omega arith) h in
     serve-row c _ (coreAt s c .slot) refl refl (not-true _ (a .0)) (passed _ 27 [] (omega arith) (a .1) .0)
-row-of s (Receive c) h = receive-row c _ (coreAt s c .slot) refl refl (not-true _ (passed _ 22 [] (omega arith) h .0))
+row-of s (Receive c) h = receive-row c _ (coreAt s c .slot) refl refl (not-true _ (passed _ 22 _ (omega arith) h .0))
 row-of s (Yield l) h =
     let a = passed _ 23 _ (omega arith) h in
     let b = both-true (hasOwner (lineAt s l .manager)) (stands (lineAt s l .recall)) (not-true _ (a .0)) in
     yield-row _ l (copyAt s (coreOf (Yield l) s) l) refl (not-true _ (passed _ 24 [] (omega arith) (a .1) .0)) (owner-is (lineAt s l .manager) (b .0)) (b .1)
 row-of s (Take l) h = take-row _ l (lineAt s l .writeback) refl (not-true _ (passed _ 25 [] (omega arith) h .0))
+row-of s (Victim c) h = names-victim
 
 -- what a call makes of the pieces that it is about: a refusal of 20 and up, or a row
 pub effect-case : (P : Effect → Type 0) (s : State) (call : Call) → ((n : ℕ) → P (refusedRow n (piecesOf call s))) → ((d : Effect) → RowOn s call d → P d)

@@ -10,7 +10,7 @@ use Rattle.protocol.proofs.{Tests.both-true, Bytes.row-le}
 
 -- ---- the opening
 
--- sizes and lease inside the limits
+-- sizes, lease and capacity inside the limits
 pub record Inside (o : Opening) : Type 0 where
   pub someCores : 1 ≤ o .cores
   pub mostCores : o .cores ≤ 16
@@ -20,6 +20,8 @@ pub record Inside (o : Opening) : Type 0 where
   pub mostWidth : o .width ≤ 64
   pub someLease : 1 ≤ o .lease
   pub mostLease : o .lease ≤ 1000
+  pub someCap : 1 ≤ o .cap
+  pub mostCap : o .cap ≤ o .lines
 
 within-true : (n most : ℕ) → within n most ≡ true → (1 ≤ n) × (n ≤ most)
 within-true n most e = let p = both-true (leb 1 n) (leb n most) e in (leb-true 1 n (p .0), leb-true n most (p .1))
@@ -30,10 +32,12 @@ inside o e =
     let a = both-true (within (o .cores) 16) _ e in
     let b = both-true (within (o .lines) 64) _ (a .1) in
     let c = both-true (within (o .width) 64) _ (b .1) in
+    let d = both-true (within (o .lease) 1000) _ (c .1) in
     let p = within-true (o .cores) 16 (a .0) in
     let q = within-true (o .lines) 64 (b .0) in
     let r = within-true (o .width) 64 (c .0) in
-    let s = within-true (o .lease) 1000 (c .1) in
+    let s = within-true (o .lease) 1000 (d .0) in
+    let t = within-true (o .cap) (o .lines) (d .1) in
     record {
       someCores = p .0;
       mostCores = p .1;
@@ -43,6 +47,8 @@ inside o e =
       mostWidth = r .1;
       someLease = s .0;
       mostLease = s .1;
+      someCap = t .0;
+      mostCap = t .1;
     }
 
 -- the lengths of the buffers

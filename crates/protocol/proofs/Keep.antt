@@ -8,12 +8,12 @@ use Rattle.protocol.specs.{Pick.first, Buffers.{Bytes, There, givenFits}
 use Rattle.protocol.specs.{Refusals.{ownerFits, slotFits, ownersFit, slotsFit, stateFits, buffersFit, machineRefusal, wrongCount}, Step.step}
 use Rattle.protocol.specs.declared.{Core.Core, ManagerLine.ManagerLine, Opening.Opening, Call.Call, Effect.Effect}
 use Rattle.protocol.specs.Tables.{loadOwned, storeTable, fenceTable, advanceTable, evictTable, serveAsked, serveLoad, receiveGrant, receiveRenew}
-use Rattle.protocol.specs.Tables.{yieldTable, takeTable}
+use Rattle.protocol.specs.Tables.{yieldTable, takeTable, victimTable}
 use Rattle.protocol.proofs.{Scan.every-set, Moves.{length-movedPrivate, length-movedShared}}
 use Rattle.protocol.proofs.Refusals.{Fit, machine-fit, slot-inside, owner-inside, store-width, named, NotRefused}
 use Rattle.protocol.proofs.Cases.{Row, asks-load, reads-shared, reads-dirty, reads-clean, asks-store, writes, fences, advances, evicts-shared}
 use Rattle.protocol.proofs.Cases.{evicts-owned, recalls, renews, shares, grants, gets-share, gets-own, gets-renewal, drops-none, drops-owned, yields}
-use Rattle.protocol.proofs.Cases.{takes, RowOn, kept-by-rows}
+use Rattle.protocol.proofs.Cases.{takes, names-victim, RowOn, kept-by-rows}
 
 -- what a step makes fits an opening; n is the count of the store bytes
 pub record EffectFits (o : Opening) (n : ℕ) (d : Effect) : Type 0 where
@@ -24,7 +24,7 @@ pub record EffectFits (o : Opening) (n : ℕ) (d : Effect) : Type 0 where
 module _ {o : Opening} {n c l : ℕ} {p : Pieces} (q : There o c l) (slot : slotFits (o .lines) (p .core .slot) ≡ true)
     (owner : ownerFits (o .cores) (p .line .manager) ≡ true) where
   pub row-fits : {call : Call} {d : Effect} → wrongCount (about call .act) o n ≡ false → Row c l p o call d → EffectFits o n d
-  unfolding loadOwned storeTable fenceTable advanceTable evictTable serveAsked serveLoad receiveGrant receiveRenew yieldTable takeTable
+  unfolding loadOwned storeTable fenceTable advanceTable evictTable serveAsked serveLoad receiveGrant receiveRenew yieldTable takeTable victimTable
   row-fits w (asks-load e i) = record { slot = lt-ltb l (o .lines) (q .line); owner = owner; bytes = refl }
   row-fits w (reads-shared e h) = record { slot = slot; owner = owner; bytes = refl }
   row-fits w (reads-dirty e) = record { slot = slot; owner = owner; bytes = refl }
@@ -46,6 +46,7 @@ module _ {o : Opening} {n c l : ℕ} {p : Pieces} (q : There o c l) (slot : slot
   row-fits w (drops-owned e i) = record { slot = refl; owner = owner; bytes = refl }
   row-fits w (yields e i h) = record { slot = slot; owner = owner; bytes = refl }
   row-fits w (takes e) = record { slot = slot; owner = refl; bytes = refl }
+  row-fits w names-victim = record { slot = slot; owner = owner; bytes = refl }
 
 -- the row of an accepted call on a machine that fits
 pub made-fits : {m : Machine} {call : Call} {given : Bytes} {d : Effect} → Fit m → NotRefused m call given

@@ -4,6 +4,7 @@ pub mod Stamps
 pub mod Scan
 pub mod Bytes
 pub mod Extents
+pub mod Copies
 pub mod Moves
 pub mod Refusals
 pub mod Cases
@@ -14,3 +15,4 @@ pub mod Reached
 pub mod Order
 pub mod Keep
 pub mod Tally
+pub mod Capacity

@@ -6,14 +6,14 @@ use lib.{Dec.eqb, ListN.length}
 use borrow.Author.Tests.{ltb-true, leb-false, eqb-true, eq-eqb}
 use Rattle.protocol.specs.{Pick.{pick, fails, Rule, first, _gives_}, Limits.openingFits, Fresh.{freshCore, freshLine}}
 use Rattle.protocol.specs.{Buffers.{Bytes, privateLength, sharedLength, There}, About.{about, namedLine}, Given.{givenAs, bytesGiven}}
-use Rattle.protocol.specs.{Machine.{Machine, Pieces, coreAt, lineAt, theCore, theLine, coreOf, lineOf, piecesAt}, Tables.refusedRow}
+use Rattle.protocol.specs.{Machine.{Machine, Pieces, coreAt, copyAt, lineAt, slotLine, theCore, theLine, coreOf, lineOf, piecesAt}, Tables.refusedRow}
 use Rattle.protocol.specs.Refusals.{openRefusal, ownerFits, slotFits, ownersFit, slotsFit, stateFits, buffersFit, machineRefusal, noCore, noLine}
 use Rattle.protocol.specs.Refusals.{givenRefusal, wrongCount, byNothing, callRules, callRefusal, stateRefusal, orElse, refusal}
 use Rattle.protocol.specs.declared.{Slot.{Slot, the-variants.{Empty, Asked, Answered}}, Core.Core, Manager.{Manager, the-variants.{Shared, Owned}}}
 use Rattle.protocol.specs.declared.{ManagerLine.ManagerLine, Opening.Opening, Call.Call, Who.{Who, the-variants.{Named as NamedCore, Owner, Nobody}}}
-use Rattle.protocol.specs.declared.{Which.{Which, the-variants.{Named as NamedLine, InSlot, Nothing}}, About.About, Effect.Effect}
+use Rattle.protocol.specs.declared.{Which.{Which, the-variants.{Named as NamedLine, Asked as OfAsked, Granted as OfGranted, Nothing, Victim as OfVictim}}, About.About, Effect.Effect}
 use Rattle.protocol.specs.declared.{Act.the-variants.Store as Stores, Given.Given}
-use Rattle.protocol.proofs.{Tests.{never, both-true}, Scan.every-at, Extents.{Inside, inside, there-at}}
+use Rattle.protocol.proofs.{Tests.{never, both-true}, Scan.every-at, Extents.{Inside, inside, there-at}, Copies.victim-inside}
 
 -- ---- tests and rules
 
@@ -103,15 +103,22 @@ core-inside o Nobody v h e i = h
 
 pub named-inside : (o : Opening) (w : Which) → 1 ≤ o .lines → noLine w o ≡ false → namedLine w < o .lines
 named-inside o (NamedLine l) h e = leb-false (o .lines) l e
-named-inside o InSlot h e = h
+named-inside o OfAsked h e = h
+named-inside o OfGranted h e = h
 named-inside o Nothing h e = h
+named-inside o OfVictim h e = h
 
-line-inside : (o : Opening) (w : Which) (v : Slot) → 1 ≤ o .lines → noLine w o ≡ false → slotFits (o .lines) v ≡ true → theLine w v < o .lines
-line-inside o (NamedLine l) v h e i = leb-false (o .lines) l e
-line-inside o InSlot Empty h e i = h
-line-inside o InSlot (Asked a l t d) h e i = ltb-true l (o .lines) i
-line-inside o InSlot (Answered g l w r) h e i = ltb-true l (o .lines) i
-line-inside o Nothing v h e i = h
+slot-line : (n : ℕ) (v : Slot) → 1 ≤ n → slotFits n v ≡ true → slotLine v < n
+slot-line n Empty h i = h
+slot-line n (Asked a l t d) h i = ltb-true l n i
+slot-line n (Answered g l w r) h i = ltb-true l n i
+
+line-inside : (o : Opening) (w : Which) (v : Slot) (t : ℕ) → 1 ≤ o .lines → noLine w o ≡ false → slotFits (o .lines) v ≡ true → t < o .lines → theLine w v t < o .lines
+line-inside o (NamedLine l) v t h e i j = leb-false (o .lines) l e
+line-inside o OfAsked v t h e i j = slot-line (o .lines) v h i
+line-inside o OfGranted v t h e i j = slot-line (o .lines) v h i
+line-inside o Nothing v t h e i j = h
+line-inside o OfVictim v t h e i j = j
 
 module _ {m : Machine} (f : Fit m) where
   -- the slot of a core speaks of a line that is there
@@ -136,7 +143,7 @@ module _ {m : Machine} (f : Fit m) where
       let a = named call o n e in
       let l = named-inside o (about call .line) (lim .someLines) (a .line) in
       let c = core-inside o (about call .core) _ (lim .someCores) (a .core) (owner-inside _ l) in
-      there-at lim c (line-inside o (about call .line) _ (lim .someLines) (a .line) (slot-inside _ c))
+      there-at lim c (line-inside o (about call .line) _ _ (lim .someLines) (a .line) (slot-inside _ c) (victim-inside (copyAt (m .state) _) (o .lines) (lim .someLines)))
 
 -- ---- all refusals
 

@@ -10,12 +10,12 @@ use Rattle.protocol.specs.{Counts.{classOf, sameClass, isOf, number}, Ta
 use Rattle.protocol.specs.declared.{Slot.{Slot, the-variants.{Empty, Asked, Answered}}, Core.Core, Opening.Opening, Call.Call, Effect.Effect}
 use Rattle.protocol.specs.declared.Class.{Class, the-variants.{Ask as AnAsk, Share as AShare, Renew as ARenew, Own as AnOwn}}
 use Rattle.protocol.specs.Tables.{loadOwned, storeTable, fenceTable, advanceTable, evictTable, serveAsked, serveLoad, receiveGrant, receiveRenew}
-use Rattle.protocol.specs.Tables.{yieldTable, takeTable}
+use Rattle.protocol.specs.Tables.{yieldTable, takeTable, victimTable}
 use Rattle.protocol.proofs.{Tests.never, Scan.{how-many-set, how-many-none}, Written.{Arrays, arrays-written, arrays-fresh}}
 use Rattle.protocol.proofs.Reached.{recorded, onto, reached}
 use Rattle.protocol.proofs.Cases.{Row, asks-load, reads-shared, reads-dirty, reads-clean, asks-store, writes, fences, advances, evicts-shared}
 use Rattle.protocol.proofs.Cases.{evicts-owned, recalls, renews, shares, grants, gets-share, gets-own, gets-renewal, drops-none, drops-owned, yields}
-use Rattle.protocol.proofs.Cases.{takes, evict, drop, writeback, Case, refuses, makes, case-of}
+use Rattle.protocol.proofs.Cases.{takes, names-victim, evict, drop, writeback, Case, refuses, makes, case-of}
 
 pub numbered-theorem : NumberedTheorem
 numbered-theorem rs = record { loads = refl; stores = refl; fences = refl; asks = refl; shares = refl; renews = refl; owns = refl }
@@ -42,7 +42,7 @@ none-waits (Answered g l w r) e = refl
 -- A ROW'S REQUESTS: a request comes to wait where one is asked, and waits no more where it is granted
 flow : {c l : ℕ} {p : Pieces} {o : Opening} {call : Call} {d : Effect} (b : Bytes) → Row c l p o call d
     → let k = classOf call (meaning (d .answer) b) in waits (d .core .slot) + granted k ≡ waits (p .core .slot) + is k AnAsk
-unfolding meaning loadOwned storeTable fenceTable advanceTable evictTable serveAsked serveLoad receiveGrant receiveRenew yieldTable takeTable
+unfolding meaning loadOwned storeTable fenceTable advanceTable evictTable serveAsked serveLoad receiveGrant receiveRenew yieldTable takeTable victimTable
 flow {p = p} b (asks-load e i) = omega (arith, none-waits (p .core .slot) e)
 flow b (reads-shared e h) = refl
 flow b (reads-dirty e) = refl
@@ -66,6 +66,7 @@ flow b (drops-none e i) = rw e refl
 flow b (drops-owned e i) = rw e refl
 flow b (yields e i h) = refl
 flow b (takes e) = refl
+flow b names-victim = refl
 
 -- ---- one call
 

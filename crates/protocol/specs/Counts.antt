@@ -5,9 +5,9 @@ use mathlib.Core.{Bool.{Bool, true, false}, List.List}
 use lib.{Dec.eqb, ListN.length}
 use Rattle.protocol.specs.{Pick.{pick, howMany}, Step.{Op, load, store, fence, Reply, refused, done, commit}, Run.Record, declared.Counts.Counts}
 use Rattle.protocol.specs.declared.Call.{Call, the-variants.{Load, Store, Fence, Evict, Drop, Writeback as WriteBack, Advance}}
-use Rattle.protocol.specs.declared.Call.the-variants.{Serve, Receive, Yield, Take}
+use Rattle.protocol.specs.declared.Call.the-variants.{Serve, Receive, Yield, Take, Victim}
 use Rattle.protocol.specs.declared.Name.{Name, the-variants.{Open, Ask, Recall, Share, Renew, Own, Drop as Dropped, Evict as Evicted}}
-use Rattle.protocol.specs.declared.Name.the-variants.{Writeback as WrittenBack, Advance as Advanced, Yield as Yielded, Take as Taken}
+use Rattle.protocol.specs.declared.Name.the-variants.{Writeback as WrittenBack, Advance as Advanced, Yield as Yielded, Take as Taken, Victim as Chosen}
 use Rattle.protocol.specs.declared.Class.{Class, the-variants.{Load as ALoad, Store as AStore, Fence as AFence, Ask as AnAsk, Share as AShare}}
 use Rattle.protocol.specs.declared.Class.the-variants.{Renew as ARenew, Own as AnOwn, Refused as ARefusal, Other}
 
@@ -26,6 +26,7 @@ isServe (Serve c) = true
 isServe (Receive c) = false
 isServe (Yield l) = false
 isServe (Take l) = false
+isServe (Victim c) = false
 
 -- "those commits"
 abbrev pub commitClass : {A : Type 0} → Op A → Class
@@ -48,6 +49,7 @@ nameClass serves WrittenBack = Other
 nameClass serves Advanced = Other
 nameClass serves Yielded = Other
 nameClass serves Taken = Other
+nameClass serves (Chosen l) = Other
 
 -- THE CLASS of a call with its answer
 abbrev pub classOf : Call → Reply → Class

@@ -5,6 +5,7 @@ pub mod Limits
 pub mod Fresh
 pub mod Buffers
 pub mod About
+pub mod Copies
 pub mod Given
 pub mod Machine
 pub mod Refusals
@@ -15,4 +16,5 @@ pub mod Digits
 pub mod Run
 pub mod Counts
 pub mod Tally
+pub mod Capacity
 pub mod Order

@@ -1,4 +1,5 @@
--- The limits of an opening: "An engine has 1 to 16 cores, 1 to 64 lines, a width of 1 to 64 bytes a line, a lease of 1 to 1,000."
+-- The limits of an opening: "An engine has 1 to 16 cores, 1 to 64 lines, a width of 1 to 64 bytes a line, a lease of 1 to 1,000." 02, Four:
+-- "a capacity, 1 to lines".
 use Prim.Native.Nat.{ℕ}
 use mathlib.Core.Bool.{Bool}
 use lib.Dec.{leb}
@@ -21,8 +22,8 @@ mostLease = 1000
 abbrev pub within : ℕ → ℕ → Bool
 within n most = both (leb 1 n) (leb n most)
 
--- the sizes and the lease lie inside the limits
+-- the sizes, the lease and the capacity lie inside the limits
 unfoldable pub openingFits : Opening → Bool
 openingFits o =
     both (within (o .cores) mostCores)
-    (both (within (o .lines) mostLines) (both (within (o .width) mostWidth) (within (o .lease) mostLease)))
+    (both (within (o .lines) mostLines) (both (within (o .width) mostWidth) (both (within (o .lease) mostLease) (within (o .cap) (o .lines)))))

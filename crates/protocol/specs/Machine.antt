@@ -1,12 +1,12 @@
 -- The machine: the state and the two lent buffers; the pieces of it that a call looks at, and where they are written back.
 use Prim.Native.Nat.{ℕ, _+_, _*_}
 use lib.ListN.{getD, set, replicate}
-use Rattle.protocol.specs.{Buffers.{Bytes, privateLength, sharedLength, movedPrivate, movedShared}, Limits.mostLines, About.{about, namedLine}}
+use Rattle.protocol.specs.{Buffers.{Bytes, privateLength, sharedLength, movedPrivate, movedShared}, Limits.mostLines, About.{about, namedLine}, Copies.{heldBelow, victimBelow}}
 use Rattle.protocol.specs.{Fresh.{freshCore, freshCell, freshLine, freshState}, declared.Copy.Copy}
 use Rattle.protocol.specs.declared.{Slot.{Slot, the-variants.{Empty, Asked, Answered}}, Core.Core}
 use Rattle.protocol.specs.declared.{Manager.{Manager, the-variants.{Shared, Owned}}, ManagerLine.ManagerLine, Opening.Opening, State.State}
 use Rattle.protocol.specs.declared.{Call.Call, Who.{Who, the-variants.{Named as NamedCore, Owner, Nobody}}}
-use Rattle.protocol.specs.declared.{Which.{Which, the-variants.{Named as NamedLine, InSlot, Nothing}}, Effect.Effect}
+use Rattle.protocol.specs.declared.{Which.{Which, the-variants.{Named as NamedLine, Asked as OfAsked, Granted as OfGranted, Nothing, Victim as OfVictim}}, Effect.Effect}
 
 -- a state and the two buffers
 pub record Machine : Type 0 where
@@ -35,18 +35,27 @@ copyAt s c l = getD (s .cell) (cellOf c l) freshCell .copy
 abbrev pub lineAt : State → ℕ → ManagerLine
 lineAt s l = getD (s .line) l freshLine
 
--- the pieces of the machine that a step looks at, beside the opening: a line's number, one core, its copy of that line, the manager's line
+-- how many copies core c holds, of the lines that are there, and the line that it gives up first
+abbrev pub copiesOf : State → ℕ → ℕ
+copiesOf s c = heldBelow (copyAt s c) (s .opening .lines)
+
+abbrev pub victimOf : State → ℕ → ℕ
+victimOf s c = victimBelow (copyAt s c) (s .opening .lines)
+
+-- the pieces of the machine that a step looks at, beside the opening: a line's number, one core, its copy of that line, the manager's line,
+-- and how many copies the core holds
 pub record Pieces : Type 0 where
   pub number : ℕ
   pub core : Core
   pub copy : Copy
   pub line : ManagerLine
+  pub copies : ℕ
 
-abbrev pub pieces : ℕ → Core → Copy → ManagerLine → Pieces
-pieces l k x m = record { number = l; core = k; copy = x; line = m }
+abbrev pub pieces : ℕ → Core → Copy → ManagerLine → ℕ → Pieces
+pieces l k x m n = record { number = l; core = k; copy = x; line = m; copies = n }
 
 abbrev pub piecesAt : State → ℕ → ℕ → Pieces
-piecesAt s c l = pieces l (coreAt s c) (copyAt s c l) (lineAt s l)
+piecesAt s c l = pieces l (coreAt s c) (copyAt s c l) (lineAt s l) (copiesOf s c)
 
 -- the line that a slot speaks of
 abbrev pub slotLine : Slot → ℕ
@@ -68,14 +77,16 @@ theCore Nobody m = 0
 abbrev pub coreOf : Call → State → ℕ
 coreOf call s = theCore (about call .core) (lineAt s (namedLine (about call .line)) .manager)
 
--- the line that a call is about: the one that it names, or the slot's
-abbrev pub theLine : Which → Slot → ℕ
-theLine (NamedLine l) k = l
-theLine InSlot k = slotLine k
-theLine Nothing k = 0
+-- the line that a call is about: the one that it names, the slot's, or the core's victim v
+abbrev pub theLine : Which → Slot → ℕ → ℕ
+theLine (NamedLine l) k v = l
+theLine OfAsked k v = slotLine k
+theLine OfGranted k v = slotLine k
+theLine Nothing k v = 0
+theLine OfVictim k v = v
 
 abbrev pub lineOf : Call → State → ℕ
-lineOf call s = theLine (about call .line) (coreAt s (coreOf call s) .slot)
+lineOf call s = theLine (about call .line) (coreAt s (coreOf call s) .slot) (victimOf s (coreOf call s))
 
 -- the state with a step's effect on core c and line l written back; a step that has no core or no line of its own leaves those of number 0 as
 -- they are

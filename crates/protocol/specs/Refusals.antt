@@ -1,28 +1,29 @@
--- The refusals of the calls, in the scope document's order: "Checked in this order; first that applies." 30 is of 02, Two, and that 13 is the
--- first check of a store in digits of 02, Three.
+-- The refusals of the calls, in the scope document's order: "Checked in this order; first that applies." 30 is of 02, Two; that 13 is the
+-- first check of a store in digits of 02, Three; 31, and the 26 of victim, of 02, Four.
 use Prim.Native.Nat.{ℕ, _%_}
 use mathlib.Core.{Bool.{Bool, true, false}, List.{List, [], _∷_}}
 use lib.{Dec.{ltb, leb, eqb}, ListN.{length, take}}
 use Rattle.protocol.specs.{Pick.{pick, both, fails, every, Rule, first, _gives_}, Stamps.{earlier, canAdd}, Limits.openingFits}
-use Rattle.protocol.specs.{Buffers.{Bytes, privateLength, sharedLength}, About.about, Given.{givenAs, bytesGiven}}
+use Rattle.protocol.specs.{Buffers.{Bytes, privateLength, sharedLength}, About.about, Copies.{isHeld, isShared, isOwned}, Given.{givenAs, bytesGiven}}
 use Rattle.protocol.specs.Machine.{Machine, Pieces, piecesAt, coreOf, lineOf}
 use Rattle.protocol.specs.declared.{Stamp.Stamp, Copy.{Copy, the-variants.{None as NoCopy, Shared as CopyShared, Owned as CopyOwned}}}
 use Rattle.protocol.specs.declared.Want.the-variants.{Load as WantLoad, Store as WantStore}
+use Rattle.protocol.specs.declared.Grant.{Grant, the-variants.{Share as GrantShare, Renew as GrantRenew, Own as GrantOwn}}
 use Rattle.protocol.specs.declared.{Slot.{Slot, the-variants.{Empty, Asked, Answered}}, Core.Core}
 use Rattle.protocol.specs.declared.Manager.{Manager, the-variants.{Shared, Owned}}
 use Rattle.protocol.specs.declared.Recall.{Recall, the-variants.{None as NoRecall, Downgrade, Flush}}
 use Rattle.protocol.specs.declared.{Writeback.{Writeback, the-variants.{None as NoWriteback, Flight}}, ManagerLine.ManagerLine}
 use Rattle.protocol.specs.declared.{Opening.Opening, State.State}
 use Rattle.protocol.specs.declared.Call.{Call, the-variants.{Load, Store, Fence, Evict, Drop, Writeback as WriteBack, Advance}}
-use Rattle.protocol.specs.declared.Call.the-variants.{Serve, Receive, Yield, Take}
+use Rattle.protocol.specs.declared.Call.the-variants.{Serve, Receive, Yield, Take, Victim}
 use Rattle.protocol.specs.declared.Who.{Who, the-variants.{Named as NamedCore, Owner, Nobody}}
-use Rattle.protocol.specs.declared.Which.{Which, the-variants.{Named as NamedLine, InSlot, Nothing}}
+use Rattle.protocol.specs.declared.Which.{Which, the-variants.{Named as NamedLine, Asked as OfAsked, Granted as OfGranted, Nothing, Victim as OfVictim}}
 use Rattle.protocol.specs.declared.Act.{Act, the-variants.{Load as Loads, Store as Stores, Fence as Fences, Advance as Advances, Transfer}}
 use Rattle.protocol.specs.declared.{About.About, Given.{Given, the-variants.{Bytes as AsBytes, Digits as AsDigits}}}
 
 -- ---- Refused because of the input
 
--- 7: the opening's sizes or lease outside the limits
+-- 7: the opening's sizes, lease or capacity outside the limits
 unfoldable pub openRefusal : Opening → ℕ
 openRefusal o = first ((fails (openingFits o) gives 7) ∷ [])
 
@@ -57,7 +58,7 @@ ownersFit o ls = every (λ (l : ManagerLine). ownerFits (o .cores) (l .manager))
 unfoldable pub slotsFit : Opening → List Core → Bool
 slotsFit o ks = every (λ (k : Core). slotFits (o .lines) (k .slot)) (take (o .cores) ks)
 
--- 1: the state's sizes or lease lie outside the limits, or an owner ≥ cores, or a slot's line ≥ lines
+-- 1: the state's sizes, lease or capacity lie outside the limits, or an owner ≥ cores, or a slot's line ≥ lines
 unfoldable pub stateFits : State → Bool
 stateFits s = both (openingFits (s .opening)) (both (ownersFit (s .opening) (s .line)) (slotsFit (s .opening) (s .core)))
 
@@ -82,8 +83,10 @@ noCore Nobody o = false
 -- 4: line ≥ lines
 abbrev pub noLine : Which → Opening → Bool
 noLine (NamedLine l) o = leb (o .lines) l
-noLine InSlot o = false
+noLine OfAsked o = false
+noLine OfGranted o = false
 noLine Nothing o = false
+noLine OfVictim o = false
 
 -- 5: store bytes not width in count
 abbrev pub wrongCount : Act → Opening → ℕ → Bool
@@ -130,23 +133,6 @@ isAnswered Empty = false
 isAnswered (Asked a l t h) = false
 isAnswered (Answered g l w r) = true
 
--- a copy is held
-abbrev pub isHeld : Copy → Bool
-isHeld NoCopy = false
-isHeld (CopyShared w r) = true
-isHeld (CopyOwned d w r) = true
-
--- .. as shared, or as owned
-abbrev pub isShared : Copy → Bool
-isShared NoCopy = false
-isShared (CopyShared w r) = true
-isShared (CopyOwned d w r) = false
-
-abbrev pub isOwned : Copy → Bool
-isOwned NoCopy = false
-isOwned (CopyShared w r) = false
-isOwned (CopyOwned d w r) = true
-
 -- the line is owned
 abbrev pub hasOwner : Manager → Bool
 hasOwner (Shared w r) = false
@@ -183,11 +169,27 @@ servePasses (Asked WantLoad l t h) (Owned c) o = false
 servePasses (Asked WantStore l t h) m o = false
 servePasses (Answered g l w r) m o = false
 
--- 20 to 27 and 30, for each call those that speak of it.
+-- the answer in a slot is a copy: share or own
+abbrev pub isCopy : Grant → Bool
+isCopy GrantShare = true
+isCopy GrantRenew = false
+isCopy GrantOwn = true
+
+abbrev pub bringsCopy : Slot → Bool
+bringsCopy Empty = false
+bringsCopy (Asked a l t h) = false
+bringsCopy (Answered g l w r) = isCopy g
+
+-- the core has no room for a copy of the line: it does not hold one, and it holds cap or more
+abbrev pub noRoom : Pieces → Opening → Bool
+noRoom p o = both (fails (isHeld (p .copy))) (leb (o .cap) (p .copies))
+
+-- 20 to 27, 30 and 31, for each call those that speak of it.
 -- 20: load or store must ask, slot not empty. 21: serve, slot not asked. 22: receive, slot not answered. 23: yield, line not owned or no
 -- recall. 24: yield, owner's copy not owned. 25: take, no writeback. 26: evict, no copy. 27: rts + 1 (store to an owned line), lts + by
 -- (advance) or asked lts + lease (serve of a load on a shared line) passes the greatest timestamp. "30, the copy isn't of the state that the step
--- names, straight after 26": drop names a shared copy, writeback an owned one, and evict, drop and writeback alike are 26 without a copy
+-- names, straight after 26": drop names a shared copy, writeback an owned one, and evict, drop and writeback alike are 26 without a copy. "31,
+-- receive of share or own for a line not held, while cap or more copies are held; after 22". Victim: "a core without copies gets 26"
 unfoldable pub stateRules : Call → Pieces → Opening → List Rule
 stateRules (Load c l) p o = (both (loadAsks (p .copy) (p .core .clocks .lts)) (fails (isEmpty (p .core .slot))) gives 20) ∷ []
 stateRules (Store g c l) p o =
@@ -199,10 +201,12 @@ stateRules (WriteBack c l) p o = (fails (isHeld (p .copy)) gives 26) ∷ (fails 
 stateRules (Advance c by) p o = (fails (canAdd (p .core .clocks .lts) by) gives 27) ∷ []
 stateRules (Serve c) p o =
     (fails (isAsked (p .core .slot)) gives 21) ∷ (servePasses (p .core .slot) (p .line .manager) o gives 27) ∷ []
-stateRules (Receive c) p o = (fails (isAnswered (p .core .slot)) gives 22) ∷ []
+stateRules (Receive c) p o =
+    (fails (isAnswered (p .core .slot)) gives 22) ∷ (both (bringsCopy (p .core .slot)) (noRoom p o) gives 31) ∷ []
 stateRules (Yield l) p o =
     (fails (both (hasOwner (p .line .manager)) (stands (p .line .recall))) gives 23) ∷ (fails (isOwned (p .copy)) gives 24) ∷ []
 stateRules (Take l) p o = (fails (inFlight (p .line .writeback)) gives 25) ∷ []
+stateRules (Victim c) p o = (eqb (p .copies) 0 gives 26) ∷ []
 
 unfoldable pub stateRefusal : Call → Pieces → Opening → ℕ
 stateRefusal call p o = first (stateRules call p o)

@@ -2,9 +2,9 @@
 -- machine after it. And `show`.
 use Prim.Native.Nat.{ℕ, _+_}
 use lib.Dec.{eqb}
-use Rattle.protocol.specs.{Pick.pick, Fresh.{freshState, smallest}, Buffers.{Bytes, copyStart, managerStart, copyBytes}, About.about, Given.bytesGiven}
+use Rattle.protocol.specs.{Pick.pick, Fresh.{freshState, smallest}, Buffers.{Bytes, copyStart, managerStart, copyBytes}, About.about, Copies.isHeld, Given.bytesGiven}
 use Rattle.protocol.specs.Machine.{Machine, piecesAt, copyAt, coreOf, lineOf, applied}
-use Rattle.protocol.specs.{Refusals.{openRefusal, machineRefusal, callRefusal, refusal, orElse, isHeld}, Tables.tableOf, declared.Stamp.Stamp}
+use Rattle.protocol.specs.{Refusals.{openRefusal, machineRefusal, callRefusal, refusal, orElse}, Tables.tableOf, declared.Stamp.Stamp}
 use Rattle.protocol.specs.declared.{Opening.Opening, State.State, Call.{Call, the-variants.Load}}
 use Rattle.protocol.specs.declared.Act.{Act, the-variants.{Load as Loads, Store as Stores, Fence as Fences, Advance as Advances, Transfer}}
 use Rattle.protocol.specs.declared.Name.{Name, the-variants.Open}
@@ -39,7 +39,7 @@ meaning (Commit c t k) bytes = commit c t (valued k bytes)
 
 -- ---- open
 
--- "7 opening sizes or lease outside the limits"; a refused opening gives the fresh state of the smallest one
+-- "7 opening sizes or lease outside the limits", or the capacity; a refused opening gives the fresh state of the smallest one
 abbrev pub opened : Opening → State
 opened o = pick (eqb (openRefusal o) 0) (freshState o) (freshState smallest)
 

@@ -15,10 +15,10 @@ use Rattle.protocol.specs.declared.Recall.{Recall, the-variants.{None as
 use Rattle.protocol.specs.declared.{Writeback.{Writeback, the-variants.{None as NoWriteback, Flight}}, ManagerLine.ManagerLine}
 use Rattle.protocol.specs.declared.Opening.{Opening}
 use Rattle.protocol.specs.declared.Call.{Call, the-variants.{Load, Store, Fence, Evict, Drop, Writeback as WriteBack, Advance}}
-use Rattle.protocol.specs.declared.Call.the-variants.{Serve, Receive, Yield, Take}
+use Rattle.protocol.specs.declared.Call.the-variants.{Serve, Receive, Yield, Take, Victim}
 use Rattle.protocol.specs.declared.Answer.{Answer, the-variants.{Refused, Done, Commit}}
 use Rattle.protocol.specs.declared.Name.{Name, the-variants.{Ask, Recall as RecallSent, Share, Renew, Own, Drop as Dropped, Evict as Evicted}}
-use Rattle.protocol.specs.declared.Name.the-variants.{Writeback as WrittenBack, Advance as Advanced, Yield as Yielded, Take as Taken}
+use Rattle.protocol.specs.declared.Name.the-variants.{Writeback as WrittenBack, Advance as Advanced, Yield as Yielded, Take as Taken, Victim as Chosen}
 use Rattle.protocol.specs.declared.Kind.the-variants.{Load as OfLoad, Store as OfStore, Fence as OfFence}
 use Rattle.protocol.specs.declared.Move.{Move, the-variants.{Still, Store as MoveStore, Answer as MoveAnswer, Receive as MoveReceive}}
 use Rattle.protocol.specs.declared.{Move.the-variants.{Writeback as MoveWriteback, Take as MoveTake}, Effect.Effect}
@@ -198,6 +198,12 @@ takeTable (Flight w r) p =
     row (Done Taken) MoveTake (p .core) (p .copy) (record { manager = Shared w r; recall = NoRecall; writeback = NoWriteback })
 takeTable NoWriteback p = refusedRow 25 p
 
+-- ---- victim
+
+-- 02, Four: "answers the held line with the smallest rts, ties to the smallest line number". Nothing changes
+unfoldable pub victimTable : Pieces → Effect
+victimTable p = row (Done (Chosen (p .number))) Still (p .core) (p .copy) (p .line)
+
 -- ---- all of them
 
 -- the table of a call
@@ -213,6 +219,7 @@ tableOf (Serve c) p o = serveTable (p .core .slot) c p o
 tableOf (Receive c) p o = receiveTable (p .core .slot) p
 tableOf (Yield l) p o = yieldTable (p .copy) p
 tableOf (Take l) p o = takeTable (p .line .writeback) p
+tableOf (Victim c) p o = victimTable p
 
 -- what a call makes of the pieces: its table's row, or, with the pieces as they are, the number that it is refused with (20 and up)
 unfoldable pub effectOf : Call → Pieces → Opening → Effect

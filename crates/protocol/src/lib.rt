@@ -268,12 +268,13 @@ impl ManagerLine {
     }
 }
 
-// What an engine is opened with: its sizes and its lease.
+// What an engine is opened with: its sizes, its lease, and how many copies a core may hold.
 pub struct Opening {
     pub cores: usize,
     pub lines: usize,
     pub width: usize,
     pub lease: u32,
+    pub cap: usize,
 }
 
 impl Opening {
@@ -295,6 +296,7 @@ impl Opening {
         lines: 1,
         width: 1,
         lease: 1,
+        cap: 1,
     };
 
     pub fn smallest() -> Opening
@@ -303,7 +305,7 @@ impl Opening {
         Opening::SMALLEST
     }
 
-    // Whether the sizes and the lease lie inside the limits.
+    // Whether the sizes, the lease and the capacity lie inside the limits.
     pub fn fits(self) -> bool
         ensures { λ r. ⌜ r ≡ openingFits self ⌝ }
     {
@@ -318,7 +320,10 @@ impl Opening {
         if !within(self.width, Opening::MOST_WIDTH) {
             return false;
         }
-        within(lease, longest)
+        if !within(lease, longest) {
+            return false;
+        }
+        within(self.cap, self.lines)
     }
 }
 
@@ -380,7 +385,7 @@ impl Given {
 }
 
 // The calls. A store's bytes are given beside the call, as bytes or as digits. Evict gives up whatever copy there is; drop a shared
-// one, writeback an owned one. A new call is last, here and in each match: the others then take no instruction more. `given` is
+// one, writeback an owned one; victim names the line that a core gives up first. A new call is last, here and in each match: the others then take no instruction more. `given` is
 // first, in the room beside the variant's tag: a call then takes 24 bytes, not 32.
 pub enum Call {
     Load {
@@ -423,6 +428,9 @@ pub enum Call {
         core: usize,
         line: usize,
     },
+    Victim {
+        core: usize,
+    },
 }
 
 // The core that a call is about: the one that it names, the owner of its line, or none.
@@ -432,15 +440,18 @@ pub enum Who {
     Nobody,
 }
 
-// The line that a call is about: the one that it names, the one in its core's slot, or none.
+// The line that a call is about: the one that it names, the one that its core asks for or was granted, by the core's slot, none, or
+// the one that its core gives up first.
 pub enum Which {
     Named(usize),
-    InSlot,
+    Asked,
+    Granted,
     Nothing,
+    Victim,
 }
 
 // What a call does to its core's clocks, and so what it may commit, and how a store's bytes are given; a transfer moves a request or
-// a line between a core and the manager, and commits nothing.
+// a line between a core and the manager, or nothing, and commits nothing.
 pub enum Act {
     Load,
     Store(Given),
@@ -490,8 +501,8 @@ impl Call {
             Call::Advance { core, by } => {
                 concerns(Who::Named(core), Which::Nothing, Act::Advance(by))
             }
-            Call::Serve { core } => concerns(Who::Named(core), Which::InSlot, Act::Transfer),
-            Call::Receive { core } => concerns(Who::Named(core), Which::InSlot, Act::Transfer),
+            Call::Serve { core } => concerns(Who::Named(core), Which::Asked, Act::Transfer),
+            Call::Receive { core } => concerns(Who::Named(core), Which::Granted, Act::Transfer),
             Call::Yield { line } => concerns(Who::Owner, Which::Named(line), Act::Transfer),
             Call::Take { line } => concerns(Who::Nobody, Which::Named(line), Act::Transfer),
             Call::Drop { core, line } => {
@@ -500,6 +511,7 @@ impl Call {
             Call::Writeback { core, line } => {
                 concerns(Who::Named(core), Which::Named(line), Act::Transfer)
             }
+            Call::Victim { core } => concerns(Who::Named(core), Which::Victim, Act::Transfer),
         }
     }
 }
@@ -511,7 +523,7 @@ fn concerns(core: Who, line: Which, act: Act) -> About
     About { core, line, act }
 }
 
-// The name of what was done, where nothing was refused or committed.
+// The name of what was done, where nothing was refused or committed; a victim's has its line.
 pub enum Name {
     Open,
     Ask,
@@ -525,6 +537,7 @@ pub enum Name {
     Yield,
     Take,
     Writeback,
+    Victim { line: usize },
 }
 
 // A commit's kind and, but for a fence, its line.
@@ -572,6 +585,7 @@ fn is_serve(call: Call) -> bool
         Call::Take { .. } => false,
         Call::Drop { .. } => false,
         Call::Writeback { .. } => false,
+        Call::Victim { .. } => false,
     }
 }
 
@@ -602,6 +616,7 @@ fn name_class(serves: bool, name: Name) -> Class
         Name::Yield => Class::Other,
         Name::Take => Class::Other,
         Name::Writeback => Class::Other,
+        Name::Victim { .. } => Class::Other,
     }
 }
 

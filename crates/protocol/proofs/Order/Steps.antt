@@ -5,11 +5,11 @@ use native.Mathlib.Omega.{arith}
 use lib.{Dec.eqb, ListN.length}
 use borrow.Author.Tests.{eq-eqb}
 use Rattle.protocol.specs.{Given.bytesGiven, Stamps.later, Clock.storeTime, Buffers.{Bytes, There, copyBytes, managerBytes, writebackBytes, answerBytes}}
-use Rattle.protocol.specs.{Machine.{Machine, Pieces, piecesAt, coreAt, copyAt, lineAt, applied}, Refusals.isOwned}
+use Rattle.protocol.specs.{Machine.{Machine, Pieces, piecesAt, coreAt, copyAt, lineAt, applied}, Copies.isOwned}
 use Rattle.protocol.specs.{Step.{Op, load, store, fence, Reply, refused, done, commit, meaning, Outcome, accepted, step}, Run.{place, Commit, commitAt}}
 use Rattle.protocol.specs.Order.{TsoKeeps, Loads, Stores}
 use Rattle.protocol.specs.Tables.{row, heldOf, loadOwned, earliest, storeTable, fenceTable, advanceTable, evictTable, leasedTo, serveLoad, serveAsked}
-use Rattle.protocol.specs.Tables.{receiveRenew, receiveGrant, yielded, yieldTable, takeTable, writtenBack}
+use Rattle.protocol.specs.Tables.{receiveRenew, receiveGrant, yielded, yieldTable, takeTable, victimTable, writtenBack}
 use Rattle.protocol.specs.declared.{Stamp.Stamp, Clocks.Clocks, Copy.{Copy, the-variants.{None as NoCopy, Shared as CopyShared, Owned as CopyOwned}}}
 use Rattle.protocol.specs.declared.{Want.{Want, the-variants.{Load as WantLoad, Store as WantStore}}, Held.{Held, the-variants.Version}}
 use Rattle.protocol.specs.declared.{Grant.{Grant, the-variants.{Share as GrantShare, Renew as GrantRenew, Own as GrantOwn}}, Core.Core}
@@ -20,7 +20,7 @@ use Rattle.protocol.specs.declared.{Slot.the-variants.{Asked, Answered},
 use Rattle.protocol.proofs.{Tests.never, Refusals.{Fit, machine-fit}, Written.core-at, Keep.{EffectFits, made-fits}}
 use Rattle.protocol.proofs.Cases.{Row, asks-load, reads-shared, reads-dirty, reads-clean, asks-store, writes, fences, advances, evicts-shared}
 use Rattle.protocol.proofs.Cases.{evicts-owned, recalls, renews, shares, grants, gets-share, gets-own, gets-renewal, drops-none, drops-owned, yields}
-use Rattle.protocol.proofs.Cases.{takes, Case, refuses, makes, case-of}
+use Rattle.protocol.proofs.Cases.{takes, names-victim, Case, refuses, makes, case-of}
 use Rattle.protocol.proofs.Order.Log.{more, all-map, Touches, Reading, Extends}
 use Rattle.protocol.proofs.Order.Versions.{Spot, atManager, atWriteback, atCopy, atSlot, kind, HeldBy, Elsewhere, not-here, mine, newest, Newest}
 use Rattle.protocol.proofs.Order.Versions.{version, IsAt, here, carry, goes-to, quiet, write-version, write-marks, write-past, Written, marks-stay}
@@ -253,7 +253,7 @@ module _ (z : Value) (p : ℕ) {H : List (Commit Bytes)} (given : Bytes) {m : Ma
   -- ---- the rows
 
   row-good : {call : Call} {d : Effect} → Row c l ps o call d → Fitting d → GoodRow call d
-  unfolding accepted meaning look loadOwned storeTable fenceTable advanceTable evictTable serveAsked serveLoad receiveGrant receiveRenew yieldTable takeTable
+  unfolding accepted meaning look loadOwned storeTable fenceTable advanceTable evictTable serveAsked serveLoad receiveGrant receiveRenew yieldTable takeTable victimTable
   row-good (asks-load e i) fit =
       keeps fit (inr (λ l′ n. sym n)) (λ _. ask-beside WantLoad l (k .clocks .lts) (copyAt (m .state) c l) i) (omega arith)
       (as-was fit (at atManager, at atWriteback, at (atCopy c), tt))
@@ -422,6 +422,8 @@ module _ (z : Value) (p : ℕ) {H : List (Commit Bytes)} (given : Bytes) {m : Ma
       keeps fit (inl (refl, tt)) pair (omega arith)
       (goes fit u (λ n. n) atManager (r .0) (g .leased) (omega arith) (omega arith) (omega (arith, ok .lr, u .isR))
       (λ ok′ stay. ((here, λ j. tt), tt, stay (atCopy c) refl, stay (atSlot c) refl)))
+  row-good names-victim fit =
+      keeps fit (inl (refl, tt)) pair (omega arith) (as-was fit (at atManager, at atWriteback, at (atCopy c), at (atSlot c)))
 
 pub step-good : (z : Value) (p : ℕ) {H : List (Commit Bytes)} {m : Machine} → Inv z H m → (call : Call) (given : Bytes)
     → Good z p H call (bytesGiven call given) (step m call given .reply) (step m call given .machine)

@@ -1,4 +1,4 @@
--- The four limits, one after the other.
+-- The five limits, one after the other.
 use Rattle.protocol.proofs.{Tests.{was-false, both-goes}, Opening.fits.Statement.statement}
 use Rattle.protocol.specs.Limits.{openingFits}
 use borrow.Author.Needs.{needs}
@@ -19,11 +19,23 @@ returns-3 c =
 returns-4 : tie.Need-returns-4
 unfolding openingFits
 returns-4 c =
-    let d = c .before in
+    let d = c .before .before in
     let b = d .before .before in
     let a = b .before .before in
     both-goes (a .before .within .ensures) (a .if1 .left)
-    (both-goes (b .before .within2 .ensures) (b .if2 .left) (both-goes (d .before .within3 .ensures) (d .if3 .left) (c .within4 .ensures)))
+    (both-goes (b .before .within2 .ensures) (b .if2 .left)
+    (both-goes (d .before .within3 .ensures) (d .if3 .left) (rw (was-false (c .before .within4 .ensures) (c .if4 .taken)))))
+
+returns-5 : tie.Need-returns-5
+unfolding openingFits
+returns-5 c =
+    let e = c .before in
+    let d = e .before .before in
+    let b = d .before .before in
+    let a = b .before .before in
+    both-goes (a .before .within .ensures) (a .if1 .left)
+    (both-goes (b .before .within2 .ensures) (b .if2 .left)
+    (both-goes (d .before .within3 .ensures) (d .if3 .left) (both-goes (e .before .within4 .ensures) (e .if4 .left) (c .within5 .ensures))))
 
 pub fits-spec : {M : Type 1} → statement M
 fits-spec =
@@ -36,4 +48,6 @@ fits-spec =
     (λ c κs. search needs)
     returns-3
     (λ c κs. search needs)
-    returns-4)
+    returns-4
+    (λ c κs. search needs)
+    returns-5)
