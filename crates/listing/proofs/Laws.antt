@@ -101,6 +101,14 @@ pub more :
     → Field old end key n new r → drop end old ≡ t → drop r new ≡ key ++ (decimal n ++ t)
 more {key = key} {n = n} f e = f .text ∙ ap (λ (l : List ℕ). key ++ (decimal n ++ l)) e
 
+-- one field more in front of the last text
+pub tail-more :
+    {old : List ℕ} {t mid : List ℕ} {end : ℕ} {key : List ℕ} {n : ℕ} {new : List ℕ} {r : ℕ}
+    → Tail old t mid end → Field mid end key n new r → Tail old (key ++ (decimal n ++ t)) new r
+tail-more {new = new} {r = r} a f =
+    let e = more f (a .text) in
+    record { text = e; start = omega (arith, ap length e, length-drop r new, f .within, f .size, a .size); size = f .size ∙ a .size }
+
 -- the first field, and with it the whole line
 pub first :
     {w : ℕ} {old : List ℕ} {end : ℕ} {key : List ℕ} {n : ℕ} {new : List ℕ} {r : ℕ} {t : List ℕ}

@@ -3,10 +3,11 @@
 use Prim.Native.Nat.{ℕ}
 use mathlib.Core.List.{List, [], _++_}
 use Rattle.spelling.specs.{Text.text, Decimal.decimal, Hex.hex}
-use Rattle.protocol.specs.declared.{Place.Place, Name.{Name, the-variants.{Open, Ask, Recall, Share, Renew, Own, Drop, Evict, Writeback, Advance, Yield, Take}}}
+use Rattle.protocol.specs.declared.{Place.Place, Name.{Name, the-variants.{Open, Ask, Recall, Share, Renew, Own, Drop, Evict, Writeback, Advance, Yield, Take, Victim}}}
 use Rattle.protocol.specs.{declared.{Counts.Counts, Given.{Given, the-variants.{Bytes, Digits}}}, Step.{Op, load, store, fence, Reply, refused, done, commit}}
 
--- "done is open, ask, recall, share, renew, own, drop, evict, advance, yield or take"; 02, Two: "they print `done=drop` and `done=writeback`"
+-- "done is open, ask, recall, share, renew, own, drop, evict, advance, yield or take"; 02, Two: "they print `done=drop` and `done=writeback`";
+-- Four: victim "prints `done=victim line=N`"
 abbrev pub nameText : Name → List ℕ
 nameText Open = text "open"
 nameText Ask = text "ask"
@@ -20,6 +21,7 @@ nameText Writeback = text "writeback"
 nameText Advance = text "advance"
 nameText Yield = text "yield"
 nameText Take = text "take"
+nameText (Victim l) = text "victim line=" ++ decimal l
 
 -- "n is the place": 01 prints `n=0 done=open`, `n=6 refused=25`. A record ends with a newline
 abbrev pub doneText : ℕ → Name → List ℕ

@@ -10,7 +10,7 @@ ghost use mathlib.Core.Path.{_≡_};
 ghost use Rattle.protocol.specs.Step.{valued, meaning};
 ghost use Rattle.spelling.specs.{Text.text, Over.PutAt};
 ghost use Rattle.listing.specs.Record.{doneText, refusedText, textAs, commitText, recordAs, endText, tallyText};
-ghost use Rattle.listing.specs.Back.{Room, Field, Tail, three, digitCount, access, doneEnd};
+ghost use Rattle.listing.specs.Back.{Room, Field, Tail, three, digitCount, access, victimEnd, doneEnd};
 use protocol::Answer;
 use protocol::Counts;
 use protocol::Given;
@@ -84,6 +84,14 @@ pub fn put_with_data(out: &mut [u8], at: usize, head: &[u8], read: Given, given:
     spelling::put_text(out, end, b"\n")
 }
 
+// How a record ends that names a victim, at the end of a line; the answer is where it starts.
+fn victim_tail(line: &mut [u8; 128], number: u64) -> usize
+    ensures { λ r. ⌜ Tail (now (line .entry)) (victimEnd number) (now (line .exit)) r ⌝ }
+{
+    let end = tail(line, b"\n");
+    field(line, end, b" done=victim line=", number)
+}
+
 // How a record ends that names what was done, at the end of a line; the answer is where it starts.
 fn done_tail(line: &mut [u8; 128], name: Name) -> usize
     ensures { λ r. ⌜ Tail (now (line .entry)) (doneEnd name) (now (line .exit)) r ⌝ }
@@ -101,6 +109,7 @@ fn done_tail(line: &mut [u8; 128], name: Name) -> usize
         Name::Yield => tail(line, b" done=yield\n"),
         Name::Take => tail(line, b" done=take\n"),
         Name::Writeback => tail(line, b" done=writeback\n"),
+        Name::Victim { line: l } => victim_tail(line, l as u64),
     }
 }
 

@@ -151,8 +151,10 @@ fn no_line(line: Which, opening: Opening) -> bool
 {
     match line {
         Which::Named(l) => opening.lines <= l,
-        Which::InSlot => false,
+        Which::Asked => false,
+        Which::Granted => false,
         Which::Nothing => false,
+        Which::Victim => false,
     }
 }
 

@@ -11,8 +11,8 @@ owned-passes WantLoad l t h k o = refl
 owned-passes WantStore l t h k o = refl
 
 -- evict takes either copy
-pub evict-effect : (k : Core) (v : Copy) (m : ManagerLine) (c l n : ℕ) (o : Opening) → evictTable Evicted v (pieces n k v m) ≡ effectOf (Evict c l) (pieces n k v m) o
+pub evict-effect : (k : Core) (v : Copy) (m : ManagerLine) (c l n i : ℕ) (o : Opening) → evictTable Evicted v (pieces n k v m i) ≡ effectOf (Evict c l) (pieces n k v m i) o
 unfolding effectOf tableOf evictTable stateRefusal stateRules first
-evict-effect k NoCopy m c l n o = refl
-evict-effect k (CopyShared w r) m c l n o = refl
-evict-effect k (CopyOwned d w r) m c l n o = refl
+evict-effect k NoCopy m c l n i o = refl
+evict-effect k (CopyShared w r) m c l n i o = refl
+evict-effect k (CopyOwned d w r) m c l n i o = refl

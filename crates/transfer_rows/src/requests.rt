@@ -1,7 +1,8 @@
 // The rows of serve and receive.
 ghost use Prim.Native.Nat.{ℕ};
 ghost use mathlib.Core.Path.{_≡_};
-ghost use Rattle.protocol.specs.{Machine.pieces, Tables.{row, recalled, sameVersion, serveLoad, receiveGrant, receiveRenew, effectOf}};
+ghost use lib.Dec.{leb};
+ghost use Rattle.protocol.specs.{Pick.{both, fails}, Copies.isHeld, Refusals.isCopy, Machine.pieces, Tables.{row, recalled, sameVersion, serveLoad, receiveGrant, receiveRenew, effectOf}};
 ghost use Rattle.transfer_rows.specs.Asked.{askedEffect};
 use protocol::Answer;
 use protocol::Call;
@@ -56,7 +57,7 @@ fn serve_load(
     copy: Copy,
     line: ManagerLine,
 ) -> Effect
-    ensures { λ r. ⌜ ((n : ℕ) → r ≡ serveLoad same l wts rts (pieces n core copy line)) ⌝ }
+    ensures { λ r. ⌜ ((n k : ℕ) → r ≡ serveLoad same l wts rts (pieces n core copy line k)) ⌝ }
 {
     let clocks = core.clocks;
     let recall = line.recall;
@@ -117,7 +118,7 @@ fn serve_asked(
     line: ManagerLine,
     opening: Opening,
 ) -> Effect
-    ensures { λ r. ⌜ ((n : ℕ) → r ≡ askedEffect want c l lts held (pieces n core copy line) opening) ⌝ }
+    ensures { λ r. ⌜ ((n k : ℕ) → r ≡ askedEffect want c l lts held (pieces n core copy line k) opening) ⌝ }
 {
     let clocks = core.clocks;
     let manager = line.manager;
@@ -168,7 +169,7 @@ fn serve_asked(
 
 // serve: the request in the core's slot, or 21 where it does not ask.
 pub fn serve(c: usize, core: Core, copy: Copy, line: ManagerLine, opening: Opening) -> Effect
-    ensures { λ r. ⌜ ((n : ℕ) → r ≡ effectOf (Call.Serve c) (pieces n core copy line) opening) ⌝ }
+    ensures { λ r. ⌜ ((n k : ℕ) → r ≡ effectOf (Call.Serve c) (pieces n core copy line k) opening) ⌝ }
 {
     let slot = core.slot;
     match slot {
@@ -199,7 +200,7 @@ fn dropped(core: Core, copy: Copy, line: ManagerLine) -> Effect
 // A renewal received: a shared copy takes the new end of its lease; with no copy, or an owned one,
 // it is dropped.
 fn receive_renew(rts: Stamp, core: Core, copy: Copy, line: ManagerLine) -> Effect
-    ensures { λ r. ⌜ ((n : ℕ) → r ≡ receiveRenew copy rts (pieces n core copy line)) ⌝ }
+    ensures { λ r. ⌜ ((n k : ℕ) → r ≡ receiveRenew copy rts (pieces n core copy line k)) ⌝ }
 {
     let clocks = core.clocks;
     let emptied = Core {
@@ -228,7 +229,7 @@ fn receive_grant(
     copy: Copy,
     line: ManagerLine,
 ) -> Effect
-    ensures { λ r. ⌜ ((n : ℕ) → r ≡ receiveGrant grant wts rts (pieces n core copy line)) ⌝ }
+    ensures { λ r. ⌜ ((n k : ℕ) → r ≡ receiveGrant grant wts rts (pieces n core copy line k)) ⌝ }
 {
     let clocks = core.clocks;
     let emptied = Core {
@@ -258,9 +259,42 @@ fn receive_grant(
     }
 }
 
-// receive: the grant in the core's slot, or 22 where there is no answer.
-pub fn receive(core: Core, copy: Copy, line: ManagerLine) -> Effect
-    ensures { λ r. ⌜ ((c n : ℕ) (o : Opening) → r ≡ effectOf (Call.Receive c) (pieces n core copy line) o) ⌝ }
+// Whether a grant is a copy of the line.
+fn is_copy(grant: Grant) -> bool
+    ensures { λ r. ⌜ r ≡ isCopy grant ⌝ }
+{
+    match grant {
+        Grant::Share => true,
+        Grant::Renew => false,
+        Grant::Own => true,
+    }
+}
+
+// Whether a core that holds so many copies has no room for one of the line.
+fn no_room(copy: Copy, copies: usize, opening: Opening) -> bool
+    ensures { λ r. ⌜ r ≡ both (fails (isHeld copy)) (leb (opening .cap) copies) ⌝ }
+{
+    match copy {
+        Copy::None => opening.cap <= copies,
+        Copy::Shared { .. } => false,
+        Copy::Owned { .. } => false,
+    }
+}
+
+// Whether 31 refuses a grant.
+fn is_full(grant: Grant, copy: Copy, copies: usize, opening: Opening) -> bool
+    ensures { λ r. ⌜ r ≡ both (isCopy grant) (both (fails (isHeld copy)) (leb (opening .cap) copies)) ⌝ }
+{
+    if !is_copy(grant) {
+        return false;
+    }
+    no_room(copy, copies, opening)
+}
+
+// receive: the grant in the core's slot; 22 where there is no answer, 31 where it brings a copy for which a core that holds so many has
+// no room.
+pub fn receive(core: Core, copy: Copy, line: ManagerLine, copies: usize, opening: Opening) -> Effect
+    ensures { λ r. ⌜ ((c n : ℕ) → r ≡ effectOf (Call.Receive c) (pieces n core copy line copies) opening) ⌝ }
 {
     let slot = core.slot;
     match slot {
@@ -271,6 +305,11 @@ pub fn receive(core: Core, copy: Copy, line: ManagerLine) -> Effect
             wts,
             rts,
             ..
-        } => receive_grant(grant, wts, rts, core, copy, line),
+        } => {
+            if is_full(grant, copy, copies, opening) {
+                return refusals::refused(31, core, copy, line);
+            }
+            receive_grant(grant, wts, rts, core, copy, line)
+        }
     }
 }

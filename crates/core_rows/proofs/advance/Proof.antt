@@ -7,14 +7,14 @@ use Rattle.core_rows.proofs.advance.Tie as tie
 
 returns : tie.Need-returns
 unfolding effectOf stateRefusal stateRules first
-returns c k n o =
+returns c k n i o =
     let b = c .before .before .before in
     rw (c .refused .ensures, sum-passes _ (b .before .before .args .by) (sym (b .after .ensures) ∙ c .before .enum-told .given .1))
 
 -- the clocks that the code set, beside the table's: the equation is between the two new values of lts
 returns-2 : tie.Need-returns-2
 unfolding effectOf tableOf advanceTable stateRefusal stateRules first
-returns-2 c k n o =
+returns-2 c k n i o =
     let e = c .before .before in
     let b = e .before .before in
     let s = sum-at _ (b .before .before .args .by) (sym (b .after .ensures) ∙ e .to .given .1) in

@@ -9,6 +9,6 @@ ask-spec =
     (tie.spec
     (λ c. search needs) (λ c κs. search needs) (λ c. search needs) (λ c κs. search needs) (λ c. search needs)
     (λ c κs. search needs)
-    (λ c n. rw (c .held-of .ensures, c .before .before .before .enum-told .given .1))
-    (λ c n. rw (c .refused .ensures, c .before .enum-told2 .given .1))
-    (λ c n. rw (c .refused2 .ensures, c .before .enum-told3 .given .1)))
+    (λ c n i. rw (c .held-of .ensures, c .before .before .before .enum-told .given .1))
+    (λ c n i. rw (c .refused .ensures, c .before .enum-told2 .given .1))
+    (λ c n i. rw (c .refused2 .ensures, c .before .enum-told3 .given .1)))

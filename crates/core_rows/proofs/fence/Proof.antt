@@ -5,4 +5,4 @@ use Rattle.core_rows.proofs.fence.Statement.{statement}
 use Rattle.core_rows.proofs.fence.Tie as tie
 
 pub fence-spec : {M : Type 1} → statement M
-fence-spec = tie.close (tie.spec (λ c κs. search needs) (λ c n o. unfold effectOf tableOf fenceTable stateRefusal stateRules first in rw (c .before .fence .ensures)))
+fence-spec = tie.close (tie.spec (λ c κs. search needs) (λ c n i o. unfold effectOf tableOf fenceTable stateRefusal stateRules first in rw (c .before .fence .ensures)))

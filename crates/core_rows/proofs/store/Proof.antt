@@ -8,22 +8,22 @@ use Rattle.core_rows.proofs.store.Tie as tie
 
 returns : tie.Need-returns
 unfolding effectOf tableOf storeTable stateRefusal stateRules first
-returns c g n o = rw (c .ask .ensures n, c .before .enum-told .given .1) (ruled (fails (isEmpty (c .before .before .before .before .args .core .slot))) 20 _ (pieces n (c .before .before .before .before .args .core) _ (c .before .before .before .before .args .line)) refl)
+returns c g n i o = rw (c .ask .ensures n i, c .before .enum-told .given .1) (ruled (fails (isEmpty (c .before .before .before .before .args .core .slot))) 20 _ (pieces n (c .before .before .before .before .args .core) _ (c .before .before .before .before .args .line) i) refl)
 
 returns-2 : tie.Need-returns-2
 unfolding effectOf tableOf storeTable stateRefusal stateRules first
-returns-2 c g n o = rw (c .ask2 .ensures n, c .before .enum-told2 .given .1) (ruled (fails (isEmpty (c .before .before .before .before .args .core .slot))) 20 _ (pieces n (c .before .before .before .before .args .core) _ (c .before .before .before .before .args .line)) refl)
+returns-2 c g n i o = rw (c .ask2 .ensures n i, c .before .enum-told2 .given .1) (ruled (fails (isEmpty (c .before .before .before .before .args .core .slot))) 20 _ (pieces n (c .before .before .before .before .args .core) _ (c .before .before .before .before .args .line) i) refl)
 
 returns-3 : tie.Need-returns-3
 unfolding effectOf stateRefusal stateRules first
-returns-3 c g n o =
+returns-3 c g n i o =
     let b = c .before .before .before in
     let x = b .before .before in
     rw (c .refused .ensures, x .copy .given .1, sum-passes (x .copy .given .0 .1 .1 .0) 1 (sym (b .after .ensures) ∙ c .before .enum-told3 .given .1))
 
 returns-4 : tie.Need-returns-4
 unfolding effectOf tableOf storeTable stateRefusal stateRules first
-returns-4 c g n o =
+returns-4 c g n i o =
     let e = c .before .before .before in
     let b = e .before .before in
     let s = sum-at (b .before .before .copy .given .0 .1 .1 .0) 1 (sym (b .after .ensures) ∙ e .earliest .given .1) in

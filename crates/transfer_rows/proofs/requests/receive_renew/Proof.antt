@@ -9,6 +9,6 @@ receive-renew-spec =
     tie.close
     (tie.spec
     (λ c. search needs) (λ c κs. search needs) (λ c. search needs) (λ c. search needs) (λ c κs. search needs)
-    (λ c n. unfold receiveRenew in rw (c .dropped .ensures, c .before .enum-told .given .1))
-    (λ c n. unfold receiveRenew in rw (c .before .copy .given .1))
-    (λ c n. unfold receiveRenew in rw (c .dropped2 .ensures, c .before .enum-told2 .given .1)))
+    (λ c n i. unfold receiveRenew in rw (c .dropped .ensures, c .before .enum-told .given .1))
+    (λ c n i. unfold receiveRenew in rw (c .before .copy .given .1))
+    (λ c n i. unfold receiveRenew in rw (c .dropped2 .ensures, c .before .enum-told2 .given .1)))

@@ -9,6 +9,6 @@ drop-spec =
     tie.close
     (tie.spec
     (λ c. search needs) (λ c κs. search needs) (λ c. search needs) (λ c κs. search needs) (λ c. search needs) (λ c κs. search needs)
-    (λ c k l n o. unfold effectOf tableOf evictTable stateRefusal stateRules first in rw (c .give-up .ensures n, c .before .enum-told .given .1))
-    (λ c k l n o. unfold effectOf tableOf evictTable stateRefusal stateRules first in rw (c .give-up2 .ensures n, c .before .enum-told2 .given .1))
-    (λ c k l n o. unfold effectOf stateRefusal stateRules first in rw (c .refused .ensures, c .before .enum-told3 .given .1)))
+    (λ c k l n i o. unfold effectOf tableOf evictTable stateRefusal stateRules first in rw (c .give-up .ensures n i, c .before .enum-told .given .1))
+    (λ c k l n i o. unfold effectOf tableOf evictTable stateRefusal stateRules first in rw (c .give-up2 .ensures n i, c .before .enum-told2 .given .1))
+    (λ c k l n i o. unfold effectOf stateRefusal stateRules first in rw (c .refused .ensures, c .before .enum-told3 .given .1)))

@@ -5,4 +5,4 @@ use Rattle.transfer_rows.proofs.{Laws.evict-effect, writebacks.evict.St
 use Rattle.transfer_rows.proofs.writebacks.evict.Tie as tie
 
 pub evict-spec : {M : Type 1} → statement M
-evict-spec = tie.close (tie.spec (λ c κs. search needs) (λ c k l n o. c .give-up .ensures n ∙ evict-effect _ _ _ k l n o))
+evict-spec = tie.close (tie.spec (λ c κs. search needs) (λ c k l n i o. c .give-up .ensures n i ∙ evict-effect _ _ _ k l n i o))

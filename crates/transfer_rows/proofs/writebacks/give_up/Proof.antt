@@ -9,6 +9,6 @@ give-up-spec =
     tie.close
     (tie.spec
     (λ c. search needs) (λ c κs. search needs) (λ c. search needs) (λ c. search needs) (λ c κs. search needs)
-    (λ c n. unfold evictTable in rw (c .refused .ensures, c .before .enum-told .given .1))
-    (λ c n. unfold evictTable in rw (c .enum-told2 .given .1))
-    (λ c n. unfold evictTable in rw (c .before .before .copy .given .1, c .written-back .ensures)))
+    (λ c n i. unfold evictTable in rw (c .refused .ensures, c .before .enum-told .given .1))
+    (λ c n i. unfold evictTable in rw (c .enum-told2 .given .1))
+    (λ c n i. unfold evictTable in rw (c .before .before .copy .given .1, c .written-back .ensures)))

@@ -7,4 +7,4 @@ use Rattle.transfer_rows.proofs.writebacks.take.Tie as tie
 pub take-spec : {M : Type 1} → statement M
 take-spec =
     tie.close
-    (tie.spec (λ c. search needs) (λ c κs. search needs) (λ c. search needs) (λ c l n o. unfold effectOf stateRefusal stateRules first in rw (c .refused .ensures, c .before .enum-told .given .1)) (λ c l n o. unfold effectOf tableOf takeTable stateRefusal stateRules first in rw (c .before .flight .given .1)))
+    (tie.spec (λ c. search needs) (λ c κs. search needs) (λ c. search needs) (λ c l n i o. unfold effectOf stateRefusal stateRules first in rw (c .refused .ensures, c .before .enum-told .given .1)) (λ c l n i o. unfold effectOf tableOf takeTable stateRefusal stateRules first in rw (c .before .flight .given .1)))
