@@ -54,7 +54,7 @@ module _ (f : Copies) where
   count-most (suc n) = let q = count-most n in let h = one-most (isHeld (f n)) in omega arith
 
   -- none is held where the count is 0; one is where it is not
-  none-held : (n : ℕ) → heldBelow f n ≡ 0 → (k : ℕ) → k < n → isHeld (f k) ≡ true → ⊥
+  pub none-held : (n : ℕ) → heldBelow f n ≡ 0 → (k : ℕ) → k < n → isHeld (f k) ≡ true → ⊥
   unfolding heldBelow
   none-held zero e k h i = omega arith
   none-held (suc n) e k h i = by-cases (ℕ-discrete k n)

@@ -2,7 +2,7 @@
 use Prim.Native.Nat.{ℕ, zero, suc, _+_, _<_}
 use mathlib.Core.{Path._≡_, Bool.{Bool, true, false}, List.{List, [], _∷_}}
 use lib.Dec.{ltb, eqb}
-use Rattle.protocol.specs.Pick.{pick, both}
+use Rattle.protocol.specs.{Pick.{pick, both}, Stamps.stamp, declared.Stamp.Stamp}
 use Rattle.protocol.specs.declared.Copy.{Copy, the-variants.{None as NoCopy, Shared as CopyShared, Owned as CopyOwned}}
 
 -- a copy is held
@@ -34,14 +34,17 @@ heldBelow f (suc n) = heldBelow f n + pick (isHeld (f n)) 1 0
 -- ---- the victim
 
 -- the end of a copy's lease
-abbrev pub rtsOf : Copy → ℕ
-rtsOf NoCopy = 0
-rtsOf (CopyShared w r) = r .0
-rtsOf (CopyOwned d w r) = r .0
+abbrev pub rtsOf : Copy → Stamp
+rtsOf NoCopy = stamp 0
+rtsOf (CopyShared w r) = r
+rtsOf (CopyOwned d w r) = r
 
--- THE RANK of a line's copy: what decides is first. "the held line with the smallest rts, ties to the smallest line number"
+-- THE RANK of the copy x of line l: what decides is first. "the held line with the smallest rts, ties to the smallest line number"
+abbrev pub rankOf : Copy → ℕ → List ℕ
+rankOf x l = rtsOf x .0 ∷ l ∷ []
+
 abbrev pub rank : Copies → ℕ → List ℕ
-rank f l = rtsOf (f l) ∷ l ∷ []
+rank f l = rankOf (f l) l
 
 -- a rank is below another: it is smaller where they first differ
 unfoldable pub below : List ℕ → List ℕ → Bool

@@ -11,11 +11,11 @@ use Rattle.protocol.specs.Refusals.{givenRefusal, wrongCount, buffersFit, machi
 use Rattle.protocol.specs.Step.{refused, meaning, commitBytes, accepted, step}
 use Rattle.protocol.specs.{declared.{Opening.Opening, Call.Call, Effect.Effect, Answer.the-variants.Refused, Move.the-variants.Still}, About.about}
 use Rattle.protocol.specs.Tables.{row, refusedRow, loadOwned, storeTable, fenceTable, advanceTable, evictTable, serveLoad, serveAsked, receiveRenew, receiveGrant}
-use Rattle.protocol.specs.Tables.{yieldTable, takeTable, effectOf}
+use Rattle.protocol.specs.Tables.{yieldTable, takeTable, victimTable, effectOf}
 use Rattle.protocol.proofs.{Extents.copy-ends, Refusals.{Fit, named, store-width, call-there}}
 use Rattle.protocol.proofs.Cases.{Row, asks-load, reads-shared, reads-dirty, reads-clean, asks-store, writes, fences, advances, evicts-shared, evicts-owned}
-use Rattle.protocol.proofs.Cases.{recalls, renews, shares, grants, gets-share, gets-own, gets-renewal, drops-none, drops-owned, yields, takes, piecesOf}
-use Rattle.protocol.proofs.Cases.{effect-case}
+use Rattle.protocol.proofs.Cases.{recalls, renews, shares, grants, gets-share, gets-own, gets-renewal, drops-none, drops-owned, yields, takes}
+use Rattle.protocol.proofs.Cases.{names-victim, piecesOf, effect-case}
 use Rattle.spelling.proofs.OverLaws.{over-part}
 use Rattle.refusals.specs.Input.{inputRefusal}
 use Rattle.buffers.specs.Moves.{moveFits}
@@ -76,7 +76,7 @@ pub record Sound (o : Opening) (c l : ℕ) (given p q : Bytes) (call : Call) (d 
 module _ {o : Opening} {c l : ℕ} {given p q : Bytes} {k : Pieces} where
   row-sound : {call : Call} {d : Effect} → wrongCount (about call .act) o (length given) ≡ false → copyStart o c l + o .width ≤ length p → Row c l k o call d
       → Sound o c l given p q call d
-  unfolding meaning movedPrivate loadOwned storeTable fenceTable advanceTable evictTable serveAsked serveLoad receiveGrant receiveRenew yieldTable takeTable
+  unfolding meaning movedPrivate loadOwned storeTable fenceTable advanceTable evictTable serveAsked serveLoad receiveGrant receiveRenew yieldTable takeTable victimTable
   row-sound n h (asks-load e i) = record { fits = refl; bytes = refl }
   row-sound n h (reads-shared e i) = record { fits = refl; bytes = refl }
   row-sound n h (reads-dirty e) = record { fits = refl; bytes = refl }
@@ -100,6 +100,7 @@ module _ {o : Opening} {c l : ℕ} {given p q : Bytes} {k : Pieces} where
   row-sound n h (drops-owned e i) = record { fits = refl; bytes = refl }
   row-sound n h (yields e i t) = record { fits = refl; bytes = refl }
   row-sound n h (takes e) = record { fits = refl; bytes = refl }
+  row-sound n h names-victim = record { fits = refl; bytes = refl }
 
 -- the effect of a call that none of 1 to 6 refuses
 pub effect-sound : (m : Machine) (call : Call) (given : Bytes) → Fit m → callRefusal call (m .state .opening) (length given) ≡ 0

@@ -7,24 +7,27 @@ use native.Mathlib.{Omega.arith, Decide.ℕ-discrete}
 use borrow.Author.Tests.{le-leb, lt-ltb, ne-eqb}
 use Rattle.protocol.proofs.{Extents.{copy-ends, inside}, Refusals.{or-none, Fit, machine-fit, named, named-inside, call-there}}
 use Rattle.protocol.specs.{Pick.pick, Limits.{mostCores, mostLines}, Buffers.{Bytes, part, copyStart, copyBytes, There, movedPrivate, movedShared}}
-use Rattle.protocol.specs.{About.{about, namedLine}, Given.{givenAs, bytesGiven}, Machine.{Machine, coreAt, lineAt, piecesAt, theCore, theLine, coreOf, lineOf}}
+use Rattle.protocol.specs.{About.{about, namedLine, looksOver}, Given.{givenAs, bytesGiven}}
+use Rattle.protocol.specs.Machine.{Machine, coreAt, copyAt, lineAt, copiesOf, victimOf, pieces, piecesAt, theCore, theLine, coreOf, lineOf}
 use Rattle.protocol.specs.{Refusals.{givenRefusal, machineRefusal, callRefusal}, Tables.{refusedRow, effectOf}, Step.{meaning, accepted, step}}
 use Rattle.protocol.specs.declared.{Opening.Opening, Call.Call, Answer.{Answer, the-variants.{Refused, Done, Commit}}, Effect.Effect, Move.the-variants.Still}
 use Rattle.protocol.specs.declared.Kind.the-variants.{Load, Store, Fence}
 use Rattle.refusals.specs.Input.{inputRefusal}
 use Rattle.buffers.{specs.Moves.{isThere, moveFits, Moves}, proofs.Laws.{from-there, start-there}}
-use Rattle.tables.specs.{Found.{foundAt, effectWith}, Spans.spanOf}
-use Rattle.tables.proofs.Effects.{step-refused, row-refused, step-accepted, Sound, effect-sound, effect-moves}
+use Rattle.tables.specs.{declared.copies.Look.Look, Found.{foundAt, effectWith}, Look.{lookTo, topOf}, Spans.spanOf}
+use Rattle.tables.proofs.{Effects.{step-refused, row-refused, step-accepted, Sound, effect-sound, effect-moves}, Looking.{look-copies, look-victim, line-unseen, effect-unseen}}
 
 -- what is there is found
 pub found-there : (n count most : ℕ) → n < count → count ≤ most → foundAt n count most ≡ n
 found-there n count most h k = rw (le-leb _ _ k, lt-ltb _ _ h)
 
--- where a call finds the core and the line that it is about: the line that it names, then the core, then the line
-pub record Finds (m : Machine) (call : Call) (v c l : ℕ) : Type 0 where
+-- where a call finds the core and the line that it is about: the line that it names, then the core, then, going through the core's copies where
+-- it looks them over, the line
+pub record Finds (m : Machine) (call : Call) (v c : ℕ) (k : Look) (l : ℕ) : Type 0 where
   pub named : v ≡ foundAt (namedLine (about call .line)) (m .state .opening .lines) mostLines
   pub core : c ≡ foundAt (theCore (about call .core) (lineAt (m .state) v .manager)) (m .state .opening .cores) mostCores
-  pub line : l ≡ foundAt (theLine (about call .line) (coreAt (m .state) c .slot)) (m .state .opening .lines) mostLines
+  pub look : k ≡ lookTo (copyAt (m .state) c) (topOf (about call .line) (m .state .opening .lines))
+  pub line : l ≡ foundAt (theLine (about call .line) (coreAt (m .state) c .slot) (k .line)) (m .state .opening .lines) mostLines
 
 -- a commit's bytes lie in a buffer in which the line's do
 span-inside : (a : Answer) (start width top : ℕ) → start + width ≤ top → spanOf a start width .start + spanOf a start width .count ≤ top
@@ -51,7 +54,7 @@ same-either true h = h
 same-either false h = h
 
 -- n is the first of 13 and 1 to 6 that applies; `given` is what is given to a store
-module _ (m : Machine) (call : Call) (given : Bytes) (n : ℕ) (e : n ≡ inputRefusal m call given) (v c l : ℕ) (f : Finds m call v c l) where
+module _ (m : Machine) (call : Call) (given : Bytes) (n : ℕ) (e : n ≡ inputRefusal m call given) (v c : ℕ) (k : Look) (l : ℕ) (f : Finds m call v c k l) where
   abbrev o : Opening
   o = m .state .opening
 
@@ -60,7 +63,7 @@ module _ (m : Machine) (call : Call) (given : Bytes) (n : ℕ) (e : n ≡ inputR
   bytes = bytesGiven call given
 
   abbrev pub made : Effect
-  made = effectWith n call (piecesAt (m .state) c l) o
+  made = effectWith n call (pieces l (coreAt (m .state) c) (copyAt (m .state) c l) (lineAt (m .state) l) (k .copies)) o
 
   -- ---- none of them applies
 
@@ -78,17 +81,31 @@ module _ (m : Machine) (call : Call) (given : Bytes) (n : ℕ) (e : n ≡ inputR
         let q = call-there fit call (length bytes) (allowed .1) in
         f .core ∙ (rw (f .named ∙ found-there _ _ _ h (i .mostLines)) (found-there _ _ _ (q .core) (i .mostCores)))
 
+    -- the line by the core's victim, whether the call looks for it or not
+    victim-is : theLine (about call .line) (coreAt (m .state) c .slot) (k .line) ≡ theLine (about call .line) (coreAt (m .state) c .slot) (victimOf (m .state) c)
+    victim-is = go (looksOver (about call .line)) refl
+      where
+        go : (b : Bool) → looksOver (about call .line) ≡ b
+            → theLine (about call .line) (coreAt (m .state) c .slot) (k .line) ≡ theLine (about call .line) (coreAt (m .state) c .slot) (victimOf (m .state) c)
+        go true t = rw (f .look, look-victim (m .state) c (about call .line) (inside o (fit .opening) .mostLines) t)
+        go false t = line-unseen (about call .line) (coreAt (m .state) c .slot) (k .line) (victimOf (m .state) c) t
+
     line-is : l ≡ lineOf call (m .state)
     line-is =
         let q = call-there fit call (length bytes) (allowed .1) in
-        f .line ∙ (rw core-is (found-there _ _ _ (q .line) (inside o (fit .opening) .mostLines)))
+        f .line ∙ rw victim-is (rw core-is (found-there _ _ _ (q .line) (inside o (fit .opening) .mostLines)))
 
     there : There o c l
     there = rw (core-is, line-is) (call-there fit call (length bytes) (allowed .1))
 
     accepted-effect : made ≡ effectOf call (piecesAt (m .state) c l) o
     unfolding effectWith
-    accepted-effect = rw z
+    accepted-effect = rw z (go (looksOver (about call .line)) refl)
+      where
+        go : (b : Bool) → looksOver (about call .line) ≡ b
+            → effectOf call (pieces l (coreAt (m .state) c) (copyAt (m .state) c l) (lineAt (m .state) l) (k .copies)) o ≡ effectOf call (piecesAt (m .state) c l) o
+        go true t = rw (f .look, look-copies (m .state) c (about call .line) (inside o (fit .opening) .mostLines) t)
+        go false t = effect-unseen l (coreAt (m .state) c) (copyAt (m .state) c l) (lineAt (m .state) l) (k .copies) (copiesOf (m .state) c) o call t
 
     sound : Sound o c l bytes (m .private) (m .shared) call made
     sound = rw (accepted-effect, core-is, line-is) (effect-sound m call bytes fit (allowed .1))

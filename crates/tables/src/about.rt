@@ -1,10 +1,10 @@
 // The core and the line that a call is about, as indices of the state's arrays: those that it names, the
-// line of its core's request, the owner of its line. Where the opening has no such core or line, or lies
+// line of its core's request, the owner of its line, its core's victim. Where the opening has no such core or line, or lies
 // outside the limits, the index is 0, so that every call, refused or not, finds elements to look at.
 ghost use mathlib.Core.Path.{_≡_};
 ghost use Prim.Native.Nat.{_<_};
-ghost use Rattle.protocol.specs.{Limits.{mostCores, mostLines}, About.namedLine, Machine.{theCore, theLine}};
-ghost use Rattle.tables.specs.Found.{Found};
+ghost use Rattle.protocol.specs.{Limits.{mostCores, mostLines}, About.{namedLine, looksOver}, Machine.{slotLine, theCore, theLine}};
+ghost use Rattle.tables.specs.{Found.Found, Look.Top};
 use protocol::About;
 use protocol::Manager;
 use protocol::Opening;
@@ -32,8 +32,23 @@ fn named(line: Which) -> usize
 {
     match line {
         Which::Named(l) => l,
-        Which::InSlot => 0,
+        Which::Asked => 0,
+        Which::Granted => 0,
         Which::Nothing => 0,
+        Which::Victim => 0,
+    }
+}
+
+// Whether a call about this line looks over all copies of its core.
+fn looks_over(line: Which) -> bool
+    ensures { λ r. ⌜ r ≡ looksOver line ⌝ }
+{
+    match line {
+        Which::Named(_) => false,
+        Which::Asked => false,
+        Which::Granted => true,
+        Which::Nothing => false,
+        Which::Victim => true,
     }
 }
 
@@ -51,18 +66,27 @@ fn core_by(core: Who, manager: Manager) -> usize
     }
 }
 
-// The line that a call is about, by its core's slot.
-fn line_by(line: Which, slot: Slot) -> usize
-    ensures { λ r. ⌜ r ≡ theLine line slot ⌝ }
+// The line that a slot speaks of.
+fn slot_line(slot: Slot) -> usize
+    ensures { λ r. ⌜ r ≡ slotLine slot ⌝ }
+{
+    match slot {
+        Slot::Empty => 0,
+        Slot::Asked { line, .. } => line,
+        Slot::Answered { line, .. } => line,
+    }
+}
+
+// The line that a call is about, by its core's slot and victim.
+fn line_by(line: Which, slot: Slot, victim: usize) -> usize
+    ensures { λ r. ⌜ r ≡ theLine line slot victim ⌝ }
 {
     match line {
         Which::Named(l) => l,
-        Which::InSlot => match slot {
-            Slot::Empty => 0,
-            Slot::Asked { line, .. } => line,
-            Slot::Answered { line, .. } => line,
-        },
+        Which::Asked => slot_line(slot),
+        Which::Granted => slot_line(slot),
         Which::Nothing => 0,
+        Which::Victim => victim,
     }
 }
 
@@ -82,10 +106,29 @@ pub fn core_of(about: About, manager: Manager, opening: Opening) -> usize
     found(core_by(core, manager), opening.cores, Opening::MOST_CORES)
 }
 
-// The line that a call is about, by its core's slot.
-pub fn line_of(about: About, slot: Slot, opening: Opening) -> usize
-    ensures { λ r. ⌜ Found (theLine (about .line) slot) (opening .lines) mostLines r ⌝ }
+// How many lines a call goes through to look over its core's copies, from line 0 on: all of the opening's, or none.
+pub fn looked_over(about: About, opening: Opening) -> usize
+    ensures { λ r. ⌜ Top (about .line) (opening .lines) r ⌝ }
 {
     let line = about.line;
-    found(line_by(line, slot), opening.lines, Opening::MOST_LINES)
+    let lines = opening.lines;
+    if !looks_over(line) {
+        return 0;
+    }
+    if Opening::MOST_LINES < lines {
+        return 0;
+    }
+    lines
+}
+
+// The line that a call is about, by its core's slot and victim.
+pub fn line_of(about: About, slot: Slot, victim: usize, opening: Opening) -> usize
+    ensures { λ r. ⌜ Found (theLine (about .line) slot victim) (opening .lines) mostLines r ⌝ }
+{
+    let line = about.line;
+    found(
+        line_by(line, slot, victim),
+        opening.lines,
+        Opening::MOST_LINES,
+    )
 }
