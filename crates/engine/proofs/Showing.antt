@@ -5,8 +5,8 @@ use native.Mathlib.Omega.{arith}
 use lib.ListN.{length, length-replicate}
 use borrow.Author.Tests.{ne-eqb}
 use denote.Ref.{RefT, now}
-use Rattle.protocol.specs.{Pick.pick, Buffers.{Bytes, copyStart, managerStart, There}, Machine.{Machine, machine, copyAt}}
-use Rattle.protocol.specs.{Refusals.{machineRefusal, stateFits, isHeld}, Step.{shown, showRefusal}, declared.{State.State, Call.the-variants.Load}}
+use Rattle.protocol.specs.{Pick.pick, Buffers.{Bytes, copyStart, managerStart, There}, Copies.isHeld, Machine.{Machine, machine, copyAt}}
+use Rattle.protocol.specs.{Refusals.{machineRefusal, stateFits}, Step.{shown, showRefusal}, declared.{State.State, Call.the-variants.Load}}
 use Rattle.protocol.proofs.Refusals.{Fit, or-none, machine-fit, call-there}
 use Rattle.refusals.specs.Input.{machineWith, inputRefusal}
 use Rattle.buffers.{specs.Moves.isThere, proofs.Laws.{from-there, start-there}}

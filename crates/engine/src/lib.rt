@@ -6,7 +6,7 @@
 // Callers write `d = load(d.state, ..)`, which saves a copy of the state against one by way of a local.
 // `step` saves another copy against those functions.
 ghost use mathlib.Core.{Path._≡_, List.[]};
-ghost use Rattle.protocol.specs.{Machine.pieces, Refusals.isHeld};
+ghost use Rattle.protocol.specs.Machine.{pieces};
 ghost use Rattle.engine.specs.{Pieces.OnPieces, Calls.{Makes, Opens, Shows, PartOf}};
 use protocol::Answer;
 use protocol::Call;
@@ -18,6 +18,7 @@ use protocol::ManagerLine;
 use protocol::Name;
 use protocol::Opening;
 use protocol::State;
+use tables::Look;
 
 // What a call makes of the pieces that it looks at: one core, its copy of one line, the manager's
 // line. `start` and `count` are those of `Returned`.
@@ -40,8 +41,9 @@ pub struct Returned {
     pub state: State,
 }
 
-// What a call makes of the pieces of a core and a line, with its line of bytes moved. `n` is the first
-// of 13 and 1 to 6 that applies, or 0; `given` is what is given to a store, and `read` how it is read.
+// What a call makes of the pieces of a core, which holds so many copies, and a line, with its line of bytes
+// moved. `n` is the first of 13 and 1 to 6 that applies, or 0; `given` is what is given to a store, and
+// `read` how it is read.
 fn on_pieces(
     n: u8,
     call: Call,
@@ -50,15 +52,16 @@ fn on_pieces(
     k: Core,
     copy: Copy,
     m: ManagerLine,
+    copies: usize,
     private: &mut [u8],
     shared: &mut [u8],
     c: usize,
     l: usize,
     given: &[u8],
 ) -> NewPieces
-    ensures { λ r. ⌜ OnPieces n call read opening (pieces l k copy m) c l (given .entry) («private» .entry) (shared .entry) r («private» .exit) (shared .exit) ⌝ }
+    ensures { λ r. ⌜ OnPieces n call read opening (pieces l k copy m copies) c l (given .entry) («private» .entry) (shared .entry) r («private» .exit) (shared .exit) ⌝ }
 {
-    let d = tables::effect(n, call, l, k, copy, m, opening);
+    let d = tables::effect(n, call, l, k, copy, m, copies, opening);
     let answer = d.answer;
     let moves = d.moves;
     let next_core = d.core;
@@ -104,7 +107,16 @@ pub fn step(s: State, private: &mut [u8], shared: &mut [u8], call: Call, given: 
     let c = tables::core_of(about, manager, opening);
     let k = next.core[c];
     let slot = k.slot;
-    let l = tables::line_of(about, slot, opening);
+    let top = tables::looked_over(about, opening);
+    let mut look = Look::nothing();
+    let mut j: usize = 0;
+    while j < top {
+        let seen = next.cell[c * Opening::MOST_LINES + j];
+        let held = seen.copy;
+        look = look.with(j, held);
+        j += 1;
+    }
+    let l = tables::line_of(about, slot, look.line, opening);
     let i = c * Opening::MOST_LINES + l;
     let e = next.cell[i];
     let m = next.line[l];
@@ -117,6 +129,7 @@ pub fn step(s: State, private: &mut [u8], shared: &mut [u8], call: Call, given: 
         k,
         copy,
         m,
+        look.copies,
         private,
         shared,
         c,
@@ -216,6 +229,14 @@ pub fn writeback(
     step(s, private, shared, Call::Writeback { core, line }, b"")
 }
 
+// The line that a core gives up first: the held one with the smallest rts, of those the smallest number.
+// Nothing changes.
+pub fn victim(s: State, private: &mut [u8], shared: &mut [u8], core: usize) -> Returned
+    ensures { λ r. ⌜ Makes (Call.Victim core) [] s («private» .entry) (shared .entry) r («private» .exit) (shared .exit) ⌝ }
+{
+    step(s, private, shared, Call::Victim { core }, b"")
+}
+
 // A core's clock of loads grows.
 pub fn advance(s: State, private: &mut [u8], shared: &mut [u8], core: usize, by: u32) -> Returned
     ensures { λ r. ⌜ Makes (Call.Advance core by) [] s («private» .entry) (shared .entry) r («private» .exit) (shared .exit) ⌝ }
@@ -274,17 +295,6 @@ pub fn open(opening: Opening) -> Opened
     }
 }
 
-// Whether a core holds a copy.
-fn is_held(copy: Copy) -> bool
-    ensures { λ r. ⌜ r ≡ isHeld copy ⌝ }
-{
-    match copy {
-        Copy::None => false,
-        Copy::Shared { .. } => true,
-        Copy::Owned { .. } => true,
-    }
-}
-
 // The part of a slice that has `count` bytes from `start` on, as far as the slice has them; where it
 // ends before `start`, the empty part at its end. Nothing is copied.
 fn part(bytes: &[u8], start: usize, count: usize) -> &[u8]
@@ -327,7 +337,7 @@ pub fn show<'a>(s: State, private: &'a [u8], shared: &'a [u8], core: usize, line
     let i = core * Opening::MOST_LINES + line;
     let e = s.cell[i];
     let copy = e.copy;
-    if is_held(copy) {
+    if tables::is_held(copy) {
         let start = buffers::copy_start(opening, core, line);
         return part(private, start, width);
     }

@@ -2,7 +2,7 @@
 -- are.
 use Prim.Native.Nat.{ℕ, zero, suc, _+_, _≤_, _<_}
 use mathlib.Core.{Path.{_≡_, refl, sym, _∙_, ap}, Bool.{Bool, true, false}, Logic.{_⊎_, inl, inr}, List.{[], _∷_}}
-use native.Mathlib.Omega.{arith}
+use native.Mathlib.{Numerals.add-one, Omega.arith}
 use lib.Dec.{ltb, eqb}
 use borrow.Author.Tests.{le-leb, lt-ltb}
 use Rattle.protocol.specs.{Pick.{pick, both}, About.{about, looksOver}, Copies.{isHeld, Copies, heldBelow, rank, rankOf, below, IsVictim, replaces, victimBelow}}
@@ -107,6 +107,14 @@ seen : (f : Copies) (n : ℕ) → n ≤ 64 → Seen f n (lookTo f n)
 unfolding lookTo heldBelow victimBelow
 seen f zero h = record { copies = refl; line = refl; copy = inl (refl, refl) }
 seen f (suc n) h = next f n (omega (arith, h)) (lookTo f n) (seen f n (omega (arith, h)))
+
+-- what a loop knows that goes through the copies f and has passed j lines: with one line more, and where it ends
+pub look-next : (f : Copies) (j : ℕ) (k r : Look) → k ≡ lookTo f j → r ≡ withCopy k j (f j) → r ≡ lookTo f (j + 1)
+unfolding lookTo
+look-next f j k r e h = h ∙ rw (e, add-one)
+
+pub look-ends : (f : Copies) (j top : ℕ) (k : Look) → j ≤ top → top ≤ j → k ≡ lookTo f j → k ≡ lookTo f top
+look-ends f j top k h i e = let q : j ≡ top = omega (arith, h, i) in rw q at e
 
 -- ranks that differ in the last place alone
 pub last-below : (a b : ℕ) → below (a ∷ []) (b ∷ []) ≡ ltb a b
