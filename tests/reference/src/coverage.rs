@@ -3,9 +3,10 @@
 //! run, in both forms. `rows` lists them; generated journals have to meet them all.
 //!
 //! Rows that no list of calls reaches are left out: refusals 1 and 2, which
-//! need a broken state or buffer, and answers that find an owned copy. A core's
-//! copy becomes owned only by the answer in its one slot, so a share or renewal
-//! that is under way never finds it owned.
+//! need a broken state or buffer, answers that find an owned copy, and a late
+//! renewal that finds a full cache. A core's copies come only by the answer in its
+//! one slot, so a share or renewal that is under way never finds its own copy
+//! owned, and where a renewal's copy is gone, nothing has come in its place.
 
 use std::collections::BTreeMap;
 
@@ -28,6 +29,7 @@ const ANSWERS: &[&str] = &[
     "done advance",
     "done yield",
     "done take",
+    "done victim",
     "commit load",
     "commit store",
     "commit fence",
@@ -107,6 +109,38 @@ const STEPS: &[&str] = &[
     "a step on an engine of 16 x 64 x 64",
 ];
 
+/// 02, "Caches with a size": what is received where the cache is full or has one
+/// room left, and which line is the victim. Full means that cap copies are held,
+/// where cap is below lines.
+const CACHES: &[&str] = &[
+    "opened: cap 1, several lines",
+    "opened: cap 2, more lines",
+    "opened: cap = lines, several",
+    "opened: another cap",
+    "receive: share, no copy, the last room",
+    "receive: own, no copy, the last room",
+    "receive: share, shared copy, full",
+    "receive: own, shared copy, full",
+    "receive: renew, shared copy, full",
+    "receive: renew, no copy, its copy's room is free",
+    "receive: after 31, a drop made room",
+    "receive: after 31, a writeback made room",
+    "receive: after 31, a yield made room",
+    "victim: the only copy",
+    "victim: by rts",
+    "victim: by rts, a smaller line is held",
+    "victim: by rts, another copy's wts is smaller",
+    "victim: by tie",
+    "victim: by tie, line 0 is not held",
+    "victim: by tie, an owned copy before a shared one",
+    "victim: shared",
+    "victim: owned clean",
+    "victim: owned dirty",
+    "victim: full",
+    "victim: room is left",
+    "victim: an answer waits for room",
+];
+
 /// 01, "Refused because of the input" and "of the state".
 const REFUSALS: &[&str] = &[
     "refused 14",
@@ -118,6 +152,11 @@ const REFUSALS: &[&str] = &[
     "refused 11: evict under fabric=2",
     "refused 11: drop under fabric=1",
     "refused 11: writeback under fabric=1",
+    "refused 11: victim under fabric=1",
+    "refused 11: fabric=2 without cap",
+    "refused 11: fabric=1 with cap",
+    "refused 11: cap twice",
+    "refused 11: cap before lease",
     "refused 11: a first line of the journal's form",
     "refused 11: a first line of the other form",
     "refused 11: another form",
@@ -125,6 +164,7 @@ const REFUSALS: &[&str] = &[
     "refused 12: another byte",
     "refused 12: leading zero",
     "refused 12: above the greatest",
+    "refused 12: only the cap",
     "refused 13: empty",
     "refused 13: odd in count",
     "refused 13: not 0-9 a-f",
@@ -136,6 +176,8 @@ const REFUSALS: &[&str] = &[
     "refused 7: width above the limit",
     "refused 7: lease 0",
     "refused 7: lease above the limit",
+    "refused 7: cap 0",
+    "refused 7: cap above lines",
     "refused 3: load",
     "refused 3: store",
     "refused 3: fence",
@@ -145,6 +187,7 @@ const REFUSALS: &[&str] = &[
     "refused 3: advance",
     "refused 3: serve",
     "refused 3: receive",
+    "refused 3: victim",
     "refused 3: and the line is none",
     "refused 3: and by is 0",
     "refused 4: load",
@@ -171,6 +214,8 @@ const REFUSALS: &[&str] = &[
     "refused 21: slot answered",
     "refused 22: slot empty",
     "refused 22: slot asked",
+    "refused 22: slot empty, full",
+    "refused 22: slot asked, full",
     "refused 23: line shared",
     "refused 23: no recall",
     "refused 24: the owner's copy is shared",
@@ -183,6 +228,8 @@ const REFUSALS: &[&str] = &[
     "refused 26: writeback",
     "refused 26: drop, a writeback in flight",
     "refused 26: writeback, a writeback in flight",
+    "refused 26: victim",
+    "refused 26: victim, other cores hold copies",
     "refused 30: drop, owned clean",
     "refused 30: drop, owned dirty",
     "refused 30: writeback, shared",
@@ -190,6 +237,13 @@ const REFUSALS: &[&str] = &[
     "refused 27: store",
     "refused 27: advance",
     "refused 27: serve",
+    "refused 31: share",
+    "refused 31: own",
+    "refused 31: cap 1",
+    "refused 31: cap above 1",
+    "refused 31: only shared copies held",
+    "refused 31: only owned copies held",
+    "refused 31: again",
 ];
 
 /// 01, "Journal and driver": limits, and where a run ends.
@@ -265,7 +319,7 @@ const TALLIES: &[&str] = &[
 
 /// Every row that generated journals must meet.
 pub fn rows() -> impl Iterator<Item = &'static str> {
-    [ANSWERS, STEPS, REFUSALS, JOURNALS, FORM_2, TALLIES].into_iter().flatten().copied()
+    [ANSWERS, STEPS, CACHES, REFUSALS, JOURNALS, FORM_2, TALLIES].into_iter().flatten().copied()
 }
 
 /// How often each row was met.
@@ -274,6 +328,15 @@ pub struct Coverage {
     counts: BTreeMap<String, u64>,
     /// Whether the journal that is played starts as one of the second form.
     second: bool,
+    /// For each core that got 31 and has not received since, what made room since.
+    waiting: [Option<Room>; MAX_CORES],
+}
+
+/// What has made room in a cache since 31.
+#[derive(Clone, Copy)]
+enum Room {
+    None,
+    By(&'static str),
 }
 
 impl Coverage {
@@ -311,6 +374,7 @@ impl Coverage {
     /// machine follows one step behind, to tell which row of a table applied.
     pub fn run(&mut self, journal: &[u8]) -> Vec<Record> {
         self.second = journal.starts_with(Form::Two.start().as_bytes());
+        self.waiting = [None; MAX_CORES];
         self.count_limits(journal);
         let mut records = Vec::new();
         let mut run = Run::new(journal);
@@ -318,9 +382,13 @@ impl Coverage {
         while let Some(record) = run.next() {
             self.count_answer(&record);
             match (&mut behind, &record.step) {
-                (None, _) => behind = run.machine().cloned(),
+                (None, _) => {
+                    behind = run.machine().cloned();
+                    self.count_cap(behind.as_ref());
+                }
                 (Some(machine), Some(step)) => {
                     self.count_step(step, record.answer, &machine.state);
+                    self.count_room(step, record.answer, machine);
                     machine.step(step);
                 }
                 _ => {}
@@ -330,6 +398,54 @@ impl Coverage {
         self.count_end(journal, run.form(), &records);
         self.count_tally(&records, run.machine());
         records
+    }
+
+    /// What capacity a journal of the second form opens.
+    fn count_cap(&mut self, machine: Option<&Machine>) {
+        let Some(Sizes { lines, cap, .. }) = machine.map(|machine| machine.state.sizes) else {
+            return;
+        };
+        if self.second && lines > 1 {
+            self.count(match cap {
+                _ if cap == lines => "opened: cap = lines, several",
+                1 => "opened: cap 1, several lines",
+                2 => "opened: cap 2, more lines",
+                _ => "opened: another cap",
+            });
+        }
+    }
+
+    /// What a core that has got 31 does until it receives.
+    fn count_room(&mut self, step: &Step, answer: Answer, before: &Machine) {
+        match (*step, answer) {
+            (Step::Receive { core }, Answer::Refused(31)) => {
+                if self.waiting[core as usize].replace(Room::None).is_some() {
+                    self.count("refused 31: again");
+                }
+            }
+            (Step::Receive { core }, Answer::Share | Answer::Own) => {
+                if let Some(Room::By(kind)) = self.waiting[core as usize].take() {
+                    self.count(format!("receive: after 31, a {kind} made room"));
+                }
+            }
+            (Step::Drop { core, .. }, Answer::Drop) | (Step::Writeback { core, .. }, Answer::Writeback) => {
+                self.made_room(core, kind_name(step));
+            }
+            (Step::Yield { line }, Answer::Yield) => {
+                let manager = before.state.lines[line as usize];
+                if let (Holder::Owned { core }, Recall::Flush) = (manager.holder, manager.recall) {
+                    self.made_room(core, kind_name(step));
+                }
+            }
+            _ => {}
+        }
+    }
+
+    /// Notes what has made room for the answer that a core waits for.
+    fn made_room(&mut self, core: u32, kind: &'static str) {
+        if let Some(room) = &mut self.waiting[core as usize] {
+            *room = Room::By(kind);
+        }
     }
 
     fn count_limits(&mut self, journal: &[u8]) {
@@ -379,9 +495,42 @@ impl Coverage {
             7 => self.count_limits_of(line),
             14 => self.count("refused 14"),
             11 if journal.is_empty() => self.count("refused 11: empty journal"),
-            11 if *place == 0 => self.count("refused 11: opening"),
+            11 if *place == 0 => {
+                self.count("refused 11: opening");
+                self.count_wrong_cap(line);
+            }
             11 => self.count(format!("refused 11: {}", no_form(form.unwrap_or(Form::One), line))),
-            _ => self.count(format!("refused {number}: {}", reason(*number, line))),
+            _ => {
+                self.count(format!("refused {number}: {}", reason(*number, line)));
+                let others = line.split(|&byte| byte == b' ').filter(|word| !word.starts_with(b"cap="));
+                let others = [&others.collect::<Vec<_>>().join(&b' '), &b" cap=1"[..]].concat();
+                if *place == 0 && *number == 12 && journal::opening(&others).is_ok() {
+                    self.count("refused 12: only the cap");
+                }
+            }
+        }
+    }
+
+    /// What is wrong with the cap of a first line that is 11, where all else is right.
+    fn count_wrong_cap(&mut self, line: &[u8]) {
+        let opens = |line: String| journal::opening(line.as_bytes()).is_ok();
+        let text = String::from_utf8_lossy(line);
+        if opens(format!("{text} cap=1")) {
+            self.count("refused 11: fabric=2 without cap");
+        }
+        if text.starts_with(Form::One.start()) && opens(text.replacen("fabric=1", "fabric=2", 1)) {
+            self.count("refused 11: fabric=1 with cap");
+        }
+        let caps: Vec<_> = text.split(' ').filter(|word| word.starts_with("cap=")).collect();
+        if let [one, other] = caps[..] {
+            if opens(text.replacen(&format!(" {one} {other}"), &format!(" {one}"), 1)) {
+                self.count("refused 11: cap twice");
+            }
+        }
+        if let [cap] = caps[..] {
+            if !text.ends_with(cap) && opens(text.replacen(&format!(" {cap}"), "", 1) + " " + cap) {
+                self.count("refused 11: cap before lease");
+            }
         }
     }
 
@@ -415,9 +564,14 @@ impl Coverage {
 
     /// Which sizes of an opening line lie outside the limits.
     fn count_limits_of(&mut self, line: &[u8]) {
-        let Ok((_, Sizes { cores, lines, width, lease })) = journal::opening(line) else {
+        let Ok((form, Sizes { cores, lines, width, lease, cap })) = journal::opening(line) else {
             return;
         };
+        if form == Form::Two && cap == 0 {
+            self.count("refused 7: cap 0");
+        } else if cap > lines {
+            self.count("refused 7: cap above lines");
+        }
         let most = [MAX_CORES, MAX_LINES, MAX_WIDTH, MAX_LEASE as usize];
         let names = ["cores", "lines", "width", "lease"];
         for ((size, most), name) in [cores, lines, width, lease].into_iter().zip(most).zip(names) {
@@ -436,6 +590,7 @@ impl Coverage {
             Answer::Refused(number) => {
                 self.count(state_refusal(number, step, before));
                 self.count_eviction_refusal(number, step, before);
+                self.count_cache_refusal(number, step, before);
             }
             _ => {
                 self.count(step_row(step, before));
@@ -468,6 +623,99 @@ impl Coverage {
                 }
             }
             Step::Serve { core } => self.count_serve(core, before),
+            Step::Receive { core } => self.count_receive(core, before),
+            Step::Victim { core } => self.count_victim(core, before),
+            _ => {}
+        }
+    }
+
+    /// What is received where the cache is full, or is full with it.
+    fn count_receive(&mut self, core: u32, before: &State) {
+        let Slot::Answered { grant, line, .. } = before.cores[core as usize].slot else {
+            return;
+        };
+        let Sizes { lines, cap, .. } = before.sizes;
+        let (count, row) = (held(before, core).count() as u32, receive_row(core, before));
+        match (copy(before, core, line), grant) {
+            _ if cap == lines => {}
+            (PrivateCopy::None, Grant::Renew) if count + 1 == cap => {
+                self.count(format!("receive: {row}, its copy's room is free"));
+            }
+            (PrivateCopy::None, Grant::Share | Grant::Own) if count + 1 == cap => {
+                self.count(format!("receive: {row}, the last room"));
+            }
+            (PrivateCopy::Shared { .. }, _) if count == cap => self.count(format!("receive: {row}, full")),
+            _ => {}
+        }
+    }
+
+    /// What kind of copy the victim has, where it stands among the others, and what
+    /// it is asked for.
+    fn count_victim(&mut self, core: u32, before: &State) {
+        let copies: Vec<_> = held(before, core).collect();
+        let Some(&(rts, line)) = copies.iter().min() else {
+            return;
+        };
+        let is_owned = |line| matches!(copy(before, core, line), PrivateCopy::Owned { .. });
+        let wts = |line| match copy(before, core, line) {
+            PrivateCopy::Shared { wts, .. } | PrivateCopy::Owned { wts, .. } => wts,
+            PrivateCopy::None => GREATEST,
+        };
+        if is_owned(line) {
+            self.count(format!("victim: owned {}", cleanness(copy(before, core, line))));
+        } else {
+            self.count("victim: shared");
+        }
+        let equal: Vec<_> = copies.iter().filter(|(other, _)| *other == rts).collect();
+        if equal.len() == 1 {
+            if copies[0].1 < line {
+                self.count("victim: by rts, a smaller line is held");
+            }
+            if copies.iter().any(|&(_, other)| wts(other) < wts(line)) {
+                self.count("victim: by rts, another copy's wts is smaller");
+            }
+        } else {
+            if line > 0 {
+                self.count("victim: by tie, line 0 is not held");
+            }
+            if is_owned(line) && equal.iter().any(|(_, other)| !is_owned(*other)) {
+                self.count("victim: by tie, an owned copy before a shared one");
+            }
+        }
+        let full = copies.len() as u32 == before.sizes.cap;
+        self.count(if full { "victim: full" } else { "victim: room is left" });
+        let slot = before.cores[core as usize].slot;
+        if matches!(slot, Slot::Answered { grant: Grant::Share | Grant::Own, line, .. }
+            if full && copy(before, core, line) == PrivateCopy::None)
+        {
+            self.count("victim: an answer waits for room");
+        }
+    }
+
+    /// Where a full cache is refused, and where a core without copies is.
+    fn count_cache_refusal(&mut self, number: u32, step: &Step, before: &State) {
+        let (Step::Receive { core } | Step::Victim { core }) = *step else {
+            return;
+        };
+        let Sizes { cores, lines, cap, .. } = before.sizes;
+        let owned = |(_, line): &(u32, u32)| matches!(copy(before, core, *line), PrivateCopy::Owned { .. });
+        let count = held(before, core).count() as u32;
+        match number {
+            22 if count == cap && cap < lines => {
+                let row = state_refusal(number, step, before);
+                self.count(format!("{row}, full"));
+            }
+            26 if (0..cores).any(|core| held(before, core).count() > 0) => {
+                self.count("refused 26: victim, other cores hold copies");
+            }
+            31 => {
+                self.count(if cap == 1 { "refused 31: cap 1" } else { "refused 31: cap above 1" });
+                match held(before, core).filter(owned).count() as u32 {
+                    0 => self.count("refused 31: only shared copies held"),
+                    all if all == count => self.count("refused 31: only owned copies held"),
+                    _ => {}
+                }
+            }
             _ => {}
         }
     }
@@ -549,6 +797,7 @@ fn no_form(form: Form, line: &[u8]) -> &'static str {
         (Some(b"evict"), _) => "evict under fabric=2",
         (Some(b"drop"), _) => "drop under fabric=1",
         (Some(b"writeback"), _) => "writeback under fabric=1",
+        (Some(b"victim"), _) => "victim under fabric=1",
         (Some(_), _) => "unknown step kind",
         (None, Ok((named, _))) if named == form => "a first line of the journal's form",
         (None, Ok(_)) => "a first line of the other form",
@@ -603,6 +852,12 @@ fn copy(before: &State, core: u32, line: u32) -> PrivateCopy {
     before.copies[core as usize][line as usize]
 }
 
+/// The lines that a core holds, each after its copy's rts.
+fn held(before: &State, core: u32) -> impl Iterator<Item = (u32, u32)> + '_ {
+    let copies = &before.copies[core as usize][..before.sizes.lines as usize];
+    copies.iter().zip(0..).filter_map(|(copy, line)| Some((copy.rts()?, line)))
+}
+
 fn slot_is_on(slot: Slot, wanted: u32) -> bool {
     match slot {
         Slot::Empty => false,
@@ -640,6 +895,18 @@ fn step_row(step: &Step, before: &State) -> String {
             format!("yield: {}, {}", recall_name(before, line), cleanness(copy(before, core, line)))
         }
         Step::Take { line } => format!("take: {}", recall_name(before, line)),
+        Step::Victim { core } => format!("victim: {}", victim_row(core, before)),
+    }
+}
+
+/// What makes a copy the victim.
+fn victim_row(core: u32, before: &State) -> &'static str {
+    let copies: Vec<_> = held(before, core).map(|(rts, _)| rts).collect();
+    let smallest = copies.iter().min();
+    match copies.iter().filter(|rts| Some(*rts) == smallest).count() {
+        _ if copies.len() == 1 => "the only copy",
+        1 => "by rts",
+        _ => "by tie",
     }
 }
 
@@ -719,11 +986,7 @@ fn receive_row(core: u32, before: &State) -> String {
     let Slot::Answered { grant, line, .. } = before.cores[core as usize].slot else {
         return "slot not answered".into();
     };
-    let grant = match grant {
-        Grant::Share => "share",
-        Grant::Renew => "renew",
-        Grant::Own => "own",
-    };
+    let grant = grant_name(grant);
     match copy(before, core, line) {
         PrivateCopy::None => format!("{grant}, no copy"),
         PrivateCopy::Shared { .. } => format!("{grant}, shared copy"),
@@ -731,7 +994,15 @@ fn receive_row(core: u32, before: &State) -> String {
     }
 }
 
-/// 20 to 27 or 30 with the reason.
+fn grant_name(grant: Grant) -> &'static str {
+    match grant {
+        Grant::Share => "share",
+        Grant::Renew => "renew",
+        Grant::Own => "own",
+    }
+}
+
+/// 20 to 27, 30 or 31 with the reason.
 fn state_refusal(number: u32, step: &Step, before: &State) -> String {
     let slot_of = |core: u32| match before.cores[core as usize].slot {
         Slot::Empty => "slot empty",
@@ -762,6 +1033,10 @@ fn state_refusal(number: u32, step: &Step, before: &State) -> String {
         (25, Step::Take { line }) => match owner(line) {
             Some(_) => "line owned".into(),
             None => "line shared".into(),
+        },
+        (31, Step::Receive { core }) => match before.cores[core as usize].slot {
+            Slot::Answered { grant, .. } => grant_name(grant).into(),
+            _ => slot_of(core).into(),
         },
         (30, Step::Drop { core, line }) => format!("drop, owned {}", cleanness(copy(before, core, line))),
         (30, Step::Writeback { core, line }) => format!("writeback, {}", held(core, line)),

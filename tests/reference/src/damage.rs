@@ -1,23 +1,24 @@
 //! Damage to journals: every refusal number that a journal can reach, at every
 //! position, and the edges of every limit.
 
-use crate::journal::{write_opening, Form, MAX_JOURNAL};
+use crate::journal::{opening, write_opening, Form, MAX_JOURNAL};
 use crate::machine::Sizes;
 use crate::random::Random;
 
 /// Damages a good journal of a form in one of many ways.
 pub fn damage(random: &mut Random, form: Form, text: Vec<u8>) -> Vec<u8> {
     match random.below(100) {
-        0..=54 => with_bad_line(random, form, text),
-        55..=63 => with_bad_bytes(random, text),
-        64..=68 => without_last_newline(text),
-        69..=72 => cut(random, text),
-        73..=78 => with_sizes_outside(random, form, text),
-        79..=85 => of_length(random, text),
-        86..=88 => whole_oddity(random, form),
+        0..=46 => with_bad_line(random, form, text),
+        47..=54 => with_bad_cap(random, text),
+        55..=62 => with_bad_bytes(random, text),
+        63..=66 => without_last_newline(text),
+        67..=69 => cut(random, text),
+        70..=78 => with_sizes_outside(random, form, text),
+        79..=84 => of_length(random, text),
+        85..=88 => whole_oddity(random, form),
         89..=90 => with_carriage_returns(random, text),
         91..=92 => without_opening(text),
-        93..=96 => with_other_start(form, text),
+        93..=96 => with_other_start(random, form, text),
         _ => with_second_opening(random, text),
     }
 }
@@ -82,16 +83,22 @@ fn bad_opening(random: &mut Random, form: Form) -> Vec<u8> {
         "fabric= cores=1 lines=1 width=1 lease=1",
         "fabric=1 cores=1 lines=1 width=1",
         "fabric=2 cores=1 lines=1 width=1",
+        "fabric=2 cores=1 lines=1 width=1 cap=1",
+        "fabric=2 cores=1 lines=1 width=1 lease=1",
         "fabric=1 cores=1 lines=1 width=1 lease=1 ",
         "fabric=2 cores=1 lines=1 width=1 lease=1 ",
+        "fabric=2 cores=1 lines=1 width=1 lease=1 cap=1 ",
         " fabric=1 cores=1 lines=1 width=1 lease=1",
         "fabric=1  cores=1 lines=1 width=1 lease=1",
-        "fabric=2  cores=1 lines=1 width=1 lease=1",
+        "fabric=2  cores=1 lines=1 width=1 lease=1 cap=1",
         "fabric=1 lines=1 cores=1 width=1 lease=1",
-        "fabric=2 cores=1 width=1 lines=1 lease=1",
+        "fabric=2 cores=1 width=1 lines=1 lease=1 cap=1",
         "fabric=1 cores=1 lines=1 width=1 lease=1 x=1",
+        "fabric=2 cores=1 lines=1 width=1 lease=1 cap=1 x=1",
         "fabric=1 cores=1 lines=1 width=1 lease=1 cap=1",
-        "fabric=2 cores=1 lines=1 width=1 lease=1 cap=1",
+        "fabric=6 cores=1 lines=1 width=1 lease=1 cap=1",
+        "fabric=02 cores=1 lines=1 width=1 lease=1 cap=1",
+        "fabric=22 cores=1 lines=1 width=1 lease=1 cap=1",
         "fabric=1\tcores=1\tlines=1\twidth=1\tlease=1",
         "FABRIC=1 cores=1 lines=1 width=1 lease=1",
         "op=take line=0",
@@ -101,18 +108,28 @@ fn bad_opening(random: &mut Random, form: Form) -> Vec<u8> {
         0 => random.pick(NO_FORM).as_bytes().to_vec(),
         1 => long_line(random),
         2 => {
-            let mut values = [1, 2, 3, 4].map(|_| random.between(1, 10).to_string());
+            let keys = size_keys(form);
+            let mut values: Vec<_> = keys.iter().map(|_| random.between(1, 10).to_string()).collect();
             for _ in 0..random.between(1, 2) {
-                values[random.below(4) as usize] = wrong_number(random);
+                values[random.below(keys.len() as u32) as usize] = wrong_number(random);
             }
-            let [cores, lines, width, lease] = values;
-            format!("{start} cores={cores} lines={lines} width={width} lease={lease}").into_bytes()
+            let sizes = keys.iter().zip(values).map(|(key, value)| format!(" {key}={value}"));
+            format!("{start}{}", sizes.collect::<String>()).into_bytes()
         }
         _ => {
-            let keys = format!("{start} cores=1 lines=1 width=1 lease=");
+            let last = if form == Form::Two { "1 cap=" } else { "" };
+            let keys = format!("{start} cores=1 lines=1 width=1 lease={last}");
             let value = long_value(random, keys.len(), b"0123456789");
             [keys.as_bytes(), &value[..]].concat()
         }
+    }
+}
+
+/// The keys of a form's first line, in their order.
+fn size_keys(form: Form) -> &'static [&'static str] {
+    match form {
+        Form::One => &["cores", "lines", "width", "lease"],
+        Form::Two => &["cores", "lines", "width", "lease", "cap"],
     }
 }
 
@@ -204,6 +221,14 @@ fn no_form(random: &mut Random) -> Vec<u8> {
         "op=write core=0 line=0",
         "op=writeback  core=0 line=0",
         "fabric=2",
+        "op=victim",
+        "op=victim ",
+        "op=victim line=0",
+        "op=victim core=0 line=0",
+        "op=victim core=0 ",
+        "op=victims core=0",
+        "op=victim  core=0",
+        "op=victim cores=0",
     ];
     random.pick(NO_FORM).as_bytes().to_vec()
 }
@@ -212,10 +237,13 @@ fn no_form(random: &mut Random) -> Vec<u8> {
 fn of_other_form(random: &mut Random, form: Form) -> Vec<u8> {
     let (core, line) = (fair_number(random), fair_number(random));
     let kind = match form {
-        Form::One => random.pick(&["drop", "writeback"]),
+        Form::One => random.pick(&["drop", "writeback", "victim"]),
         Form::Two => "evict",
     };
-    format!("op={kind} core={core} line={line}").into_bytes()
+    match kind {
+        "victim" => format!("op=victim core={core}").into_bytes(),
+        _ => format!("op={kind} core={core} line={line}").into_bytes(),
+    }
 }
 
 /// A value that is no number.
@@ -273,7 +301,7 @@ fn fair_number(random: &mut Random) -> String {
 /// A line of a known kind with one number wrong.
 fn bad_number(random: &mut Random, form: Form) -> Vec<u8> {
     let mut values = [fair_number(random), fair_number(random)];
-    let kind = random.below(9);
+    let kind = random.below(if form == Form::Two { 10 } else { 9 });
     let wrong = if kind < 4 { random.below(2) } else { 0 };
     values[wrong as usize] = wrong_number(random);
     let [one, two] = values;
@@ -292,7 +320,8 @@ fn bad_number(random: &mut Random, form: Form) -> Vec<u8> {
         5 => format!("op=serve core={one}"),
         6 => format!("op=receive core={one}"),
         7 => format!("op=yield line={one}"),
-        _ => format!("op=take line={one}"),
+        8 => format!("op=take line={one}"),
+        _ => format!("op=victim core={one}"),
     };
     text.into_bytes()
 }
@@ -346,19 +375,51 @@ fn cut(random: &mut Random, mut text: Vec<u8>) -> Vec<u8> {
 
 /// An opening with one or more sizes outside the limits, or just inside.
 fn with_sizes_outside(random: &mut Random, form: Form, text: Vec<u8>) -> Vec<u8> {
-    let mut sizes = Sizes { cores: 1, lines: 1, width: 1, lease: 1 };
+    let mut sizes = Sizes::SMALLEST;
     for _ in 0..random.between(1, 2) {
-        match random.below(4) {
+        match random.below(size_keys(form).len() as u32) {
             0 => sizes.cores = random.pick(&[0, 17, 16, 32, 65_536, u32::MAX]),
             1 => sizes.lines = random.pick(&[0, 65, 64, 128, 65_536, u32::MAX]),
             2 => sizes.width = random.pick(&[0, 65, 64, 128, 65_536, u32::MAX]),
-            _ => sizes.lease = random.pick(&[0, 1001, 1000, 65_536, u32::MAX]),
+            3 => sizes.lease = random.pick(&[0, 1001, 1000, 65_536, u32::MAX]),
+            _ => {
+                sizes.lines = random.pick(&[1, 2, 3, 64]);
+                sizes.cap = random.pick(&[0, 0, sizes.lines, sizes.lines + 1, 65, u32::MAX]);
+            }
         }
     }
+    with_opening(form, &sizes, text)
+}
+
+/// A journal with another first line.
+fn with_opening(form: Form, sizes: &Sizes, text: Vec<u8>) -> Vec<u8> {
     let mut lines = lines(&text);
     lines[0].clear();
-    write_opening(&mut lines[0], form, &sizes);
+    write_opening(&mut lines[0], form, sizes);
     lines[0].push(b'\n');
+    lines.concat()
+}
+
+/// A first line whose cap is not there, is there twice or at another place, has
+/// another name or another value, or, in the first form, is there at all.
+fn with_bad_cap(random: &mut Random, text: Vec<u8>) -> Vec<u8> {
+    let mut lines = lines(&text);
+    let opening = String::from_utf8_lossy(&lines[0]).trim_end().to_string();
+    let (sizes, cap) = opening.split_once(" cap=").unwrap_or((&opening, "1"));
+    let (before, lease) = sizes.split_once(" lease=").unwrap_or((sizes, "1"));
+    let wrong = wrong_number(random);
+    let above = opened_sizes(&text).lines + 1;
+    let bad = match random.below(14) {
+        0 | 1 => sizes.to_string(),
+        2 | 3 => format!("{sizes} cap={cap} cap={cap}"),
+        4 | 5 => format!("{before} cap={cap} lease={lease}"),
+        6 => format!("{sizes} {}{cap}", random.pick(&["Cap=", "caps=", "cap", "cap =", " cap=", "", "="])),
+        7 | 8 => format!("{sizes} cap={wrong}"),
+        9 => format!("{before} lease={wrong} cap={wrong}"),
+        10 | 11 => format!("{sizes} cap={}", random.pick(&[0, 0, above, above, 65, u32::MAX])),
+        _ => format!("{sizes} cap={cap}{}", random.pick(&["", " ", "0", "00", "99999999", " lease=1"])),
+    };
+    lines[0] = format!("{bad}\n").into_bytes();
     lines.concat()
 }
 
@@ -411,7 +472,11 @@ fn whole_oddity(random: &mut Random, form: Form) -> Vec<u8> {
         "fabric=1 cores=1 lines=1 width=1 lease=1\n ",
         "fabric=1 cores=0 lines=1 width=1 lease=1",
     ];
-    random.pick(ODD).replace(Form::One.start(), form.start()).into_bytes()
+    let odd = random.pick(ODD).replace(Form::One.start(), form.start());
+    match form {
+        Form::One => odd.into_bytes(),
+        Form::Two => odd.replace("lease=1", "lease=1 cap=1").into_bytes(),
+    }
 }
 
 /// Ends every line, or every line after the opening, with a carriage return.
@@ -428,17 +493,29 @@ fn without_opening(text: Vec<u8>) -> Vec<u8> {
     lines(&text)[1..].concat()
 }
 
-/// Lets a journal start as one of the other form.
-fn with_other_start(form: Form, text: Vec<u8>) -> Vec<u8> {
-    [form.other().start().as_bytes(), &text[form.start().len()..]].concat()
+/// Lets a journal start as one of the other form, mostly with a first line that
+/// this one has.
+fn with_other_start(random: &mut Random, form: Form, text: Vec<u8>) -> Vec<u8> {
+    if random.percent(25) {
+        return [form.other().start().as_bytes(), &text[form.start().len()..]].concat();
+    }
+    let sizes = opened_sizes(&text);
+    with_opening(form.other(), &sizes, text)
+}
+
+/// The sizes that a good journal opens.
+fn opened_sizes(text: &[u8]) -> Sizes {
+    let line = text.split(|&byte| byte == b'\n').next().unwrap_or(&[]);
+    opening(line).map_or(Sizes::SMALLEST, |(_, sizes)| sizes)
 }
 
 /// Puts a first line of either form between two lines.
 fn with_second_opening(random: &mut Random, text: Vec<u8>) -> Vec<u8> {
     let mut lines = lines(&text);
     let at = position(random, lines.len());
-    let rest = &lines[0][Form::One.start().len()..];
-    let opening = [random.pick(&Form::ALL).start().as_bytes(), rest].concat();
+    let mut opening = Vec::new();
+    write_opening(&mut opening, random.pick(&Form::ALL), &opened_sizes(&text));
+    opening.push(b'\n');
     lines.insert(at, opening);
     lines.concat()
 }

@@ -76,6 +76,7 @@ faults! {
     SkipReceive "skip-receive" "receive steps are skipped in silence"
     SkipYield "skip-yield" "yield steps are skipped in silence"
     SkipTake "skip-take" "take steps are skipped in silence"
+    SkipVictim "skip-victim" "victim steps are skipped in silence"
     // Steps that answer by the right word and do nothing.
     IdleLoad "idle-load" "a load answers rightly and changes nothing"
     IdleStore "idle-store" "a store answers rightly and changes nothing"
@@ -127,6 +128,41 @@ faults! {
     DropAnswersEvict "drop-answers-evict" "a drop answers evict"
     WritebackAnswersEvict "writeback-answers-evict" "a writeback answers evict"
     EvictAnswersByCopy "evict-answers-by-copy" "an evict answers drop or writeback, whichever it did"
+    // Caches with a size.
+    HoldsOneMore "holds-one-more" "31 is given only while more than cap copies are held"
+    Early31 "early-31" "31 while one copy less than cap is held"
+    NoRoomForShareOnly "31-for-share-only" "31 is not given for own"
+    NoRoomForOwnOnly "31-for-own-only" "31 is not given for share"
+    HeldLine31 "31-for-held-line" "31 also where the line is held"
+    Renewal31 "31-for-renewal" "31 for a renewal while cap copies are held"
+    Early31Before22 "31-before-22" "31 in the place of 22 while cap copies are held"
+    Refusal22For31 "22-for-31" "22 in the place of 31"
+    Refusal31EmptiesSlot "31-empties-slot" "a receive that is refused with 31 empties the slot"
+    Refusal31AsksAgain "31-asks-again" "a receive that is refused with 31 leaves the slot asked"
+    ReceiveMakesRoom "receive-makes-room" "a receive gives up its core's victim where 31 is due"
+    CountsAllCores "31-counts-all-cores" "the copies of all cores are counted for 31"
+    CountsCore0 "31-counts-core-0" "the copies of core 0 are counted for 31"
+    CountsOwnedOnly "31-counts-owned-only" "shared copies are not counted for 31"
+    CountsSharedOnly "31-counts-shared-only" "owned copies are not counted for 31"
+    DropMakesNoRoom "drop-makes-no-room" "a dropped copy still counts for 31"
+    WritebackMakesNoRoom "writeback-makes-no-room" "a copy that was written back still counts for 31"
+    FlushMakesNoRoom "flush-makes-no-room" "a copy that was flushed still counts for 31"
+    DowngradeMakesRoom "downgrade-makes-room" "a copy that was downgraded does not count for 31 any more"
+    VictimTiesToLarger "victim-ties-to-larger" "of copies with equal rts the one of the larger line is the victim"
+    VictimTiesToShared "victim-ties-to-shared" "of copies with equal rts a shared one is the victim"
+    VictimByWts "victim-by-wts" "the copy with the smallest wts is the victim"
+    VictimByLine "victim-by-line" "the smallest held line is the victim"
+    VictimLargestRts "victim-largest-rts" "the copy with the largest rts is the victim"
+    VictimByManager "victim-by-manager" "the manager's rts decides on the victim of shared copies"
+    VictimLine0 "victim-line-0" "line 0 is always the victim"
+    VictimNotHeld "victim-not-held" "a line that is not held counts as one with an rts of 0"
+    VictimOfCore0 "victim-of-core-0" "the victim is always core 0's"
+    VictimSkipsOwned "victim-skips-owned" "an owned copy is never the victim"
+    VictimSkipsShared "victim-skips-shared" "a shared copy is never the victim"
+    VictimDropsCopy "victim-drops-copy" "a victim's copy is given up at once"
+    VictimTakesTurns "victim-takes-turns" "a shared victim gets the largest rts, so that another is next"
+    VictimWithoutCopies "victim-without-copies" "a core without copies gets line 0, and not 26"
+    VictimFullOnly "victim-full-only" "26 for a victim where the cache is not full"
     // The driver.
     RefusalAsCommit "refusal-as-commit" "the end line counts a refusal as a commit"
     OtherCoreTs "other-core-ts" "a commit prints the lts of core 0"
@@ -136,6 +172,9 @@ faults! {
     LeaseAboveTaken "lease-above-taken" "a lease above 1,000 is taken"
     WidthAboveTaken "width-above-taken" "a width of 65 is taken"
     ZeroLinesTaken "zero-lines-taken" "an engine without lines is opened"
+    ZeroCapTaken "zero-cap-taken" "a cap of 0 is taken"
+    CapAboveTaken "cap-above-taken" "a cap above lines is taken"
+    VictimAsCommit "victim-as-commit" "the end line counts a victim as a commit"
     // The reader.
     UnknownStepSkipped "unknown-step-skipped" "a line with an unknown step kind is passed over"
     TrailingBlankTaken "trailing-blank-taken" "a blank at a line's end is passed over"
@@ -150,7 +189,12 @@ faults! {
     WritebackInForm1 "writeback-in-form-1" "writeback is a step of fabric=1 too"
     Form2AsForm1 "form-2-as-form-1" "a first line fabric=2 opens a journal of fabric=1"
     Form1AsForm2 "form-1-as-form-2" "a first line fabric=1 opens a journal of fabric=2"
-    CapPassedOver "cap-passed-over" "a cap after the lease of a first line is passed over"
+    VictimInForm1 "victim-in-form-1" "victim is a step of fabric=1 too"
+    CapInForm1 "cap-in-form-1" "a first line fabric=1 may have a cap"
+    NoCapInForm2 "no-cap-in-form-2" "a first line fabric=2 may lack its cap"
+    CapPassedOver "cap-passed-over" "the cap of a first line fabric=2 is passed over, and cap is lines"
+    Form1WithCap1 "form-1-with-cap-1" "a first line fabric=1 means a cap of 1"
+    CapPastGreatest "cap-past-greatest" "a cap above 4,294,967,295 is taken as lines"
     LaterOpeningPassedOver "later-opening-passed-over" "a first line further on is passed over"
     // The tally.
     TallyReceivedShare "tally-received-share" "the tally counts a share where it is received too"
@@ -159,6 +203,8 @@ faults! {
     TallyDropAsRenew "tally-drop-as-renew" "the tally counts a renewal that is dropped as one more"
     TallyDropStepAsRenew "tally-drop-step-as-renew" "the tally counts a drop step as a renewal"
     TallyWritebackAsOwn "tally-writeback-as-own" "the tally counts a writeback as a grant of ownership"
+    TallyVictimAsAsk "tally-victim-as-ask" "the tally counts a victim as a request"
+    Tally31AsAsk "tally-31-as-ask" "the tally counts a receive that is refused with 31 as a request"
     TallyRecallAsAsk "tally-recall-as-ask" "the tally counts a recall as a request"
     TallyRefusalAsAsk "tally-refusal-as-ask" "the tally counts a load or store that is refused with 20 as a request"
     TallySwapsCommits "tally-swaps-commits" "the tally counts loads as stores, and stores as loads"
@@ -179,7 +225,8 @@ impl Fault {
     /// What the end line says under this fault.
     pub fn distort_counts(self, counts: Counts) -> Counts {
         match self {
-            Fault::InventedCounts => Counts { end: counts.end, commits: counts.end, refused: 0 },
+            Fault::InventedCounts => Counts { commits: counts.end, refused: 0, ..counts },
+            Fault::VictimAsCommit => Counts { commits: counts.commits + counts.victims, ..counts },
             Fault::RefusalAsCommit => Counts { commits: counts.commits + counts.refused, ..counts },
             _ => counts,
         }
@@ -229,7 +276,9 @@ impl Fault {
                 taken_for(Step::Serve { core }, Answer::Own)
             }
             (Fault::TallyRecallAsAsk, _, Answer::Recall)
-            | (Fault::TallyRefusalAsAsk, _, Answer::Refused(20)) => taken_for(step, Answer::Ask),
+            | (Fault::TallyRefusalAsAsk, _, Answer::Refused(20))
+            | (Fault::TallyVictimAsAsk, _, Answer::Victim { .. })
+            | (Fault::Tally31AsAsk, _, Answer::Refused(31)) => taken_for(step, Answer::Ask),
             (Fault::TallySwapsCommits, _, Answer::Commit(Commit::Load { core, line, ts, data })) => {
                 taken_for(step, Answer::Commit(Commit::Store { core, line, ts, data }))
             }
@@ -245,7 +294,9 @@ impl Fault {
         let (taken, inside) = match self {
             Fault::LeaseAboveTaken => (sizes.lease > MAX_LEASE, Sizes { lease: 1, ..sizes }),
             Fault::WidthAboveTaken => (sizes.width as usize == MAX_WIDTH + 1, Sizes { width: 1, ..sizes }),
-            Fault::ZeroLinesTaken => (sizes.lines == 0, Sizes { lines: 1, ..sizes }),
+            Fault::ZeroLinesTaken => (sizes.lines == 0, Sizes { lines: 1, cap: 1, ..sizes }),
+            Fault::ZeroCapTaken => (sizes.cap == 0, Sizes { cap: 1, ..sizes }),
+            Fault::CapAboveTaken => (sizes.cap > sizes.lines, Sizes { cap: 1, ..sizes }),
             _ => return false,
         };
         taken && inside.inside_limits()
@@ -260,20 +311,33 @@ impl Fault {
         }
     }
 
+    /// What a reader with this fault reads in a first line.
+    pub fn opening(self, line: &[u8]) -> Result<(Form, Sizes), u32> {
+        let (form, sizes) = journal::opening(&self.opens_as(line))?;
+        Ok(match (self, form) {
+            (Fault::Form2AsForm1, _) => (Form::One, sizes),
+            (Fault::Form1AsForm2, _) => (Form::Two, sizes),
+            (Fault::CapInForm1, _) if line.starts_with(Form::One.start().as_bytes()) => (Form::One, sizes),
+            (Fault::CapPassedOver, _) => (form, Sizes { cap: sizes.lines, ..sizes }),
+            (Fault::Form1WithCap1, Form::One) => (form, Sizes { cap: 1, ..sizes }),
+            _ => (form, sizes),
+        })
+    }
+
     /// The line that a reader with this fault takes a first line for.
-    pub fn opens_as(self, line: &[u8]) -> Cow<'_, [u8]> {
-        let with_start = |from: Form, to: Form| match line.strip_prefix(from.start().as_bytes()) {
-            Some(rest) => Cow::Owned([to.start().as_bytes(), rest].concat()),
+    fn opens_as(self, line: &[u8]) -> Cow<'_, [u8]> {
+        let text = String::from_utf8_lossy(line);
+        let (before, cap) = text.split_once(" cap=").unwrap_or((&text, ""));
+        let lines = text.split(' ').find_map(|word| word.strip_prefix("lines=")).unwrap_or("");
+        let too_great = cap.bytes().all(|byte| byte.is_ascii_digit()) && cap.parse::<u32>().is_err();
+        let with_cap = |from: Form, cap: &str| match before.strip_prefix(from.start()) {
+            Some(keys) => Cow::Owned(format!("{}{keys} cap={cap}", Form::Two.start()).into_bytes()),
             None => Cow::Borrowed(line),
         };
         match self {
-            Fault::Form2AsForm1 => with_start(Form::Two, Form::One),
-            Fault::Form1AsForm2 => with_start(Form::One, Form::Two),
-            Fault::CapPassedOver => {
-                let mut words: Vec<&[u8]> = line.split(|&byte| byte == b' ').collect();
-                words.truncate(words.len() - usize::from(words[words.len() - 1].starts_with(b"cap=")));
-                Cow::Owned(words.join(&b' '))
-            }
+            Fault::CapInForm1 if text.contains(" cap=") => with_cap(Form::One, cap),
+            Fault::NoCapInForm2 if !text.contains(" cap=") => with_cap(Form::Two, lines),
+            Fault::CapPastGreatest if too_great && !cap.is_empty() => with_cap(Form::Two, lines),
             _ => Cow::Borrowed(line),
         }
     }
@@ -285,6 +349,7 @@ impl Fault {
             Fault::EvictInForm2 => "evict",
             Fault::DropInForm1 => "drop",
             Fault::WritebackInForm1 => "writeback",
+            Fault::VictimInForm1 => "victim",
             _ => "",
         };
         let form = match unknown_kind(form, &line) {
@@ -358,11 +423,13 @@ pub struct Faulty {
     pub machine: Machine,
     fault: Fault,
     grants: u32,
+    /// For each core, by how many a fault miscounts its copies.
+    miscounted: [u32; MAX_CORES],
 }
 
 impl Faulty {
     pub fn new(machine: Machine, fault: Fault) -> Faulty {
-        Faulty { machine, fault, grants: 0 }
+        Faulty { machine, fault, grants: 0, miscounted: [0; MAX_CORES] }
     }
 
     /// One step. Nothing comes back if the fault skips it.
@@ -455,6 +522,43 @@ impl Faulty {
             Fault::DropAnswersEvict | Fault::WritebackAnswersEvict | Fault::EvictAnswersByCopy => {
                 self.other_answer(step, before, answer)
             }
+            Fault::HoldsOneMore
+            | Fault::Early31
+            | Fault::NoRoomForShareOnly
+            | Fault::NoRoomForOwnOnly
+            | Fault::HeldLine31
+            | Fault::Renewal31
+            | Fault::CountsAllCores
+            | Fault::CountsCore0
+            | Fault::CountsOwnedOnly
+            | Fault::CountsSharedOnly
+            | Fault::DropMakesNoRoom
+            | Fault::WritebackMakesNoRoom
+            | Fault::FlushMakesNoRoom
+            | Fault::DowngradeMakesRoom => self.other_room(step, before, answer),
+            Fault::Early31Before22 => {
+                let full = |core| before.copies_held(core) >= before.state.sizes.cap;
+                let full = answer == Answer::Refused(22) && step.core().is_some_and(full);
+                self.refuse_if(full, before, 31, answer)
+            }
+            Fault::Refusal22For31 => self.refuse_if(answer == Answer::Refused(31), before, 22, answer),
+            Fault::Refusal31EmptiesSlot | Fault::Refusal31AsksAgain | Fault::ReceiveMakesRoom => {
+                self.refusal_31_changes(step, before, answer)
+            }
+            Fault::VictimTiesToLarger
+            | Fault::VictimTiesToShared
+            | Fault::VictimByWts
+            | Fault::VictimByLine
+            | Fault::VictimLargestRts
+            | Fault::VictimByManager
+            | Fault::VictimLine0
+            | Fault::VictimNotHeld
+            | Fault::VictimOfCore0
+            | Fault::VictimSkipsOwned
+            | Fault::VictimSkipsShared
+            | Fault::VictimWithoutCopies
+            | Fault::VictimFullOnly => self.other_victim(step, answer),
+            Fault::VictimDropsCopy | Fault::VictimTakesTurns => self.victim_changes(step, answer),
             Fault::SwapsHalves
             | Fault::StoresOnePlaceOff
             | Fault::StoresHalfALine
@@ -908,6 +1012,157 @@ impl Faulty {
             (Fault::EvictAnswersByCopy, Answer::Evict) => Answer::Drop,
             _ => answer,
         }
+    }
+
+    /// A receive that counts the copies in another way, or needs room for more or
+    /// for less than it should.
+    fn other_room(&mut self, step: &Step, before: &Machine, answer: Answer) -> Answer {
+        self.miscount(step, before, answer);
+        let Some((core, line)) = Self::received(step, before) else {
+            return answer;
+        };
+        let Slot::Answered { grant, .. } = before.state.cores[core as usize].slot else {
+            return answer;
+        };
+        let (cap, count) = (before.state.sizes.cap, self.counted(core, before));
+        let one_more = grant != Grant::Renew && before.copy(core, line) == PrivateCopy::None;
+        let refused = match self.fault {
+            Fault::HoldsOneMore => one_more && count > cap,
+            Fault::Early31 => one_more && count + 1 >= cap,
+            Fault::NoRoomForShareOnly => one_more && count >= cap && grant == Grant::Share,
+            Fault::NoRoomForOwnOnly => one_more && count >= cap && grant == Grant::Own,
+            Fault::HeldLine31 => count >= cap && grant != Grant::Renew,
+            Fault::Renewal31 => count >= cap && (one_more || grant == Grant::Renew),
+            _ => one_more && count >= cap,
+        };
+        if refused {
+            return self.refuse_if(true, before, 31, answer);
+        }
+        self.machine = before.clone();
+        self.machine.state.sizes.cap = before.state.sizes.lines;
+        let received = self.machine.step(step);
+        self.machine.state.sizes.cap = cap;
+        received
+    }
+
+    /// The copies of a core that are counted for 31.
+    fn counted(&self, core: u32, before: &Machine) -> u32 {
+        let held = before.copies_held(core);
+        let owned = before.copies(core).iter().filter(|copy| matches!(copy, PrivateCopy::Owned { .. }));
+        let owned = owned.count() as u32;
+        let miscounted = self.miscounted[core as usize];
+        match self.fault {
+            Fault::CountsAllCores => (0..before.state.sizes.cores).map(|core| before.copies_held(core)).sum(),
+            Fault::CountsCore0 => before.copies_held(0),
+            Fault::CountsOwnedOnly => owned,
+            Fault::CountsSharedOnly => held - owned,
+            Fault::DowngradeMakesRoom => held.saturating_sub(miscounted),
+            _ => held + miscounted,
+        }
+    }
+
+    /// Notes a copy that goes on counting, or that counts no more.
+    fn miscount(&mut self, step: &Step, before: &Machine, answer: Answer) {
+        let flushes = self.fault == Fault::FlushMakesNoRoom;
+        let core = match (self.fault, *step, answer) {
+            (Fault::DropMakesNoRoom, Step::Drop { core, .. }, Answer::Drop)
+            | (Fault::WritebackMakesNoRoom, Step::Writeback { core, .. }, Answer::Writeback) => Some(core),
+            (Fault::FlushMakesNoRoom | Fault::DowngradeMakesRoom, Step::Yield { line }, Answer::Yield) => {
+                let manager = before.state.lines[line as usize];
+                match manager.holder {
+                    Holder::Owned { core } if flushes == (manager.recall == Recall::Flush) => Some(core),
+                    _ => None,
+                }
+            }
+            _ => None,
+        };
+        if let Some(core) = core {
+            self.miscounted[core as usize] += 1;
+        }
+    }
+
+    /// A receive that is refused with 31 changes its slot, or makes room itself.
+    fn refusal_31_changes(&mut self, step: &Step, before: &Machine, answer: Answer) -> Answer {
+        let (Some((core, line)), Answer::Refused(31)) = (Self::received(step, before), answer) else {
+            return answer;
+        };
+        let clocks = &mut self.machine.state.cores[core as usize];
+        match (self.fault, clocks.slot) {
+            (Fault::Refusal31AsksAgain, Slot::Answered { grant, .. }) => {
+                let wish = if grant == Grant::Own { Wish::Store } else { Wish::Load };
+                clocks.slot = Slot::Asked { wish, line, lts: clocks.lts, wts: None };
+            }
+            (Fault::ReceiveMakesRoom, _) => {
+                if let Some(line) = before.victim(core) {
+                    self.machine.step(&Step::Evict { core, line });
+                    return self.machine.step(step);
+                }
+            }
+            _ => clocks.slot = Slot::Empty,
+        }
+        answer
+    }
+
+    /// Another line is the victim, or none.
+    fn other_victim(&self, step: &Step, answer: Answer) -> Answer {
+        let (Step::Victim { core }, Answer::Victim { .. } | Answer::Refused(26)) = (*step, answer) else {
+            return answer;
+        };
+        let core = if self.fault == Fault::VictimOfCore0 { 0 } else { core };
+        let candidates = self.machine.copies(core).iter().copied().zip(0..);
+        let candidates = candidates.filter(|(copy, _)| self.may_be_victim(core, *copy));
+        let chosen = candidates.min_by_key(|(copy, line)| self.victim_rank(*copy, *line));
+        match (self.fault, chosen) {
+            (Fault::VictimLine0, Some(_)) | (Fault::VictimWithoutCopies, None) => Answer::Victim { line: 0 },
+            (_, Some((_, line))) => Answer::Victim { line },
+            (_, None) => Answer::Refused(26),
+        }
+    }
+
+    /// Whether a core's copy can be the victim.
+    fn may_be_victim(&self, core: u32, copy: PrivateCopy) -> bool {
+        let held = self.machine.copies_held(core);
+        match (self.fault, copy) {
+            (Fault::VictimNotHeld, PrivateCopy::None) => held > 0,
+            (_, PrivateCopy::None) => false,
+            (Fault::VictimSkipsOwned, _) => !matches!(copy, PrivateCopy::Owned { .. }),
+            (Fault::VictimSkipsShared, _) => !matches!(copy, PrivateCopy::Shared { .. }),
+            (Fault::VictimFullOnly, _) => held >= self.machine.state.sizes.cap,
+            _ => true,
+        }
+    }
+
+    /// What the victim has the smallest of.
+    fn victim_rank(&self, copy: PrivateCopy, line: u32) -> (u32, bool, u32) {
+        let (wts, rts, owned) = match copy {
+            PrivateCopy::None => (0, 0, false),
+            PrivateCopy::Shared { wts, rts } => (wts, rts, false),
+            PrivateCopy::Owned { wts, rts, .. } => (wts, rts, true),
+        };
+        match (self.fault, self.machine.state.lines[line as usize].holder) {
+            (Fault::VictimTiesToLarger, _) => (rts, false, GREATEST - line),
+            (Fault::VictimTiesToShared, _) => (rts, owned, line),
+            (Fault::VictimByWts, _) => (wts, false, line),
+            (Fault::VictimByLine, _) => (0, false, line),
+            (Fault::VictimLargestRts, _) => (GREATEST - rts, false, line),
+            (Fault::VictimByManager, Holder::Shared { rts, .. }) => (rts, false, line),
+            _ => (rts, false, line),
+        }
+    }
+
+    /// A victim that does not leave the machine as it was.
+    fn victim_changes(&mut self, step: &Step, answer: Answer) -> Answer {
+        let (Step::Victim { core }, Answer::Victim { line }) = (*step, answer) else {
+            return answer;
+        };
+        match (self.fault, self.machine.copy(core, line)) {
+            (Fault::VictimDropsCopy, _) => drop(self.machine.step(&Step::Evict { core, line })),
+            (_, PrivateCopy::Shared { wts, .. }) => {
+                self.machine.set_copy(core, line, PrivateCopy::Shared { wts, rts: GREATEST });
+            }
+            _ => {}
+        }
+        answer
     }
 
     fn refusal_changes_clock(&mut self, step: &Step, answer: Answer) -> Answer {

@@ -3,7 +3,8 @@
 //! A generator plays each step on a machine of its own, so that it can choose
 //! steps that matter where the machine stands: pending requests go on, leases
 //! run out by one, renewals find their copy gone, recalls meet writebacks in
-//! flight. Some steps are wild, and some journals are damaged afterwards.
+//! flight, full caches make room. Some steps are wild, and some journals are
+//! damaged afterwards.
 
 use crate::damage;
 use crate::journal::{write_opening, write_step, Form, MAX_JOURNAL};
@@ -25,11 +26,11 @@ pub fn journal(seed: u64) -> Vec<u8> {
     }
 }
 
-/// A list of calls of a seed, on an engine of these sizes. It mixes evict, drop and
-/// writeback, which no journal can.
+/// A list of calls of a seed, on an engine of these sizes, of any capacity. It
+/// mixes evict, drop and writeback, which no journal can.
 pub fn calls(seed: u64, count: usize) -> (Sizes, Vec<Step>) {
     let mut random = Random::new(seed);
-    let mut traffic = Traffic::new(&mut random, Form::One);
+    let mut traffic = Traffic::new(&mut random, Form::Two);
     traffic.mixed = true;
     let steps = (0..count).map(|_| {
         let step = traffic.mostly_fruitful_step();
@@ -62,8 +63,8 @@ fn length(random: &mut Random, damaged: bool) -> Length {
 }
 
 /// Sizes with weight on small engines, where cores meet on few lines, and on
-/// the limits.
-fn sizes(random: &mut Random) -> Sizes {
+/// the limits. The second form also has capacities, mostly small ones.
+fn sizes(random: &mut Random, form: Form) -> Sizes {
     let (cores, lines, width) = match random.below(100) {
         0..=24 => (random.between(2, 4), random.between(1, 2), random.between(1, 2)),
         25..=49 => (random.between(1, 6), random.between(1, 4), random.between(1, 8)),
@@ -77,7 +78,16 @@ fn sizes(random: &mut Random) -> Sizes {
         2 => random.pick(&[1, MAX_LEASE]),
         _ => random.between(2, 20),
     };
-    Sizes { cores, lines, width, lease }
+    let cap = match form {
+        Form::One => lines,
+        Form::Two => match random.below(10) {
+            0..=2 => 1,
+            3..=5 => 2.min(lines),
+            6 | 7 => lines,
+            _ => random.between(1, lines),
+        },
+    };
+    Sizes { cores, lines, width, lease, cap }
 }
 
 /// What kind of traffic a journal has: chances in a hundred, and the cores and
@@ -126,11 +136,13 @@ pub struct Traffic<'a> {
     machine: Machine,
     /// What each core wants to do until it commits.
     wishes: [Option<Step>; MAX_CORES],
+    /// What a full cache would best do after the last step.
+    remedy: Option<Step>,
 }
 
 impl<'a> Traffic<'a> {
     pub fn new(random: &'a mut Random, form: Form) -> Traffic<'a> {
-        let sizes = sizes(random);
+        let sizes = sizes(random, form);
         Traffic::of_sizes(random, form, sizes)
     }
 
@@ -138,7 +150,7 @@ impl<'a> Traffic<'a> {
     pub fn of_sizes(random: &'a mut Random, form: Form, sizes: Sizes) -> Traffic<'a> {
         let mood = Mood::new(random, &sizes);
         let machine = Machine::open(sizes).expect("sizes inside the limits");
-        Traffic { random, form, mixed: false, mood, machine, wishes: [None; MAX_CORES] }
+        Traffic { random, form, mixed: false, mood, machine, wishes: [None; MAX_CORES], remedy: None }
     }
 
     /// Only reasonable traffic, of all cores on all lines: no wild steps and low
@@ -188,6 +200,20 @@ impl<'a> Traffic<'a> {
         let answer = self.machine.step(step);
         if let (Answer::Commit(_), Some(core)) = (answer, step.core()) {
             self.wishes[core as usize] = None;
+        }
+        self.remedy = self.remedy(step, answer);
+    }
+
+    /// What leads a full cache on after a step: after 31 its victim, after that the
+    /// end of the victim's copy, and then the answer that there was no room for.
+    fn remedy(&self, step: &Step, answer: Answer) -> Option<Step> {
+        match (*step, answer) {
+            (Step::Receive { core }, Answer::Refused(31)) => Some(Step::Victim { core }),
+            (Step::Victim { core }, Answer::Victim { line }) => Some(self.fitting_eviction(core, line)),
+            (Step::Drop { core, .. }, Answer::Drop) | (Step::Writeback { core, .. }, Answer::Writeback) => {
+                matches!(self.slot(core), Slot::Answered { .. }).then_some(Step::Receive { core })
+            }
+            _ => None,
         }
     }
 
@@ -239,6 +265,11 @@ impl<'a> Traffic<'a> {
     }
 
     fn next_step(&mut self) -> Step {
+        if let Some(remedy) = self.remedy.take() {
+            if self.random.percent(60) {
+                return remedy;
+            }
+        }
         if self.random.percent(self.mood.wild) {
             return self.wild_step();
         }
@@ -255,14 +286,19 @@ impl<'a> Traffic<'a> {
         self.core_step()
     }
 
-    /// A step that carries a request or a writeback on.
+    /// A step that carries a request or a writeback on, or makes room for an answer.
     fn pending_step(&mut self) -> Option<Step> {
         let mut steps = Vec::new();
         for core in 0..self.sizes().cores {
             match self.slot(core) {
                 Slot::Empty => {}
                 Slot::Asked { .. } => steps.push(Step::Serve { core }),
-                Slot::Answered { .. } => steps.push(Step::Receive { core }),
+                Slot::Answered { .. } => {
+                    steps.push(Step::Receive { core });
+                    if self.machine.refusal(&Step::Receive { core }) == Some(31) {
+                        steps.push(self.way_out(core));
+                    }
+                }
             }
         }
         for line in 0..self.sizes().lines {
@@ -320,11 +356,24 @@ impl<'a> Traffic<'a> {
         }
     }
 
+    /// A step of a core whose cache is full: its victim, or the end of that copy.
+    fn way_out(&mut self, core: u32) -> Step {
+        match self.machine.victim(core) {
+            Some(line) if self.random.percent(60) => self.fitting_eviction(core, line),
+            _ => Step::Victim { core },
+        }
+    }
+
     /// A step that gives up a copy: in the second form mostly the one that fits it.
     fn eviction(&mut self, core: u32, line: u32) -> Step {
         if self.form == Form::One || self.random.percent(40) {
             return self.any_eviction(core, line);
         }
+        self.fitting_eviction(core, line)
+    }
+
+    /// The step of the second form that fits a copy.
+    fn fitting_eviction(&self, core: u32, line: u32) -> Step {
         match self.machine.copy(core, line) {
             PrivateCopy::Owned { .. } => Step::Writeback { core, line },
             _ => Step::Drop { core, line },
@@ -395,6 +444,7 @@ impl<'a> Traffic<'a> {
             0 => Step::Load { core, line },
             1 => Step::Store { core, line, data: self.some_data(self.sizes().width as usize) },
             2 => Step::Fence { core },
+            3 if self.form == Form::Two && self.random.percent(30) => Step::Victim { core },
             3 => {
                 let line = self.held_line(core, line);
                 self.eviction(core, line)
@@ -441,7 +491,7 @@ impl<'a> Traffic<'a> {
         let Sizes { cores, lines, width, .. } = self.sizes();
         let core = wild_number(self.random, cores);
         let line = wild_number(self.random, lines);
-        match self.random.below(9) {
+        match self.random.below(if self.form == Form::Two { 10 } else { 9 }) {
             0 => Step::Load { core, line },
             1 => {
                 let width = width as usize;
@@ -457,7 +507,8 @@ impl<'a> Traffic<'a> {
             5 => Step::Serve { core },
             6 => Step::Receive { core },
             7 => Step::Yield { line },
-            _ => Step::Take { line },
+            8 => Step::Take { line },
+            _ => Step::Victim { core },
         }
     }
 }

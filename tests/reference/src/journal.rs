@@ -1,6 +1,6 @@
 //! The journal: its two forms, its lines, their grammar and the refusals 10 to 14
-//! (01, "Journal and driver"; 02, "Evict becomes drop and writeback"), and the
-//! text of a step, which the generator writes.
+//! (01, "Journal and driver"; 02, "Evict becomes drop and writeback" and "Caches
+//! with a size"), and the text of a step, which the generator writes.
 
 use crate::machine::{Bytes, Sizes, Step};
 
@@ -40,9 +40,10 @@ impl<'a> Iterator for Lines<'a> {
 /// The forms of a journal, which its first line names.
 #[derive(Clone, Copy, PartialEq, Eq, Debug)]
 pub enum Form {
-    /// `fabric=1`: a copy is given up by evict.
+    /// `fabric=1`: a copy is given up by evict, and a core may hold every line.
     One,
-    /// `fabric=2`: drop and writeback stand in the place of evict.
+    /// `fabric=2`: drop and writeback stand in the place of evict, the first line
+    /// names the capacity, and victim is a step.
     Two,
 }
 
@@ -61,7 +62,7 @@ impl Form {
     pub fn has_kind(self, kind: &[u8]) -> bool {
         match kind {
             b"evict" => self == Form::One,
-            b"drop" | b"writeback" => self == Form::Two,
+            b"drop" | b"writeback" | b"victim" => self == Form::Two,
             _ => KINDS.iter().any(|known| known.as_bytes() == kind),
         }
     }
@@ -78,14 +79,22 @@ impl Form {
 /// The kinds of steps that both forms have.
 const KINDS: [&str; 8] = ["load", "store", "fence", "advance", "serve", "receive", "yield", "take"];
 
-/// Reads the opening line: the form, the sizes and the lease, or 11 or 12. The
-/// limits of the sizes are not looked at here.
+/// Reads the opening line: the form, the sizes, the lease and the capacity, or 11
+/// or 12. The limits of the sizes are not looked at here.
 pub fn opening(line: &[u8]) -> Result<(Form, Sizes), u32> {
     let after = |form: Form| Some((form, line.strip_prefix(form.start().as_bytes())?));
     let (form, rest) = Form::ALL.into_iter().find_map(after).ok_or(11u32)?;
-    let [cores, lines, width, lease] = fields(rest, [" cores=", " lines=", " width=", " lease="])?;
+    let ([cores, lines, width, lease], cap) = match form {
+        Form::One => (fields(rest, [" cores=", " lines=", " width=", " lease="])?, None),
+        Form::Two => {
+            let keys = [" cores=", " lines=", " width=", " lease=", " cap="];
+            let [cores, lines, width, lease, cap] = fields(rest, keys)?;
+            ([cores, lines, width, lease], Some(cap))
+        }
+    };
     let (cores, lines, width, lease) = (number(cores)?, number(lines)?, number(width)?, number(lease)?);
-    Ok((form, Sizes { cores, lines, width, lease }))
+    let cap = cap.map_or(Ok(lines), number)?;
+    Ok((form, Sizes { cores, lines, width, lease, cap }))
 }
 
 /// Reads a step line of a journal of this form: the step, or 11, 12 or 13.
@@ -110,6 +119,7 @@ pub fn step(form: Form, line: &[u8]) -> Result<Step, u32> {
         }
         b"yield" => one(rest, " line=").map(|line| Step::Yield { line }),
         b"take" => one(rest, " line=").map(|line| Step::Take { line }),
+        b"victim" => one(rest, " core=").map(|core| Step::Victim { core }),
         _ => Err(11),
     }
 }
@@ -229,13 +239,17 @@ pub fn write_field(out: &mut Vec<u8>, key: &str, number: u32) {
     write_number(out, number);
 }
 
-/// Writes an opening line without newline.
+/// Writes an opening line without newline. The first form does not say the
+/// capacity.
 pub fn write_opening(out: &mut Vec<u8>, form: Form, sizes: &Sizes) {
     out.extend_from_slice(form.start().as_bytes());
     write_field(out, " cores=", sizes.cores);
     write_field(out, " lines=", sizes.lines);
     write_field(out, " width=", sizes.width);
     write_field(out, " lease=", sizes.lease);
+    if form == Form::Two {
+        write_field(out, " cap=", sizes.cap);
+    }
 }
 
 /// The word of a line that starts like a step, if the form has no steps of that
@@ -259,6 +273,7 @@ pub fn kind_name(step: &Step) -> &'static str {
         Step::Receive { .. } => "receive",
         Step::Yield { .. } => "yield",
         Step::Take { .. } => "take",
+        Step::Victim { .. } => "victim",
     }
 }
 

@@ -1,5 +1,5 @@
 //! A second implementation of document 01, and of 02's tally, drop and writeback,
-//! written from these documents alone.
+//! store in digits and caches with a size, written from these documents alone.
 //!
 //! It exists to be compared with the product: the same journal must give the
 //! same listing, and the same tally, byte for byte. It is plain code, and nothing

@@ -1,5 +1,5 @@
 //! The listing of a run: one line for each record and the end line (01,
-//! "Journal and driver").
+//! "Journal and driver"; 02, "Caches with a size", for a victim's line).
 
 use crate::faults::Fault;
 use crate::journal::{write_field, write_hex, write_number};
@@ -24,12 +24,13 @@ pub fn listing_with_fault(journal: &[u8], fault: Fault) -> Vec<u8> {
     out
 }
 
-/// What the end line says.
+/// What the end line says, and how many victims it leaves out.
 #[derive(Clone, Copy, Default, PartialEq, Eq, Debug)]
 pub struct Counts {
     pub end: u32,
     pub commits: u32,
     pub refused: u32,
+    pub victims: u32,
 }
 
 impl Counts {
@@ -38,6 +39,7 @@ impl Counts {
         match record.answer {
             Answer::Commit(_) => self.commits += 1,
             Answer::Refused(_) => self.refused += 1,
+            Answer::Victim { .. } => self.victims += 1,
             _ => {}
         }
     }
@@ -52,6 +54,9 @@ pub fn write_record(out: &mut Vec<u8>, record: &Record) {
         done => {
             out.extend_from_slice(b" done=");
             out.extend_from_slice(done_name(done).as_bytes());
+            if let Answer::Victim { line } = done {
+                write_field(out, " line=", *line);
+            }
         }
     }
     out.push(b'\n');
@@ -94,6 +99,7 @@ pub fn done_name(answer: &Answer) -> &'static str {
         Answer::Advance => "advance",
         Answer::Yield => "yield",
         Answer::Take => "take",
+        Answer::Victim { .. } => "victim",
         Answer::Commit(_) | Answer::Refused(_) => "",
     }
 }

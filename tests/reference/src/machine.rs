@@ -1,6 +1,7 @@
 //! The machine of document 01: its parts, its steps and its refusals; with drop
 //! and writeback and their refusal 30, of 02, "Evict becomes drop and writeback";
-//! and the store in digits of 02, "Store bytes without the scratch line".
+//! the store in digits of 02, "Store bytes without the scratch line"; and the
+//! capacity with its refusal 31, and victim, of 02, "Caches with a size".
 //!
 //! The file follows 01's sections: "Parts of the machine", "Refused because of
 //! the input", "Refused because of the state", "Steps".
@@ -54,26 +55,29 @@ impl std::fmt::Debug for Bytes {
 
 // ---- Parts of the machine ----
 
-/// Sizes and lease of an engine.
+/// Sizes, lease and capacity of an engine. The capacity limits the copies that a
+/// core receives.
 #[derive(Clone, Copy, PartialEq, Eq, Debug)]
 pub struct Sizes {
     pub cores: u32,
     pub lines: u32,
     pub width: u32,
     pub lease: u32,
+    pub cap: u32,
 }
 
 impl Sizes {
     /// What a refused opening gives back.
-    pub const SMALLEST: Sizes = Sizes { cores: 1, lines: 1, width: 1, lease: 1 };
+    pub const SMALLEST: Sizes = Sizes { cores: 1, lines: 1, width: 1, lease: 1, cap: 1 };
 
-    /// Whether all four lie inside the limits.
+    /// Whether all five lie inside the limits.
     pub fn inside_limits(&self) -> bool {
         let within = |n: u32, most: usize| 1 <= n && n as usize <= most;
         within(self.cores, MAX_CORES)
             && within(self.lines, MAX_LINES)
             && within(self.width, MAX_WIDTH)
             && within(self.lease, MAX_LEASE as usize)
+            && within(self.cap, self.lines as usize)
     }
 }
 
@@ -131,6 +135,16 @@ pub enum PrivateCopy {
     Owned { wts: u32, rts: u32, dirty: bool },
 }
 
+impl PrivateCopy {
+    /// The end of its lease, if it is there.
+    pub fn rts(&self) -> Option<u32> {
+        match *self {
+            PrivateCopy::None => None,
+            PrivateCopy::Shared { rts, .. } | PrivateCopy::Owned { rts, .. } => Some(rts),
+        }
+    }
+}
+
 /// Who holds a manager line: the manager itself, or an owner.
 #[derive(Clone, Copy, PartialEq, Eq, Debug)]
 pub enum Holder {
@@ -177,7 +191,7 @@ pub struct State {
 }
 
 impl State {
-    /// The fresh state of the given sizes and lease.
+    /// The fresh state of the given sizes, lease and capacity.
     pub fn fresh(sizes: Sizes) -> State {
         State {
             sizes,
@@ -196,8 +210,8 @@ impl State {
         (Answer::Refused(7), State::fresh(Sizes::SMALLEST))
     }
 
-    /// Refusal 1: sizes or lease outside the limits, an owner or a slot's line
-    /// that does not exist.
+    /// Refusal 1: sizes, lease or capacity outside the limits, an owner or a
+    /// slot's line that does not exist.
     fn is_broken(&self) -> bool {
         if !self.sizes.inside_limits() {
             return true;
@@ -230,6 +244,7 @@ pub enum Step {
     Receive { core: u32 },
     Yield { line: u32 },
     Take { line: u32 },
+    Victim { core: u32 },
 }
 
 impl Step {
@@ -244,7 +259,8 @@ impl Step {
             | Step::Writeback { core, .. }
             | Step::Advance { core, .. }
             | Step::Serve { core }
-            | Step::Receive { core } => Some(core),
+            | Step::Receive { core }
+            | Step::Victim { core } => Some(core),
             Step::Yield { .. } | Step::Take { .. } => None,
         }
     }
@@ -273,7 +289,7 @@ pub enum Commit {
 }
 
 /// The answer to an opening or a step. Drop answers a drop, and the receipt of a
-/// renewal whose copy is gone.
+/// renewal whose copy is gone. Victim names the line that is the victim.
 #[derive(Clone, Copy, PartialEq, Debug)]
 pub enum Answer {
     Open,
@@ -288,6 +304,7 @@ pub enum Answer {
     Advance,
     Yield,
     Take,
+    Victim { line: u32 },
     Commit(Commit),
     Refused(u32),
 }
@@ -405,6 +422,29 @@ impl Machine {
         self.state.copies[core as usize][line as usize] = copy;
     }
 
+    /// A core's copies of the lines that there are.
+    pub fn copies(&self, core: u32) -> &[PrivateCopy] {
+        &self.state.copies[core as usize][..self.state.sizes.lines as usize]
+    }
+
+    /// How many copies a core holds.
+    pub fn copies_held(&self, core: u32) -> u32 {
+        self.copies(core).iter().filter(|copy| **copy != PrivateCopy::None).count() as u32
+    }
+
+    /// The first core that holds more copies than the capacity, if there is one.
+    /// From a fresh engine there never is.
+    pub fn overfull_core(&self) -> Option<u32> {
+        (0..self.state.sizes.cores).find(|&core| self.copies_held(core) > self.state.sizes.cap)
+    }
+
+    /// The held line with the smallest rts, of several the first; none without a
+    /// copy.
+    pub fn victim(&self, core: u32) -> Option<u32> {
+        let held = self.copies(core).iter().zip(0..).filter_map(|(copy, line)| Some((copy.rts()?, line)));
+        held.min().map(|(_, line)| line)
+    }
+
     fn line(&self, line: u32) -> &Line {
         &self.state.lines[line as usize]
     }
@@ -442,7 +482,7 @@ impl Machine {
 
     // ---- Refused because of the state ----
 
-    /// Refusals 20 to 27 and 30.
+    /// Refusals 20 to 27, 30 and 31.
     fn state_refusal(&self, step: &Step) -> Option<u32> {
         match *step {
             Step::Load { core, line } => self.load_refusal(core, line),
@@ -451,12 +491,10 @@ impl Machine {
             Step::Evict { .. } | Step::Drop { .. } | Step::Writeback { .. } => self.eviction_refusal(step),
             Step::Advance { core, by } => passes_greatest(self.core(core).lts, by).then_some(27),
             Step::Serve { core } => self.serve_refusal(core),
-            Step::Receive { core } => match self.core(core).slot {
-                Slot::Answered { .. } => None,
-                _ => Some(22),
-            },
+            Step::Receive { core } => self.receive_refusal(core),
             Step::Yield { line } => self.yield_refusal(line),
             Step::Take { line } => self.line(line).writeback.is_none().then_some(25),
+            Step::Victim { core } => self.victim(core).is_none().then_some(26),
         }
     }
 
@@ -489,6 +527,15 @@ impl Machine {
         };
         let lends = wish == Wish::Load && matches!(self.line(line).holder, Holder::Shared { .. });
         (lends && passes_greatest(lts, self.state.sizes.lease)).then_some(27)
+    }
+
+    /// 22; then 31 where a share or own brings one copy more than the capacity.
+    fn receive_refusal(&self, core: u32) -> Option<u32> {
+        let Slot::Answered { grant, line, .. } = self.core(core).slot else {
+            return Some(22);
+        };
+        let one_more = grant != Grant::Renew && self.copy(core, line) == PrivateCopy::None;
+        (one_more && self.copies_held(core) >= self.state.sizes.cap).then_some(31)
     }
 
     /// 23 and 24.
@@ -532,6 +579,10 @@ impl Machine {
             Step::Receive { core } => self.receive(core),
             Step::Yield { line } => self.give_back(line),
             Step::Take { line } => self.take(line),
+            Step::Victim { core } => match self.victim(core) {
+                Some(line) => Answer::Victim { line },
+                None => Answer::Refused(26),
+            },
         }
     }
 

@@ -2,7 +2,7 @@
 //! out (01, "Journal and driver").
 
 use crate::faults::{Fault, Faulty};
-use crate::journal::{self, Form, Lines, MAX_JOURNAL};
+use crate::journal::{Form, Lines, MAX_JOURNAL};
 use crate::machine::{Answer, Machine, Step};
 
 /// What happened at one place of the list. The step is there if the line was
@@ -19,6 +19,18 @@ impl Record {
     pub fn ends_run(&self) -> bool {
         self.step.is_none() && matches!(self.answer, Answer::Refused(_))
     }
+}
+
+/// The first place of a run with this fault after which a core holds more copies
+/// than the capacity, and that core. 02, "Caches with a size": there is none.
+pub fn overfull(journal: &[u8], fault: Fault) -> Option<(u32, u32)> {
+    let mut run = Run::with_fault(journal, fault);
+    while let Some(record) = run.next() {
+        if let Some(core) = run.machine().and_then(Machine::overfull_core) {
+            return Some((record.place, core));
+        }
+    }
+    None
 }
 
 /// A run over a journal. It yields the records one by one.
@@ -58,7 +70,7 @@ impl<'a> Run<'a> {
             return Err(14);
         }
         let line = self.lines.next().unwrap_or(Err(11))?;
-        let (form, sizes) = journal::opening(&self.fault.opens_as(line))?;
+        let (form, sizes) = self.fault.opening(line)?;
         if self.fault.takes_sizes(sizes) {
             return Ok((form, Machine::fresh(sizes)));
         }

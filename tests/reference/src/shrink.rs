@@ -1,6 +1,6 @@
 //! Shrinking of a journal that shows a difference: first whole lines go, then
-//! cores and lines get small numbers, data get short, numbers become small, and
-//! at last single bytes go.
+//! cores and lines get small numbers, the engine gets few lines, data get short,
+//! numbers become small, and at last single bytes go.
 
 /// The smallest journal found that still differs. At most `tries` journals are
 /// tried.
@@ -19,6 +19,7 @@ pub fn shrink(journal: &[u8], tries: u32, mut differs: impl FnMut(&[u8]) -> bool
         smallest = without_lines(smallest, &mut test);
         smallest = with_small_names(smallest, "core=", &mut test);
         smallest = with_small_names(smallest, "line=", &mut test);
+        smallest = with_few_lines(smallest, &mut test);
         smallest = with_short_data(smallest, &mut test);
         smallest = with_small_numbers(smallest, &mut test);
         smallest = without_bytes(smallest, &mut test);
@@ -88,6 +89,20 @@ fn with_small_names(journal: Vec<u8>, key: &str, test: &mut impl FnMut(&[u8]) ->
         }
     }
     smallest
+}
+
+/// Gives the engine fewer lines, and a capacity that is not above them.
+fn with_few_lines(journal: Vec<u8>, test: &mut impl FnMut(&[u8]) -> bool) -> Vec<u8> {
+    let most = |key| numbers_after(&journal, key).first().copied();
+    let (lines, cap) = (most("lines=").unwrap_or(1), most("cap=").unwrap_or(u32::MAX));
+    for fewer in 1..lines.min(64) {
+        let small = change_words(&journal, "lines=", |_| fewer.to_string().into_bytes());
+        let candidate = change_words(&small, "cap=", |_| fewer.min(cap).to_string().into_bytes());
+        if test(&candidate) {
+            return candidate;
+        }
+    }
+    journal
 }
 
 /// Makes the width smaller and cuts all data to it.

@@ -59,6 +59,6 @@ fn repeated(start: &str, lines: &[String], bytes: usize) -> Vec<u8> {
 /// Traffic of all nine kinds of `fabric=1` on a middle-sized engine.
 fn mixed(bytes: usize) -> Vec<u8> {
     let mut random = Random::new(1);
-    let sizes = Sizes { cores: 8, lines: 16, width: 8, lease: 10 };
+    let sizes = Sizes { cores: 8, lines: 16, width: 8, lease: 10, cap: 16 };
     Traffic::of_sizes(&mut random, Form::One, sizes).tame().journal(Length::Exactly(bytes))
 }

@@ -73,7 +73,7 @@ fn a_store_in_digits_is_the_store_of_the_bytes_spelt() {
 /// 13 comes before every other number of a store.
 #[test]
 fn wrong_digits_come_first() {
-    let sizes = Sizes { cores: 2, lines: 2, width: 2, lease: 10 };
+    let sizes = Sizes { cores: 2, lines: 2, width: 2, lease: 10, cap: 2 };
     let mut broken = Machine::open(sizes).unwrap();
     broken.state.sizes.lease = 0;
     let mut short = Machine::open(sizes).unwrap();
@@ -145,7 +145,8 @@ fn write_bytes(out: &mut Vec<u8>, text: &str, bytes: &[u8]) {
 
 /// What the program prints at one width.
 fn printed(width: usize) -> Vec<u8> {
-    let mut machine = Machine::open(Sizes { cores: 2, lines: 2, width: width as u32, lease: 10 }).unwrap();
+    let sizes = Sizes { cores: 2, lines: 2, width: width as u32, lease: 10, cap: 2 };
+    let mut machine = Machine::open(sizes).unwrap();
     let mut out = format!("width={width}\n").into_bytes();
     for (at, call) in LIST.split(' ').map(str::as_bytes).enumerate() {
         let digits = digits_of(call[3], width, at);

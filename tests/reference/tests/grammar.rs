@@ -29,6 +29,7 @@ fn each_form_has_its_own_steps() {
         ("op=evict core=15 line=4294967295", Form::One, Step::Evict { core, line }),
         ("op=drop core=15 line=4294967295", Form::Two, Step::Drop { core, line }),
         ("op=writeback core=15 line=4294967295", Form::Two, Step::Writeback { core, line }),
+        ("op=victim core=4294967295", Form::Two, Step::Victim { core: line }),
     ] {
         assert_eq!(step(form, text.as_bytes()), Ok(made));
         assert_eq!(step(form.other(), text.as_bytes()), Err(11), "{text}");
@@ -66,6 +67,32 @@ fn drop_and_writeback_lines() {
         }
         assert_eq!(check_line(format!("op={kind} core=0 line=0").as_bytes()), 11);
     }
+}
+
+#[test]
+fn victim_lines() {
+    for (rest, number) in [
+        ("", 11),
+        (" ", 11),
+        (" line=0", 11),
+        (" core=0 line=0", 11),
+        (" core=0 ", 11),
+        ("  core=0", 11),
+        (" core", 11),
+        (" cores=0", 11),
+        ("s core=0", 11),
+        (" core=0 core=0", 11),
+        (" core=", 12),
+        (" core=00", 12),
+        (" core=4294967296", 12),
+        (" core=0\r", 12),
+    ] {
+        let line = format!("op=victim{rest}");
+        assert_eq!(step(Form::Two, line.as_bytes()), Err(number), "{line:?}");
+        assert_eq!(check_line(line.as_bytes()), 11, "{line:?}");
+    }
+    // The host's check keeps to fabric=1.
+    assert_eq!(check_line(b"op=victim core=0"), 11);
 }
 
 #[test]
@@ -156,19 +183,21 @@ fn lines_of_a_journal() {
 
 #[test]
 fn openings() {
-    let sizes = Sizes { cores: 0, lines: 99, width: 4_294_967_295, lease: 7 };
+    let sizes = Sizes { cores: 0, lines: 99, width: 4_294_967_295, lease: 7, cap: 99 };
     assert_eq!(opening(b"fabric=1 cores=0 lines=99 width=4294967295 lease=7"), Ok((Form::One, sizes)));
-    assert_eq!(opening(b"fabric=2 cores=0 lines=99 width=4294967295 lease=7"), Ok((Form::Two, sizes)));
+    for (text, cap) in [("0", 0), ("1", 1), ("99", 99), ("100", 100), ("4294967295", 4_294_967_295)] {
+        let line = format!("fabric=2 cores=0 lines=99 width=4294967295 lease=7 cap={text}");
+        assert_eq!(opening(line.as_bytes()), Ok((Form::Two, Sizes { cap, ..sizes })));
+    }
     for (line, number) in [
         ("fabric=0 cores=1 lines=1 width=1 lease=1", 11),
         ("fabric=6 cores=1 lines=1 width=1 lease=1", 11),
-        ("fabric=02 cores=1 lines=1 width=1 lease=1", 11),
-        ("fabric=21 cores=1 lines=1 width=1 lease=1", 11),
-        ("fabric=2 cores=1 lines=1 width=1", 11),
-        ("fabric=2 cores=1 lines=1 width=1 lease=1 cap=1", 11),
-        ("fabric=2 cores=x lines=1 width=1 lease=1 cap=1", 11),
-        ("fabric=2 lines=1 cores=1 width=1 lease=1", 11),
-        ("fabric=2 cores=1 lines=1 width=1 lease=01", 12),
+        ("fabric=6 cores=1 lines=1 width=1 lease=1 cap=1", 11),
+        ("fabric=02 cores=1 lines=1 width=1 lease=1 cap=1", 11),
+        ("fabric=21 cores=1 lines=1 width=1 lease=1 cap=1", 11),
+        ("fabric=2 cores=1 lines=1 width=1 cap=1", 11),
+        ("fabric=2 lines=1 cores=1 width=1 lease=1 cap=1", 11),
+        ("fabric=2 cores=1 lines=1 width=1 lease=01 cap=1", 12),
         ("fabric=10 cores=1 lines=1 width=1 lease=1", 11),
         ("fabric=1 cores=1 lines=1 width=1", 11),
         ("fabric=1 cores=1 lines=1 width=1 lease=1 ", 11),
@@ -177,6 +206,40 @@ fn openings() {
         ("fabric=1 cores=1 lines=1 width=1 lease=", 12),
     ] {
         assert_eq!(opening(line.as_bytes()), Err(number), "{line}");
+    }
+}
+
+/// The second form needs its cap, once, after the lease; the first has none.
+#[test]
+fn caps_of_openings() {
+    let sizes = "cores=1 lines=1 width=1 lease=1";
+    for (line, number) in [
+        (format!("fabric=2 {sizes}"), 11),
+        (format!("fabric=2 {sizes} "), 11),
+        (format!("fabric=2 {sizes} cap"), 11),
+        (format!("fabric=2 {sizes} cap 1"), 11),
+        (format!("fabric=2 {sizes} caps=1"), 11),
+        (format!("fabric=2 {sizes} Cap=1"), 11),
+        (format!("fabric=2 {sizes}  cap=1"), 11),
+        (format!("fabric=2 {sizes} cap=1 "), 11),
+        (format!("fabric=2 {sizes} cap=1 cap=1"), 11),
+        (format!("fabric=2 {sizes} cap=1 x=1"), 11),
+        (format!("fabric=2 cap=1 {sizes}"), 11),
+        ("fabric=2 cores=1 lines=1 width=1 cap=1 lease=1".to_string(), 11),
+        (format!("fabric=1 {sizes} cap=1"), 11),
+        // 11 comes before a wrong number.
+        ("fabric=2 cores=x lines=1 width=1 lease=1".to_string(), 11),
+        (format!("fabric=1 {sizes} cap="), 11),
+        (format!("fabric=2 {sizes} cap="), 12),
+        (format!("fabric=2 {sizes} cap=01"), 12),
+        (format!("fabric=2 {sizes} cap=x"), 12),
+        (format!("fabric=2 {sizes} cap=-1"), 12),
+        (format!("fabric=2 {sizes} cap=1\r"), 12),
+        (format!("fabric=2 {sizes} cap=4294967296"), 12),
+        (format!("fabric=2 {sizes} cap=4294967297"), 12),
+        (format!("fabric=2 {sizes} cap=18446744073709551617"), 12),
+    ] {
+        assert_eq!(opening(line.as_bytes()), Err(number), "{line:?}");
     }
 }
 

@@ -1,6 +1,6 @@
 //! Lists of calls that mix evict, drop and writeback (02, "Evict becomes drop and
-//! writeback"): demand 3 holds on them, the tally adds up, and evict does what the
-//! one of the other two that fits the copy does.
+//! writeback"), on engines of any capacity: demand 3 holds on them, the tally adds
+//! up, and evict does what the one of the other two that fits the copy does.
 
 use reference::generate;
 use reference::machine::*;

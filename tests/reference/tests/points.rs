@@ -5,7 +5,7 @@ use reference::machine::*;
 
 /// An engine of one core and one line of one byte.
 fn machine(lease: u32, lts: u32, sts: u32, copy: PrivateCopy) -> Machine {
-    let mut machine = Machine::open(Sizes { cores: 1, lines: 1, width: 1, lease }).unwrap();
+    let mut machine = Machine::open(Sizes { cores: 1, lines: 1, width: 1, lease, cap: 1 }).unwrap();
     machine.state.cores[0].lts = lts;
     machine.state.cores[0].sts = sts;
     machine.set_copy(0, 0, copy);

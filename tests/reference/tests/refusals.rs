@@ -1,11 +1,11 @@
 //! Refusals 1 to 7, 20 to 27 and 30, their order, and that a refused call changes
-//! nothing.
+//! nothing. The capacity and refusal 31 are in `caches.rs`.
 
 use reference::generate;
 use reference::journal::{self, Lines};
 use reference::machine::*;
 
-const SIZES: Sizes = Sizes { cores: 2, lines: 2, width: 2, lease: 10 };
+const SIZES: Sizes = Sizes { cores: 2, lines: 2, width: 2, lease: 10, cap: 2 };
 const FENCE: Step = Step::Fence { core: 0 };
 
 fn machine() -> Machine {
@@ -26,14 +26,15 @@ fn refusal(machine: &mut Machine, step: Step) -> Option<u32> {
 
 #[test]
 fn opening_limits() {
-    let opens = |cores, lines, width, lease| Machine::open(Sizes { cores, lines, width, lease }).is_ok();
+    let opens =
+        |cores, lines, width, lease| Machine::open(Sizes { cores, lines, width, lease, cap: 1 }).is_ok();
     assert!(opens(1, 1, 1, 1) && opens(16, 64, 64, 1000));
     assert!(!opens(0, 1, 1, 1) && !opens(17, 1, 1, 1));
     assert!(!opens(1, 0, 1, 1) && !opens(1, 65, 1, 1));
     assert!(!opens(1, 1, 0, 1) && !opens(1, 1, 65, 1));
     assert!(!opens(1, 1, 1, 0) && !opens(1, 1, 1, 1001));
     assert_eq!(Machine::open(Sizes { cores: 17, ..SIZES }), Err(7));
-    let smallest = State::fresh(Sizes { cores: 1, lines: 1, width: 1, lease: 1 });
+    let smallest = State::fresh(Sizes { cores: 1, lines: 1, width: 1, lease: 1, cap: 1 });
     assert_eq!(State::open(Sizes { cores: 17, ..SIZES }), (Answer::Refused(7), smallest));
     assert_eq!(State::open(SIZES), (Answer::Open, State::fresh(SIZES)));
 }
@@ -108,6 +109,7 @@ fn numbers_3_to_6_in_their_order() {
         (Step::Drop { core: 1, line: 2 }, 4),
         (Step::Writeback { core: 2, line: 2 }, 3),
         (Step::Writeback { core: 1, line: 2 }, 4),
+        (Step::Victim { core: 2 }, 3),
     ] {
         assert_eq!(refusal(&mut machine, step), Some(number), "{step:?}");
     }

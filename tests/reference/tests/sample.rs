@@ -36,7 +36,7 @@ fn the_sample() {
 /// The sample's line given back and lent again, in both forms. Core 0's store at 1
 /// comes back as (1, 1); asked at lts 0, the lease of the copy ends at 10.
 const GIVEN_BACK: &str = "\
-fabric=2 cores=1 lines=1 width=1 lease=10
+fabric=2 cores=1 lines=1 width=1 lease=10 cap=1
 op=store core=0 line=0 data=07
 op=serve core=0
 op=receive core=0
@@ -70,7 +70,7 @@ end=11 commits=2 refused=0
 fn the_second_form_prints_drop_and_writeback_where_the_first_prints_evict() {
     assert_eq!(text(GIVEN_BACK), GIVEN_BACK_LISTING);
     let evict = |text: &str| text.replace("drop", "evict").replace("writeback", "evict");
-    let first = evict(GIVEN_BACK).replace("fabric=2", "fabric=1");
+    let first = evict(GIVEN_BACK).replace("fabric=2", "fabric=1").replace(" cap=1", "");
     assert_eq!(text(&first), evict(GIVEN_BACK_LISTING));
 }
 
@@ -84,9 +84,14 @@ fn a_bad_opening_ends_at_0() {
         ("fabric=1 cores= lines=1 width=1 lease=1\nop=take line=0\n", 12),
         ("fabric=1 cores=0 lines=1 width=1 lease=1\nop=take line=0\n", 7),
         ("fabric=1 cores=17 lines=1 width=1 lease=x\n", 12),
-        ("fabric=2 cores=1 lines=1 width=1 lease=1", 10),
-        ("fabric=2 cores=17 lines=1 width=1 lease=1\nop=take line=0\n", 7),
-        ("fabric=2 cores=1 lines=1 width=1 lease=1 cap=1\n", 11),
+        ("fabric=2 cores=1 lines=1 width=1 lease=1 cap=1", 10),
+        ("fabric=2 cores=17 lines=1 width=1 lease=1 cap=1\nop=take line=0\n", 7),
+        ("fabric=2 cores=1 lines=1 width=1 lease=1\n", 11),
+        ("fabric=1 cores=1 lines=1 width=1 lease=1 cap=1\n", 11),
+        ("fabric=2 cores=1 lines=1 width=1 lease=1 cap=0\nop=take line=0\n", 7),
+        ("fabric=2 cores=1 lines=3 width=1 lease=1 cap=4\nop=take line=0\n", 7),
+        ("fabric=2 cores=1 lines=65 width=1 lease=1 cap=64\n", 7),
+        ("fabric=2 cores=17 lines=1 width=1 lease=1 cap=\n", 12),
         ("fabric=0 cores=1 lines=1 width=1 lease=1\n", 11),
         ("fabric=6 cores=1 lines=1 width=1 lease=1\n", 11),
     ] {

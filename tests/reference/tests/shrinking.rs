@@ -31,3 +31,15 @@ fn names_and_data_get_small() {
     let small = String::from_utf8(small).unwrap();
     assert!(small.len() < journal.len() && small.contains("core=0"), "{small}");
 }
+
+#[test]
+fn lines_and_the_capacity_get_small_together() {
+    let journal = "fabric=2 cores=9 lines=9 width=9 lease=9 cap=9\nop=victim core=7\n";
+    let small = shrink(journal.as_bytes(), 4000, |text| {
+        let opening = text.split(|&byte| byte == b'\n').next().unwrap();
+        reference::journal::opening(opening).is_ok_and(|(_, sizes)| sizes.cap == sizes.lines)
+            && reference::listing::listing(text).starts_with(b"n=0 done=open\nn=1 refused=26\n")
+    });
+    let expected = "fabric=2 cores=1 lines=1 width=1 lease=1 cap=1\nop=victim core=0\n";
+    assert_eq!(String::from_utf8(small).unwrap(), expected);
+}

@@ -7,6 +7,8 @@ use reference::tally::{tally, Tallied, Tally};
 
 const OPENING: &str = "fabric=1 cores=2 lines=1 width=1 lease=10\n";
 
+const SECOND_OPENING: &str = "fabric=2 cores=2 lines=1 width=1 lease=10 cap=1\n";
+
 const ZEROS: &str = "loads=0 stores=0 fences=0 asks=0 shares=0 renews=0 owns=0\n";
 
 /// Core 0 gets a lease of line 0: one request, one share.
@@ -76,7 +78,7 @@ fn a_drop_counts_nowhere() {
 
 #[test]
 fn the_second_form_counts_the_same_and_its_own_steps_nowhere() {
-    let second = |steps: &[&str]| line(&(OPENING.replace("fabric=1", "fabric=2") + &steps.concat()));
+    let second = |steps: &[&str]| line(&(SECOND_OPENING.to_string() + &steps.concat()));
     assert_eq!(second(&[]), ZEROS);
     let (drop, writeback) = ("op=drop core=0 line=0\n", "op=writeback core=1 line=0\n");
     let both = "loads=0 stores=0 fences=0 asks=2 shares=1 renews=0 owns=1\n";
@@ -92,6 +94,20 @@ fn the_second_form_counts_the_same_and_its_own_steps_nowhere() {
     // The other form's step ends the run.
     assert_eq!(second(&[SHARED, "op=evict core=0 line=0\n", OWNED]), line_of(&[SHARED]));
     assert_eq!(line_of(&[SHARED, drop, OWNED]), line_of(&[SHARED]));
+}
+
+/// A victim and 31 count nowhere: neither as a request nor as an answer.
+#[test]
+fn a_full_cache_counts_nowhere() {
+    let opening = "fabric=2 cores=1 lines=2 width=1 lease=10 cap=1\n";
+    let waiting = "op=load core=0 line=1\nop=serve core=0\n";
+    let (receive, victim) = ("op=receive core=0\n", "op=victim core=0\n");
+    let both = "loads=0 stores=0 fences=0 asks=2 shares=2 renews=0 owns=0\n";
+    let counted = |steps: &[&str]| line(&(opening.to_string() + &steps.concat()));
+    assert_eq!(counted(&[SHARED, waiting]), both);
+    assert_eq!(counted(&[victim, SHARED, victim, waiting, receive, victim, receive]), both);
+    let drop = "op=drop core=0 line=0\n";
+    assert_eq!(counted(&[SHARED, waiting, receive, victim, drop, receive, victim]), both);
 }
 
 #[test]
@@ -159,7 +175,10 @@ fn a_refused_opening_gives_zeros() {
         "fabric=1 cores=17 lines=1 width=1 lease=1\n",
         "fabric=1 cores=1 lines=0 width=1 lease=1\n",
         "fabric=0 cores=1 lines=1 width=1 lease=1\n",
-        "fabric=2 cores=17 lines=1 width=1 lease=1\n",
+        "fabric=2 cores=17 lines=1 width=1 lease=1 cap=1\n",
+        "fabric=2 cores=1 lines=1 width=1 lease=1 cap=2\n",
+        "fabric=2 cores=1 lines=1 width=1 lease=1\n",
+        "fabric=1 cores=1 lines=1 width=1 lease=1 cap=1\n",
         "fabric=2 cores=1 lines=1 width=1\n",
         "fabric=1 cores=01 lines=1 width=1 lease=1\n",
         "op=fence core=0\n",

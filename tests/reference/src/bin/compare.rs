@@ -10,8 +10,9 @@
 //! listing, by demand 3 or by a tally. `--fault` switches a fault on in the
 //! reference.
 //!
-//! Either way it fails where a tally of the reference does not add up, and where
-//! the journals never meet a row of `coverage::rows`: few journals prove little.
+//! Either way it fails where a tally of the reference does not add up, where a core
+//! of it holds more copies than the capacity, and where the journals never meet a
+//! row of `coverage::rows`: few journals prove little.
 
 use std::io::Write;
 use std::process::ExitCode;
@@ -25,7 +26,7 @@ use reference::generate;
 use reference::listing::{listing, listing_with_fault};
 use reference::order::{self, Ties};
 use reference::program::{self, Failure};
-use reference::run::Run;
+use reference::run::{overfull, Run};
 use reference::shrink::shrink;
 use reference::tally::{tally_with_fault, Tallied, Tally};
 
@@ -41,6 +42,10 @@ const PRINTED: [(&str, Printed); 2] = [("listings", listing_with_fault), ("talli
 
 /// What is wrong where asks is not what a run's answers and slots come to.
 const NOT_THE_SUM: &str = "the tally does not add up";
+
+/// What is wrong where a core holds more copies than the capacity: after which
+/// place, and which core.
+const OVERFULL: &str = "more copies than cap (place, core)";
 
 struct Options {
     count: u64,
@@ -180,6 +185,7 @@ fn compare(options: &Options) -> ExitCode {
     let coverage = Mutex::new(Coverage::default());
     let differing: Mutex<Option<(u64, &Compared)>> = Mutex::new(None);
     let wrong_sums = Mutex::new(Vec::new());
+    let too_full = Mutex::new(Vec::new());
     let programs = options.programs.iter().zip(PRINTED);
     let programs = programs.map(|(program, (what, printed))| Compared { program, what, printed, options });
     let programs: Vec<Compared> = programs.collect();
@@ -191,6 +197,9 @@ fn compare(options: &Options) -> ExitCode {
         let tallied = Tallied::of(&journal, options.fault);
         if !tallied.adds_up() {
             wrong_sums.lock().unwrap().push((seed, tallied));
+        }
+        if let Some(where_and_who) = overfull(&journal, options.fault) {
+            too_full.lock().unwrap().push((seed, where_and_who));
         }
         let other = programs.iter().find(|compared| !compared.agrees(&journal));
         if let Some(compared) = other {
@@ -207,15 +216,17 @@ fn compare(options: &Options) -> ExitCode {
     }
     let whole = whole(&coverage.into_inner().unwrap());
     let add_up = none_failed(NOT_THE_SUM, &wrong_sums.into_inner().unwrap());
+    let within = none_failed(OVERFULL, &too_full.into_inner().unwrap());
     let printed: Vec<_> = programs.iter().map(|compared| compared.what).collect();
     println!(
-        "compare: {done} journals, all {} equal, {}, {}, {:.1} s",
+        "compare: {done} journals, all {} equal, {}, {}, {}, {:.1} s",
         printed.join(" and "),
         if add_up { "every tally adds up" } else { "FAILED: tallies that do not add up" },
         if whole { "every row met" } else { "FAILED: rows never met" },
+        if within { "every cache within its cap" } else { "FAILED: more copies than cap" },
         start.elapsed().as_secs_f64()
     );
-    exit(whole && add_up)
+    exit(whole && add_up && within)
 }
 
 /// Shrinks the seed's journal and prints it with what both print for it.
@@ -257,6 +268,7 @@ fn self_test(options: &Options) -> ExitCode {
     let coverage = Mutex::new(Coverage::default());
     let disorders = Mutex::new(Vec::new());
     let wrong_sums = Mutex::new(Vec::new());
+    let too_full = Mutex::new(Vec::new());
     let shown: Vec<[AtomicU64; 3]> = Fault::ALL.iter().map(|_| Default::default()).collect();
     for_each_seed(options, |seed| {
         let journal = generate::journal(seed);
@@ -273,6 +285,9 @@ fn self_test(options: &Options) -> ExitCode {
         let tallied = Tallied::of(&journal, options.fault);
         if !tallied.adds_up() {
             wrong_sums.lock().unwrap().push((seed, tallied));
+        }
+        if let Some(where_and_who) = overfull(&journal, options.fault) {
+            too_full.lock().unwrap().push((seed, where_and_who));
         }
         // Every tenth short journal is enough to see what faults do.
         if seed % 10 == 0 && journal.len() < 10_000 {
@@ -294,18 +309,21 @@ fn self_test(options: &Options) -> ExitCode {
         println!("{by_listing:>10} {by_order:>8} {by_tally:>8}  {}", fault.name());
     }
     let (disorders, wrong_sums) = (disorders.into_inner().unwrap(), wrong_sums.into_inner().unwrap());
+    let too_full = too_full.into_inner().unwrap();
     let ordered = none_failed("demand 3 fails", &disorders);
     let add_up = none_failed(NOT_THE_SUM, &wrong_sums);
+    let within = none_failed(OVERFULL, &too_full);
     let whole = whole(&coverage.into_inner().unwrap());
     println!(
-        "self-test: {} journals, demand 3 fails on {}, the tally does not add up on {}, {}, {:.1} s",
+        "self-test: {} journals, demand 3 fails on {}, the tally does not add up on {}, the cap is passed on {}, {}, {:.1} s",
         options.count,
         disorders.len(),
         wrong_sums.len(),
+        too_full.len(),
         if whole { "every row met" } else { "FAILED: rows never met" },
         start.elapsed().as_secs_f64()
     );
-    exit(ordered && add_up && whole)
+    exit(ordered && add_up && within && whole)
 }
 
 /// Whether a fault shows itself on a journal with this listing and this tally: by

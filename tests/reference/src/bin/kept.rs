@@ -4,8 +4,8 @@
 //!
 //! Each kept journal must give its kept listing and its kept tally, in the
 //! reference and, if they are given, in the programs, which have to end in time
-//! and with exit status 0; demand 3 must hold on the reference's commits, and its
-//! tally must add up.
+//! and with exit status 0; demand 3 must hold on the reference's commits, its
+//! tally must add up, and no core of it may hold more copies than the capacity.
 
 use std::path::Path;
 use std::process::ExitCode;
@@ -16,7 +16,7 @@ use reference::kept::{self, Kept};
 use reference::listing::listing;
 use reference::order::{self, Ties};
 use reference::program::{self, Failure};
-use reference::run::Run;
+use reference::run::{overfull, Run};
 use reference::tally::Tallied;
 
 /// What each program has to print for a kept journal: steps, then tally.
@@ -73,6 +73,9 @@ fn troubles(kept: &Kept) -> Vec<String> {
     }
     if !tallied.adds_up() {
         troubles.push(format!("the tally does not add up: {tallied:?}"));
+    }
+    if let Some((place, core)) = overfull(&kept.journal, Fault::None) {
+        troubles.push(format!("core {core} holds more copies than cap after place {place}"));
     }
     let records: Vec<_> = Run::new(&kept.journal).collect();
     if let Err(trouble) = order::check(&order::commits(&records), Ties::ByPlace) {
