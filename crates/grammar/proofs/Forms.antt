@@ -8,7 +8,7 @@ use borrow.Author.Tests.{ltb-true}
 use Rattle.protocol.{specs.declared.{Opening.{Opening as Sizes}, Given.{Given, the-variants.{Bytes, Digits}}}, proofs.Tests.never}
 use Rattle.protocol.specs.{Pick.{pick, fails}, About.about, Given.givenAs}
 use Rattle.grammar.specs.Table.{Numbered, Says, opens, calls, Row, rowsOf, noRow, rowAt, table, stepCount, openingCount, rowCount, formCount}
-use Rattle.grammar.specs.{Table.{fromOf, toOf}, Form.{Part, fixed, value, number, pairs, Has}, Line.Matches, Scan.formOf}
+use Rattle.grammar.specs.{Table.{sizes, fromOf, toOf}, Form.{Part, fixed, value, number, pairs, Has}, Line.Matches, Scan.{formOf, capOf}}
 use Rattle.grammar.proofs.{Fit.Shaped, Rows.{entry-at, every, every-at}}
 
 -- ---- the rows of each form are one part of the table
@@ -51,20 +51,20 @@ no-row (suc (suc (suc form))) s h k vs f = omega (arith, f .listed)
 
 -- ---- the first lines
 
--- what a first line's numbers say
-abbrev pub sizesOf : Numbered → Sizes
-sizesOf n = record { cores = n 0; lines = n 1; width = n 2; lease = n 3 }
+-- what the numbers of the first line of a form say
+abbrev pub sizesOf : ℕ → Numbered → Sizes
+sizesOf form n = sizes n (capOf form (n 1) (n 4))
 
-opening-at : (j : ℕ) (n : Numbered) → j < openingCount → rowAt table (stepCount + j) .says n ≡ opens (j + 1) (sizesOf n)
+opening-at : (j : ℕ) (n : Numbered) → j < openingCount → rowAt table (stepCount + j) .says n ≡ opens (j + 1) (sizesOf (j + 1) n)
 opening-at zero n h = refl
 opening-at (suc zero) n h = refl
 opening-at (suc (suc j)) n h = absurd (omega arith)
 
 -- the first lines open the forms in turn
-pub opening-row : (row : ℕ) (n : Numbered) → stepCount ≤ row → row < rowCount → rowAt table row .says n ≡ opens (row - stepCount + 1) (sizesOf n)
+pub opening-row : (row : ℕ) (n : Numbered) → stepCount ≤ row → row < rowCount → rowAt table row .says n ≡ opens (row - stepCount + 1) (sizesOf (row - stepCount + 1) n)
 opening-row row n a b =
     let e : stepCount + (row - stepCount) ≡ row = omega arith in
-    subst (λ (m : ℕ). rowAt table m .says n ≡ opens (row - stepCount + 1) (sizesOf n)) e (opening-at (row - stepCount) n (omega arith))
+    subst (λ (m : ℕ). rowAt table m .says n ≡ opens (row - stepCount + 1) (sizesOf (row - stepCount + 1) n)) e (opening-at (row - stepCount) n (omega arith))
 
 -- ---- what a row says
 

@@ -76,10 +76,10 @@ texted (b ∷ bs) p = fixed b ∷ texted bs p
 
 -- the keys of the grammar, by number, and the last one, which has every number past them
 abbrev pub keys : List (List ℕ)
-keys = text " core=" ∷ text " line=" ∷ text " by=" ∷ text " data=" ∷ text " cores=" ∷ text " lines=" ∷ text " width=" ∷ []
+keys = text " core=" ∷ text " line=" ∷ text " by=" ∷ text " data=" ∷ text " cores=" ∷ text " lines=" ∷ text " width=" ∷ text " lease=" ∷ []
 
 abbrev pub lastKey : List ℕ
-lastKey = text " lease="
+lastKey = text " cap="
 
 abbrev pub keyText : ℕ → List ℕ
 keyText k = getD keys k lastKey
@@ -148,6 +148,10 @@ answerOf f end =
     cond (eqb (f .values .fault) 0)
     (said (rowAt table (f .row) .says (λ i. getD (f .values .number) i 0)) (f .values .start) end)
     (Refused (f .values .fault))
+
+-- the capacity that the first line of a form says, given its numbers of lines and of `cap=`: "`fabric=1` means cap = lines"
+abbrev pub capOf : ℕ → ℕ → ℕ → ℕ
+capOf form lines cap = cond (eqb form 1) lines cap
 
 -- the call that a step row says of these numbers
 abbrev pub Called : ℕ → List ℕ → Call → Type 0

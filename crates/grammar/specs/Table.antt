@@ -1,10 +1,10 @@
--- The grammar of 01, "Journal and driver": the first line and the step lines; and of 02, Two, the form `fabric=2`. Assumes nothing.
+-- The grammar of 01, "Journal and driver": the first line and the step lines; and of 02, Two and Four, the form `fabric=2`. Assumes nothing.
 use Prim.Native.{Nat.{ℕ, zero, suc, _+_}, String.String}
 use mathlib.Core.List.{List, [], _∷_, _++_}
 use lib.ListN.{getD}
 use Rattle.spelling.specs.Text.{text}
 use Rattle.protocol.specs.declared.{Opening.Opening as Sizes, Given.the-variants.Digits}
-use Rattle.protocol.specs.declared.Call.{Call, the-variants.{Load, Store, Fence, Evict, Drop, Writeback, Advance, Serve, Receive, Yield, Take}}
+use Rattle.protocol.specs.declared.Call.{Call, the-variants.{Load, Store, Fence, Evict, Drop, Writeback, Advance, Serve, Receive, Yield, Take, Victim}}
 use Rattle.grammar.specs.Form.{Part, parts}
 
 -- the numbers of a line, in their order: n 0 is the first
@@ -24,11 +24,15 @@ pub record Row : Type 0 where
 abbrev pub row : String → (Numbered → Says) → Row
 row t f = record { form = parts (text t); says = f }
 
--- THE FIRST LINES
+-- what the numbers of a first line say, with a capacity
+abbrev pub sizes : Numbered → ℕ → Sizes
+sizes n cap = record { cores = n 0; lines = n 1; width = n 2; lease = n 3; cap = cap }
+
+-- THE FIRST LINES. "`fabric=2` gains `cap=N` after lease, is 11 without it from now on, and `fabric=1` means cap = lines"
 abbrev pub openings : List Row
 openings =
-    row "fabric=1 cores=N lines=N width=N lease=N" (λ n. opens 1 (record { cores = n 0; lines = n 1; width = n 2; lease = n 3 }))
-    ∷ row "fabric=2 cores=N lines=N width=N lease=N" (λ n. opens 2 (record { cores = n 0; lines = n 1; width = n 2; lease = n 3 }))
+    row "fabric=1 cores=N lines=N width=N lease=N" (λ n. opens 1 (sizes n (n 1)))
+    ∷ row "fabric=2 cores=N lines=N width=N lease=N cap=N" (λ n. opens 2 (sizes n (n 4)))
     ∷ []
 
 -- THE STEPS of every form of journal. A store is given the digits of its `data=`
@@ -48,11 +52,12 @@ steps =
 abbrev pub evictStep : List Row
 evictStep = row "op=evict core=N line=N" (λ n. calls (Evict (n 0) (n 1))) ∷ []
 
--- "A first line `fabric=2`, same keys, has these two steps in place of evict"
+-- "A first line `fabric=2`, same keys, has these two steps in place of evict"; "A new call and `fabric=2` step, `op=victim core=N`"
 abbrev pub secondSteps : List Row
 secondSteps =
     row "op=drop core=N line=N" (λ n. calls (Drop (n 0) (n 1)))
     ∷ row "op=writeback core=N line=N" (λ n. calls (Writeback (n 0) (n 1)))
+    ∷ row "op=victim core=N" (λ n. calls (Victim (n 0)))
     ∷ []
 
 -- the rows that a line may have: in form 0 the first line is due; form 1 is `fabric=1`, form 2 `fabric=2`; there is no other yet
@@ -64,7 +69,7 @@ rowsOf (suc (suc (suc f))) = []
 
 -- what is past the rows; no definition looks there
 abbrev pub noRow : Row
-noRow = record { form = []; says = λ n. opens 0 (record { cores = 0; lines = 0; width = 0; lease = 0 }) }
+noRow = record { form = []; says = λ n. opens 0 (sizes (λ i. 0) 0) }
 
 -- the row at an index of a table
 abbrev pub rowAt : List Row → ℕ → Row
@@ -77,16 +82,16 @@ rowAt rows k = getD rows k noRow
 abbrev pub table : List Row
 table = evictStep ++ steps ++ secondSteps ++ openings
 
--- how many numbers a line has at most, where the two steps in place of evict start, how many of the rows are steps and first lines, and how
+-- how many numbers a line has at most, where the steps of `fabric=2` alone start, how many of the rows are steps and first lines, and how
 -- many forms of journal there are (form 0, where the first line is due, counted)
 abbrev pub numberCount : ℕ
-numberCount = 4
+numberCount = 5
 
 abbrev pub secondStart : ℕ
 secondStart = 9
 
 abbrev pub stepCount : ℕ
-stepCount = 11
+stepCount = 12
 
 abbrev pub openingCount : ℕ
 openingCount = 2

@@ -9,7 +9,7 @@ ghost use mathlib.Core.{Path._≡_, Bool.cond};
 ghost use Prim.Native.Nat.{_≤_, _<_, _-_};
 ghost use lib.{Dec.eqb, ListN.{length, take, drop}};
 ghost use Rattle.grammar.specs.Scan.{tagOf, RowAt, formOf, keyText, fieldParts, After, Filled, Scans, nothingRead, FoundIn, answerOf};
-ghost use Rattle.grammar.specs.{Scan.{RowFound, Called, keyValue, ValueRead}, Table.{rowsOf, numberCount, stepCount, rowCount, formCount, fromOf, toOf}};
+ghost use Rattle.grammar.specs.{Scan.{RowFound, Called, capOf, keyValue, ValueRead}, Table.{rowsOf, numberCount, stepCount, rowCount, formCount, fromOf, toOf}};
 ghost use Rattle.grammar.specs.Line.{LineOf, numberOf};
 use protocol::Call;
 use protocol::Given;
@@ -18,7 +18,7 @@ use spelling::Number;
 
 // What a line says: it opens an engine, it is a step, or it is refused with the scope's number 10 to 13.
 pub enum Line {
-    // The first line: the journal's form (1 for `fabric=1`, 2 for `fabric=2`), and the opening sizes and lease.
+    // The first line: the journal's form (1 for `fabric=1`, 2 for `fabric=2`), and the opening sizes, lease and capacity.
     Opening {
         form: u32,
         opening: Opening,
@@ -38,11 +38,11 @@ pub enum Line {
 // `stepCount`, `rowCount`, `numberCount`, `formCount` of specs/Table.antt).
 const SECOND: usize = 9;
 
-const STEPS: usize = 11;
+const STEPS: usize = 12;
 
 const ROWS: usize = STEPS + 2;
 
-const NUMBERS: usize = 4;
+const NUMBERS: usize = 5;
 
 const FORMS: u32 = 3;
 
@@ -53,7 +53,7 @@ const TO: [usize; 3] = [ROWS, SECOND, STEPS];
 
 // The row of each tag, as a letter from a on; ~, which is no row's, where there is none. The tag of a line or a form is 15 times its
 // seventh byte and its eighth, modulo 32: no two rows have the same.
-const ROWS_BY_TAG: [u8; 32] = *b"~a~~lm~~~~~i~~~ejkdcf~~~h~~~bg~~";
+const ROWS_BY_TAG: [u8; 32] = *b"~a~~mn~~~~~i~~~ejkdcfl~~h~~~bg~~";
 
 // What was read of a line by a form: 0 or the refusal, the numbers so far and how many, and where the data start (the line's
 // end, if there are none).
@@ -109,7 +109,8 @@ fn after_key(line: &[u8], at: usize, key: u32) -> usize
         4 => after(line, at, b" cores="),
         5 => after(line, at, b" lines="),
         6 => after(line, at, b" width="),
-        _ => after(line, at, b" lease="),
+        7 => after(line, at, b" lease="),
+        _ => after(line, at, b" cap="),
     }
 }
 
@@ -215,8 +216,9 @@ fn fill_row(line: &[u8], row: usize) -> Values
         8 => fill(line, after(line, 0, b"op=take"), 1, 0x1),
         9 => fill(line, after(line, 0, b"op=drop"), 2, 0x10),
         10 => fill(line, after(line, 0, b"op=writeback"), 2, 0x10),
-        11 => fill(line, after(line, 0, b"fabric=1"), 4, 0x7654),
-        _ => fill(line, after(line, 0, b"fabric=2"), 4, 0x7654),
+        11 => fill(line, after(line, 0, b"op=victim"), 1, 0x0),
+        12 => fill(line, after(line, 0, b"fabric=1"), 4, 0x7654),
+        _ => fill(line, after(line, 0, b"fabric=2"), 5, 0x87654),
     }
 }
 
@@ -315,8 +317,16 @@ fn call_of(row: usize, number: [u32; NUMBERS]) -> Call
         7 => Call::Yield { line: a },
         8 => Call::Take { line: a },
         9 => Call::Drop { core: a, line: b },
-        _ => Call::Writeback { core: a, line: b },
+        10 => Call::Writeback { core: a, line: b },
+        _ => Call::Victim { core: a },
     }
+}
+
+// The capacity that a first line says, given its numbers of lines and of `cap=`: `fabric=1` has no `cap=`, and means as many as lines.
+fn cap_of(form: u32, lines: u32, cap: u32) -> u32
+    ensures { λ r. ⌜ r ≡ capOf form lines cap ⌝ }
+{
+    if form == 1 { lines } else { cap }
 }
 
 // What a row that was found says, of a line that ends at `end`.
@@ -338,13 +348,15 @@ fn answer(f: Found, end: usize) -> Line
             end,
         };
     }
+    let form = (row - STEPS) as u32 + 1;
     Line::Opening {
-        form: (row - STEPS) as u32 + 1,
+        form,
         opening: Opening {
             cores: index(number[0]),
             lines: index(number[1]),
             width: index(number[2]),
             lease: number[3],
+            cap: index(cap_of(form, number[1], number[4])),
         },
     }
 }

@@ -12,7 +12,7 @@ use protocol::Opening;
 
 // What is at an offset of a journal. `next` is the offset of the line after it.
 pub enum Next {
-    // The first line: the journal's form, and the opening sizes and lease.
+    // The first line: the journal's form, and the opening sizes, lease and capacity.
     Opening {
         form: u32,
         opening: Opening,

@@ -13,9 +13,10 @@ listed c = c .before .before .before .before .pre (c .before .before .if1 .left)
 
 opened : tie.Need-returns-3
 opened c =
-    let f = c .before .before .before .before .before .before .before .args .f in
-    let e = opening-row (f .row) (λ i. getD (f .values .number) i 0) (omega arith) (listed (c .before .before .before)) in
-    rw (c .before .before .before .before .before .if1 .left, e, c .before .before .index .ensures, c .before .index2 .ensures, c .index3 .ensures)
+    let o = c .before .before .before .before .before in
+    let f = o .before .before .before .before .args .f in
+    let e = opening-row (f .row) (λ i. getD (f .values .number) i 0) (omega arith) (listed o) in
+    rw (o .before .before .if1 .left, e, c .before .before .before .before .index .ensures, c .before .before .before .index2 .ensures, c .before .before .index3 .ensures, c .index4 .ensures, c .before .cap-of .ensures)
 
 pub answer-spec : {M : Type 1} → statement M
 answer-spec =
@@ -25,5 +26,5 @@ answer-spec =
     (λ c κs. c .if2 .taken)
     (λ c. rw (c .before .before .before .if1 .left) (rw (c .call-of .ensures)))
     (λ c. let l = listed c in omega arith) (λ c. let l = listed c in omega arith)
-    (λ c. search needs) (λ c κs. search needs) (λ c. search needs) (λ c κs. search needs) (λ c. search needs) (λ c κs. search needs) (λ c. search needs)
+    (λ c. search needs) (λ c κs. search needs) (λ c. search needs) (λ c κs. search needs) (λ c. search needs) (λ c κs. search needs) (λ c. search needs) (λ c. search needs) (λ c. search needs) (λ c κs. search needs) (λ c κs. search needs)
     opened)

@@ -6,12 +6,12 @@ use borrow.Author.Needs.{needs}
 use Rattle.grammar.proofs.call_of.Tie as tie
 
 -- the last arm has the last row
-last : tie.Need-returns-11
+last : tie.Need-returns-12
 unfolding Others
 last c =
     let a = c .before .before .before in
-    let e : a .args .row ≡ 10 = le-antisymm (le-of-suc-le-suc (a .pre)) (past (a .args .row) 10 (c .match .rest)) in
-    rw (e, c .before .before .index .ensures, c .before .index2 .ensures)
+    let e : a .args .row ≡ 11 = le-antisymm (le-of-suc-le-suc (a .pre)) (past (a .args .row) 11 (c .match .rest)) in
+    rw (e, c .before .before .index .ensures)
 
 pub call-of-spec : {M : Type 1} → statement M
 call-of-spec =
@@ -28,4 +28,5 @@ call-of-spec =
     (λ c. rw (c .match .keys8, c .before .before .index .ensures))
     (λ c. rw (c .match .keys9, c .before .before .index .ensures))
     (λ c. rw (c .match .keys10, c .before .before .index .ensures, c .before .index2 .ensures))
+    (λ c. rw (c .match .keys11, c .before .before .index .ensures, c .before .index2 .ensures))
     last)

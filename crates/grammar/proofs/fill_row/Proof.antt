@@ -8,12 +8,12 @@ use borrow.Author.Needs.{needs}
 use Rattle.grammar.proofs.fill_row.Tie as tie
 
 -- the last arm has the last row
-last : tie.Need-returns-13
+last : tie.Need-returns-14
 unfolding Others fieldParts
 last c =
     let a = c .before .before .before .before .before in
-    let e : a .args .row ≡ 12 = le-antisymm (le-of-suc-le-suc (a .pre)) (past (a .args .row) 12 (c .before .before .before .match .rest)) in
-    rw e (kind-read _ _ _ _ _ (lit≤ tt) (c .before .after13 .ensures) (c .fill13 .ensures))
+    let e : a .args .row ≡ 13 = le-antisymm (le-of-suc-le-suc (a .pre)) (past (a .args .row) 13 (c .before .before .before .match .rest)) in
+    rw e (kind-read _ _ _ _ _ (lit≤ tt) (c .before .after14 .ensures) (c .fill14 .ensures))
 
 pub fill-row-spec : {M : Type 1} → statement M
 unfolding fieldParts
@@ -33,6 +33,7 @@ fill-row-spec =
     (λ c. search needs) (λ c κs. omega arith) (λ c κs. (after-within _ _ 0 _ (c .after11 .ensures), lit≤ tt))
     (λ c. search needs) (λ c κs. omega arith) (λ c κs. (after-within _ _ 0 _ (c .after12 .ensures), lit≤ tt))
     (λ c. search needs) (λ c κs. omega arith) (λ c κs. (after-within _ _ 0 _ (c .after13 .ensures), lit≤ tt))
+    (λ c. search needs) (λ c κs. omega arith) (λ c κs. (after-within _ _ 0 _ (c .after14 .ensures), lit≤ tt))
     (λ c. rw (c .before .before .before .match .keys1) (kind-read _ _ _ _ _ (lit≤ tt) (c .before .after .ensures) (c .fill .ensures)))
     (λ c. rw (c .before .before .before .match .keys2) (kind-read _ _ _ _ _ (lit≤ tt) (c .before .after2 .ensures) (c .fill2 .ensures)))
     (λ c. rw (c .before .before .before .match .keys3) (kind-read _ _ _ _ _ (lit≤ tt) (c .before .after3 .ensures) (c .fill3 .ensures)))
@@ -45,4 +46,5 @@ fill-row-spec =
     (λ c. rw (c .before .before .before .match .keys10) (kind-read _ _ _ _ _ (lit≤ tt) (c .before .after10 .ensures) (c .fill10 .ensures)))
     (λ c. rw (c .before .before .before .match .keys11) (kind-read _ _ _ _ _ (lit≤ tt) (c .before .after11 .ensures) (c .fill11 .ensures)))
     (λ c. rw (c .before .before .before .match .keys12) (kind-read _ _ _ _ _ (lit≤ tt) (c .before .after12 .ensures) (c .fill12 .ensures)))
+    (λ c. rw (c .before .before .before .match .keys13) (kind-read _ _ _ _ _ (lit≤ tt) (c .before .after13 .ensures) (c .fill13 .ensures)))
     last)

@@ -7,5 +7,5 @@ pub offset-after-spec : {M : Type 1} → statement M
 offset-after-spec =
     tie.close
     (tie.spec
-    (λ c. search needs) (λ c. search needs) (λ c. search needs) (λ c. search needs) (λ c. search needs) (λ c. rw (c .before .n2 .given .1))
+    (λ c. search needs) (λ c. search needs) (λ c. search needs) (λ c. search needs) (λ c. rw (c .before .n .given .1)) (λ c. rw (c .before .n2 .given .1))
     (λ c. search needs) (λ c. search needs))
