@@ -4,14 +4,14 @@ use mathlib.Core.{Path.{_≡_, refl, sym, _∙_, ap}, Bool.true, List.{List, [],
 use native.Mathlib.Omega.{arith}
 use lib.ListN.{length, take}
 use Rattle.protocol.specs.{Limits.{mostCores, mostLines}, Buffers.{Bytes, part}, About.{about, namedLine}, Given.{givenAs, bytesAs, bytesGiven}, Refusals.machineRefusal}
-use Rattle.protocol.specs.Machine.{Machine, machine, coreAt, lineAt, piecesAt, theCore, theLine, written, applied}
+use Rattle.protocol.specs.Machine.{Machine, machine, coreAt, copyAt, lineAt, pieces, theCore, theLine, written, applied}
 use Rattle.protocol.specs.{Step.{Reply, meaning, actBytes, Outcome, accepted, step}, Run.{Entry, place, run}, Counts.{countsOf, sum}}
 use Rattle.protocol.{specs.declared.{Opening.Opening as Sizes, State.State, Call.Call, About.About, Given.Given, Counts.Counts, Effect.Effect}, proofs.Keep.still}
 use Rattle.spelling.specs.{Over.PutAt, declared.Put.{Put, the-variants.{End as PutEnd, Short as NoRoom}}}
 use Rattle.refusals.specs.Input.{inputRefusal}
 use Rattle.buffers.specs.Moves.{Moves}
 use Rattle.listing.specs.Record.{recordText}
-use Rattle.tables.{specs.Found.{Found, effectWith}, proofs.Making.{Finds, made, is-step, is-moved, is-inside}}
+use Rattle.tables.{specs.{declared.copies.Look.Look, Found.{Found, effectWith}, Look.{lookTo, topOf}}, proofs.Making.{Finds, made, is-step, is-moved, is-inside}}
 use Rattle.driver.specs.Listing.{Ending, EndsAt, lines, lastLines}
 use Rattle.driver.specs.Play.{runFrom, few, resumable, Leads, Piece, aStep, theEnd, Fills, finished, more, Plays}
 use Rattle.driver.specs.Pieces.{endingOf, IsByte, StepDue, DueAt, aStep as isStep, theEnd as isEnd, beside, BesideInside, answerLine, checkpointAt}
@@ -121,7 +121,8 @@ pub end-due :
 end-due (isStep x) e = absurd (let z : _≡_ {A = ℕ} 0 1 = cc in omega arith)
 end-due {j} {at} {form} {w = w} (isEnd {w = w'} x h) e = let ew : w' ≡ w = cc in rw (← ew) (x, h)
 
--- a step that is due: the indices v, c and l where the call finds its core and its line, its effect d there, and the counts k with its answer
+-- a step that is due: the indices v, c and l where the call finds its core and its line, what going through the core's copies found, and the
+-- effect d there
 pub record StepInPlace (j : Bytes) (from : Checkpoint) (p₀ q₀ old : Bytes) : Type 0 where
   pub o : Sizes
   pub base : ℕ
@@ -138,6 +139,7 @@ pub record StepInPlace (j : Bytes) (from : Checkpoint) (p₀ q₀ old : Bytes) :
   pub w : About
   pub v : ℕ
   pub c : ℕ
+  pub k : Look
   pub l : ℕ
   pub d : Effect
   pub reached : Reached j from p₀ q₀ old o base p q out there used
@@ -145,8 +147,9 @@ pub record StepInPlace (j : Bytes) (from : Checkpoint) (p₀ q₀ old : Bytes) :
   pub about : w ≡ about call
   pub named : Found (namedLine (w .line)) (o .lines) mostLines v
   pub core : Found (theCore (w .core) (lineAt (there .state) v .manager)) (o .cores) mostCores c
-  pub line : Found (theLine (w .line) (coreAt (there .state) c .slot)) (o .lines) mostLines l
-  pub effect : d ≡ effectWith n call (piecesAt (there .state) c l) o
+  pub look : k ≡ lookTo (copyAt (there .state) c) (topOf (w .line) (o .lines))
+  pub line : Found (theLine (w .line) (coreAt (there .state) c .slot) (k .line)) (o .lines) mostLines l
+  pub effect : d ≡ effectWith n call (pieces l (coreAt (there .state) c) (copyAt (there .state) c l) (lineAt (there .state) l) (k .copies)) o
 
 module _ {j : Bytes} {from : Checkpoint} {p₀ q₀ old : Bytes} (s : StepInPlace j from p₀ q₀ old) where
   -- what is given to it
@@ -162,18 +165,18 @@ module _ {j : Bytes} {from : Checkpoint} {p₀ q₀ old : Bytes} (s : StepInPlac
   number-is : s .n ≡ inputRefusal here (s .call) given
   number-is = input (s .reached) (s .due)
 
-  finds : Finds here (s .call) (s .v) (s .c) (s .l)
+  finds : Finds here (s .call) (s .v) (s .c) (s .k) (s .l)
   finds =
       let o = s .reached .opening in
       let w = s .about in
-      record { named = rw (o, ← w) (s .named .is); core = rw (o, ← w) (s .core .is); line = rw (o, ← w) (s .line .is) }
+      record { named = rw (o, ← w) (s .named .is); core = rw (o, ← w) (s .core .is); look = rw (o, ← w) (s .look); line = rw (o, ← w) (s .line .is) }
 
-  effect-is : s .d ≡ made here (s .call) given (s .n) number-is (s .v) (s .c) (s .l) finds
+  effect-is : s .d ≡ made here (s .call) given (s .n) number-is (s .v) (s .c) (s .k) (s .l) finds
   effect-is = rw (s .reached .opening) (s .effect)
 
   -- the bytes beside the answer lie in the private buffer
   pub shows : BesideInside (s .d .answer) (s .o) (s .c) (s .l) (length (s .p))
-  shows = rw (effect-is, ← s .reached .opening) (is-inside here (s .call) given (s .n) number-is (s .v) (s .c) (s .l) finds _ refl)
+  shows = rw (effect-is, ← s .reached .opening) (is-inside here (s .call) given (s .n) number-is (s .v) (s .c) (s .k) (s .l) finds _ refl)
 
   -- the line that is put is the reply's
   abbrev line-put : Bytes
@@ -182,12 +185,12 @@ module _ {j : Bytes} {from : Checkpoint} {p₀ q₀ old : Bytes} (s : StepInPlac
   line-is : line-put ≡ recordText (place (s .there .counts .steps + 1)) (outcome .reply)
   line-is =
       rw (effect-is, s .about, ← s .reached .opening)
-      (reply-printed here (s .call) given (s .n) number-is (s .v) (s .c) (s .l) finds (place (s .there .counts .steps + 1)) (s .due .right))
+      (reply-printed here (s .call) given (s .n) number-is (s .v) (s .c) (s .k) (s .l) finds (place (s .there .counts .steps + 1)) (s .due .right))
 
   reply-is :
       meaning (s .d .answer) (actBytes (s .w .act) (bytesGiven (s .call) given) (beside (s .d .answer) (s .o) (s .p) (s .c) (s .l)))
       ≡ outcome .reply
-  reply-is = rw (effect-is, s .about, ← s .reached .opening) (replied here (s .call) given (s .n) number-is (s .v) (s .c) (s .l) finds)
+  reply-is = rw (effect-is, s .about, ← s .reached .opening) (replied here (s .call) given (s .n) number-is (s .v) (s .c) (s .k) (s .l) finds)
 
   counts-are :
       {k : Counts} → k ≡ sum (s .there .counts) (countsOf (s .call) (meaning (s .d .answer) []))
@@ -205,8 +208,8 @@ module _ {j : Bytes} {from : Checkpoint} {p₀ q₀ old : Bytes} (s : StepInPlac
       → machine (written (s .there .state) (s .c) (s .l) (s .d)) p' q' ≡ outcome .machine
   unfolding accepted applied
   machine-is p' q' g h b =
-      let i = is-moved here (s .call) given (s .n) number-is (s .v) (s .c) (s .l) finds p' q' (rw (h, s .about, effect-is, ← s .reached .opening) at b) in
-      rw (effect-is, i .0, i .1) (sym (ap (λ (x : Outcome). x .machine) (is-step here (s .call) given (s .n) number-is (s .v) (s .c) (s .l) finds)))
+      let i = is-moved here (s .call) given (s .n) number-is (s .v) (s .c) (s .k) (s .l) finds p' q' (rw (h, s .about, effect-is, ← s .reached .opening) at b) in
+      rw (effect-is, i .0, i .1) (sym (ap (λ (x : Outcome). x .machine) (is-step here (s .call) given (s .n) number-is (s .v) (s .c) (s .k) (s .l) finds)))
 
   -- it was put, and the effect is written back
   pub step-made :

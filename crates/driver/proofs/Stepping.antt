@@ -9,7 +9,7 @@ use Rattle.protocol.specs.declared.{Answer.{Answer, the-variants.{Refused, Done
 use Rattle.protocol.{specs.declared.Given.{Given, the-variants.{Bytes as AsBytes, Digits as AsDigits}}, proofs.{Tests.never, Digits.right-digits}}
 use Rattle.refusals.specs.Input.{machineWith, inputRefusal}
 use Rattle.listing.specs.Record.{recordAs, recordText}
-use Rattle.tables.proofs.Making.{Finds, made, is-step, is-shown}
+use Rattle.tables.{specs.declared.copies.Look.Look, proofs.Making.{Finds, made, is-step, is-shown}}
 use Rattle.driver.specs.Pieces.{isStore, beside}
 
 -- what is found by looking the state over, and the lengths of the buffers
@@ -64,20 +64,20 @@ act-printed (Advance n) p a given x e = refl
 act-printed Transfer p a given x e = refl
 
 -- the data that are put with the answer are the reply's
-module _ (m : Machine) (call : Call) (given : Bytes) (n : ℕ) (e : n ≡ inputRefusal m call given) (v c l : ℕ) (f : Finds m call v c l) where
+module _ (m : Machine) (call : Call) (given : Bytes) (n : ℕ) (e : n ≡ inputRefusal m call given) (v c : ℕ) (k : Look) (l : ℕ) (f : Finds m call v c k l) where
   pub replied :
-      meaning (made m call given n e v c l f .answer)
-      (actBytes (about call .act) (bytesGiven call given) (beside (made m call given n e v c l f .answer) (m .state .opening) (m .private) c l))
+      meaning (made m call given n e v c k l f .answer)
+      (actBytes (about call .act) (bytesGiven call given) (beside (made m call given n e v c k l f .answer) (m .state .opening) (m .private) c l))
       ≡ step m call given .reply
   unfolding accepted
   replied =
-      act-bytes (about call .act) (made m call given n e v c l f .answer) (bytesGiven call given) _ _ (is-shown m call given n e v c l f _ refl)
-      ∙ sym (ap (λ (x : Outcome). x .reply) (is-step m call given n e v c l f))
+      act-bytes (about call .act) (made m call given n e v c k l f .answer) (bytesGiven call given) _ _ (is-shown m call given n e v c k l f _ refl)
+      ∙ sym (ap (λ (x : Outcome). x .reply) (is-step m call given n e v c k l f))
 
   pub reply-printed :
       (p : Place) → givenRefusal (givenAs (about call .act)) given ≡ 0
       → recordAs (givenAs (about call .act)) p
-      (meaning (made m call given n e v c l f .answer) (actBytes (about call .act) given (beside (made m call given n e v c l f .answer) (m .state .opening) (m .private) c l)))
+      (meaning (made m call given n e v c k l f .answer) (actBytes (about call .act) given (beside (made m call given n e v c k l f .answer) (m .state .opening) (m .private) c l)))
       ≡ recordText p (step m call given .reply)
   reply-printed p h =
-      act-printed (about call .act) p (made m call given n e v c l f .answer) given _ h ∙ ap (recordText p) replied
+      act-printed (about call .act) p (made m call given n e v c k l f .answer) given _ h ∙ ap (recordText p) replied

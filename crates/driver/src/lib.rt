@@ -15,6 +15,7 @@ use protocol::Counts;
 use protocol::Opening;
 use protocol::State;
 use spelling::Put;
+use tables::Look;
 
 // A run between two lines: the offset in the journal, its form, what was met so far, and the state.
 pub struct Checkpoint {
@@ -167,9 +168,10 @@ pub fn play(
                 end,
                 next,
             } => {
-                // The effect of the call on the core, the copy and the manager's line that it is about. Its
-                // line is put first: where there is no room, nothing has changed. A store's digits are put as
-                // they are, and decoded where its bytes lie.
+                // The effect of the call on the core, the copy and the manager's line that it is about; where
+                // it looks over the core's copies, these are gone through. Its line is put first: where there
+                // is no room, nothing has changed. A store's digits are put as they are, and decoded where its
+                // bytes lie.
                 let about = call.about();
                 let act = about.act;
                 let read = act.given();
@@ -179,12 +181,21 @@ pub fn play(
                 let c = tables::core_of(about, manager, opening);
                 let k = s.core[c];
                 let slot = k.slot;
-                let l = tables::line_of(about, slot, opening);
+                let top = tables::looked_over(about, opening);
+                let mut look = Look::nothing();
+                let mut j: usize = 0;
+                while j < top {
+                    let seen = s.cell[c * Opening::MOST_LINES + j];
+                    let held = seen.copy;
+                    look = look.with(j, held);
+                    j += 1;
+                }
+                let l = tables::line_of(about, slot, look.line, opening);
                 let i = c * Opening::MOST_LINES + l;
                 let cell = s.cell[i];
                 let line = s.line[l];
                 let copy = cell.copy;
-                let d = tables::effect(number, call, l, k, copy, line, opening);
+                let d = tables::effect(number, call, l, k, copy, line, look.copies, opening);
                 let answer = d.answer;
                 let place = counts.steps + 1;
                 match one_line::put_answer(
