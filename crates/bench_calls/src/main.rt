@@ -1,7 +1,7 @@
 // Makes mixed calls on one engine, for the benchmark (tests/calls/bench), and prints how many of them
 // were refused.
 //
-// Its arguments are the count of calls, and the engine's cores, lines and width. The lease is 10 and
+// Its arguments are the count of calls, and the engine's cores, lines and width. The lease is 10, the capacity the lines, and
 // the buffers are zeros. Whether the calls are made by `engine::step` or by their names is no argument
 // but a constant: the compiler puts `step` in line where a program calls it at one place only.
 use engine::Returned;
@@ -166,11 +166,13 @@ fn run(count: u64, opening: Opening) {
 
 fn main() {
     let count = argument(1);
+    let lines = argument(3) as usize;
     let opening = Opening {
         cores: argument(2) as usize,
-        lines: argument(3) as usize,
+        lines,
         width: argument(4) as usize,
         lease: 10,
+        cap: lines,
     };
     if count == WRONG {
         usage();

@@ -170,6 +170,7 @@ fn play(width: usize, private: &mut [u8], shared: &mut [u8]) -> Returned
         lines: 2,
         width,
         lease: 10,
+        cap: 2,
     });
     let answer = o.answer;
     let state = o.state;

@@ -1,8 +1,8 @@
--- Which call each line of the journal's grammar says, and lines that are refused with 10 to 13 (01, "Journal and driver"; 02, Two).
+-- Which call each line of the journal's grammar says, and lines that are refused with 10 to 13 (01, "Journal and driver"; 02, Two and Four).
 use Prim.Native.Nat.{ℕ}
 use mathlib.Core.List.{List, [], _∷_, _++_}
 use lib.ListN.{replicate}
-use Rattle.protocol.specs.declared.Call.the-variants.{Load, Store, Fence, Evict, Drop, Writeback as WriteBack, Advance, Serve, Receive, Yield, Take}
+use Rattle.protocol.specs.declared.Call.the-variants.{Load, Store, Fence, Evict, Drop, Writeback as WriteBack, Advance, Serve, Receive, Yield, Take, Victim}
 use Rattle.protocol.specs.declared.Given.the-variants.{Digits as AsDigits}
 use Rattle.spelling.specs.Text.{text}
 use Rattle.grammar.specs.{Table.rowsOf, Line.LineOf, declared.Line.{Line, the-variants.{Opening, Step, Refused}}}
@@ -35,23 +35,32 @@ stepLines form =
 abbrev pub otherLines : List Spoken
 otherLines =
     -- "First line `fabric=1 cores=N lines=N width=N lease=N`, then one step a line, single blanks: `op=` load, evict: `core=N line=N`"
-    spoken 0 (text "fabric=1 cores=2 lines=3 width=4 lease=5") (Opening 1 (opening 2 3 4 5))
+    spoken 0 (text "fabric=1 cores=2 lines=3 width=4 lease=5") (Opening 1 (opening 2 3 4 5 3))
     ∷ spoken 1 (text "op=evict core=3 line=4") (Step (Evict 3 4) 22 22)
     -- "A first line `fabric=2`, same keys, has these two steps in place of evict"
-    ∷ spoken 0 (text "fabric=2 cores=2 lines=3 width=4 lease=5") (Opening 2 (opening 2 3 4 5))
+    ∷ spoken 0 (text "fabric=2 cores=2 lines=3 width=4 lease=5 cap=6") (Opening 2 (opening 2 3 4 5 6))
     ∷ spoken 2 (text "op=drop core=3 line=4") (Step (Drop 3 4) 21 21)
     ∷ spoken 2 (text "op=writeback core=3 line=4") (Step (WriteBack 3 4) 26 26)
+    ∷ spoken 2 (text "op=victim core=3") (Step (Victim 3) 16 16)
+    -- 02, Four: "`fabric=2` gains `cap=N` after lease, is 11 without it from now on, and `fabric=1` means cap = lines"
+    ∷ spoken 0 (text "fabric=2 cores=2 lines=3 width=4 lease=5") (Refused 11)
+    ∷ spoken 0 (text "fabric=2 cores=2 lines=3 width=4 cap=6 lease=5") (Refused 11)
+    ∷ spoken 0 (text "fabric=1 cores=2 lines=3 width=4 lease=5 cap=3") (Refused 11)
     -- the other form's steps, its first line, and a first line again
     ∷ spoken 1 (text "op=drop core=3 line=4") (Refused 11)
     ∷ spoken 1 (text "op=writeback core=3 line=4") (Refused 11)
+    ∷ spoken 1 (text "op=victim core=3") (Refused 11)
+    ∷ spoken 2 (text "op=victim core=3 line=4") (Refused 11)
     ∷ spoken 2 (text "op=evict core=3 line=4") (Refused 11)
-    ∷ spoken 1 (text "fabric=2 cores=2 lines=3 width=4 lease=5") (Refused 11)
+    ∷ spoken 1 (text "fabric=2 cores=2 lines=3 width=4 lease=5 cap=6") (Refused 11)
     ∷ spoken 2 (text "fabric=1 cores=2 lines=3 width=4 lease=5") (Refused 11)
-    ∷ spoken 2 (text "fabric=2 cores=2 lines=3 width=4 lease=5") (Refused 11)
+    ∷ spoken 2 (text "fabric=2 cores=2 lines=3 width=4 lease=5 cap=6") (Refused 11)
     -- a wrong number in them
     ∷ spoken 2 (text "op=drop core=3 line=") (Refused 12)
     ∷ spoken 2 (text "op=writeback core=03 line=4") (Refused 12)
-    ∷ spoken 0 (text "fabric=2 cores=2 lines=3 width=4 lease=x") (Refused 12)
+    ∷ spoken 2 (text "op=victim core=x") (Refused 12)
+    ∷ spoken 0 (text "fabric=2 cores=2 lines=3 width=4 lease=x cap=6") (Refused 12)
+    ∷ spoken 0 (text "fabric=2 cores=2 lines=3 width=4 lease=5 cap=06") (Refused 12)
     -- "`fabric=1` and the step kind are fixed text, so anything else there is 11"; so are an empty line, another key and a step where the first
     -- line is due
     ∷ spoken 1 (text "op=jump core=3") (Refused 11)

@@ -175,12 +175,13 @@ abbrev pub mislaid : Bytes → Bytes → Refusal
 mislaid p q = fenceOn 2 (machine (usual idle .state) p q)
 
 -- openings with one value outside the limits
-abbrev pub opening : ℕ → ℕ → ℕ → ℕ → Opening
-opening cores lines width lease = record { cores = cores; lines = lines; width = width; lease = lease }
+abbrev pub opening : ℕ → ℕ → ℕ → ℕ → ℕ → Opening
+opening cores lines width lease cap = record { cores = cores; lines = lines; width = width; lease = lease; cap = cap }
 
 abbrev pub outside : List Opening
 outside =
-    opening 0 1 1 1 ∷ opening 17 1 1 1 ∷ opening 1 0 1 1 ∷ opening 1 65 1 1 ∷ opening 1 1 0 1 ∷ opening 1 1 65 1 ∷ opening 1 1 1 0 ∷ opening 1 1 1 1001 ∷ []
+    opening 0 1 1 1 1 ∷ opening 17 1 1 1 1 ∷ opening 1 0 1 1 0 ∷ opening 1 0 1 1 1 ∷ opening 1 65 1 1 64 ∷ opening 1 1 0 1 1 ∷ opening 1 1 65 1 1
+    ∷ opening 1 1 1 0 1 ∷ opening 1 1 1 1001 1 ∷ opening 1 1 1 1 0 ∷ opening 2 3 4 5 0 ∷ opening 1 1 1 1 2 ∷ opening 2 3 4 5 4 ∷ opening 16 64 64 1000 65 ∷ []
 
 abbrev pub machineRows : List Refusal
 machineRows =
@@ -198,7 +199,7 @@ machineRows =
     -- 1 and 2
     ∷ sooner 1 misowned (mislaid (drop 1 (private unmoved)) (shared unmoved))
     ∷ sooner 1 misowned (mislaid (private unmoved) (9 ∷ shared unmoved))
-    -- 1 "state whose sizes or lease lie outside the limits"
+    -- 1 "state whose sizes or lease lie outside the limits"; 02, Four: "A capacity outside that is refusal 7, in a state 1"
     ∷ map (λ o. fenceOn 1 (freshMachine o)) outside
 
 -- ---- the theorems
@@ -220,14 +221,14 @@ fresh o = record { opening = o; core = replicate 16 (core 0 0 Empty); cell = rep
 
 -- openings at the limits, and one between them
 abbrev pub inside : List Opening
-inside = opening 1 1 1 1 ∷ opening 16 64 64 1000 ∷ opening 2 3 4 5 ∷ []
+inside = opening 1 1 1 1 1 ∷ opening 16 64 64 1000 64 ∷ opening 16 64 64 1000 1 ∷ opening 2 3 4 5 2 ∷ []
 
 abbrev pub accepted : Opening → Reply × State
 accepted o = (done Open, fresh o)
 
--- "a refused opening, which gets none, the fresh state of 1 core, 1 line, width 1, lease 1"
+-- "a refused opening, which gets none, the fresh state of 1 core, 1 line, width 1, lease 1"; 02, Four: its capacity, 1 to lines, is 1
 abbrev pub refusedWithSeven : Opening → Reply × State
-refusedWithSeven o = (refused 7, fresh (opening 1 1 1 1))
+refusedWithSeven o = (refused 7, fresh (opening 1 1 1 1 1))
 
 -- which openings are accepted, and which are refused; the answer and the state of each
 pub record OpeningsTheorem : Type 0 where

@@ -61,9 +61,9 @@ withWriteback wts rts m = record { manager = m .manager; recall = m .recall; wri
 abbrev pub busy : ManagerLine → ManagerLine
 busy m = withRecall Downgrade (withWriteback 5 6 m)
 
--- core 1, its copy of line 2, and the manager's line 2
+-- core 1, its copy of line 2, and the manager's line 2; how many copies core 1 holds is the machine's to say
 abbrev pub pieces : Core → Copy → ManagerLine → Pieces
-pieces k x m = record { number = 2; core = k; copy = x; line = m }
+pieces k x m = record { number = 2; core = k; copy = x; line = m; copies = 0 }
 
 -- ---- the bytes
 
@@ -113,13 +113,13 @@ greatest = 4294967295
 abbrev pub cell : Copy → Cell
 cell x = record { copy = x }
 
--- the state with this lease and these pieces. Core 2 asks to store to line 1, which is shared, with wts later than rts. Cores 3 and 4 and lines 4
+-- the state with this lease and these pieces, and with room for a copy of each line. Core 2 asks to store to line 1, which is shared, with wts later than rts. Cores 3 and 4 and lines 4
 -- and 5 lie outside the sizes: core 3 has lts at the greatest timestamp, an answered slot and an owned copy of line 2 at the greatest rts; core 4
 -- asked at the greatest timestamp; core 1 has such a copy of line 4 too; line 4 has an owner, and line 5 an owner who holds no copy, and a recall
 abbrev pub stateOf : ℕ → Pieces → State
 stateOf lease p =
     record {
-      opening = record { cores = 3; lines = 4; width = 5; lease = lease };
+      opening = record { cores = 3; lines = 4; width = 5; lease = lease; cap = 4 };
       core =
           core 3 5 (Asked WantStore 0 (stamp 2) NothingHeld) ∷ p .core ∷ core 4 2 (Asked WantStore 1 (stamp 4) (Version (stamp 8)))
           ∷ core greatest 1 (Answered GrantShare 4 (stamp 1) (stamp 1)) ∷ core 1 1 (asked WantLoad greatest NothingHeld) ∷ replicate 11 freshCore;

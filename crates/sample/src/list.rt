@@ -1,10 +1,11 @@
 // A list of calls by `step`: bytes move at every place where they can, and each refusal of an opening or
-// a call, 1 to 7, 13, 20 to 27 and 30, is met. Three cores, two lines, a width of two bytes, a lease of 2.
+// a call, 1 to 7, 13, 20 to 27, 30 and 31, is met. Three cores, two lines, a width of two bytes, a lease of 2,
+// and room for two copies a core; then for one.
 //
 // A list has five bytes for each call: its kind, a digit for the core, a digit for the line, one byte
 // more, and a blank. The kinds are L load, S store (the byte and a `-`), s store of no bytes,
 // H store in digits (the byte, four times), F fence, E evict, D drop, W writeback, A advance (by the digit), M advance by the greatest number,
-// V serve, R receive, Y yield and T take. The core and the line say besides what is shown.
+// V serve, R receive, Y yield, T take and C victim (the copy to give up). The core and the line say besides what is shown.
 use super::print;
 use engine::Returned;
 use protocol::Call;
@@ -38,6 +39,7 @@ fn call_of(kind: u8, core: usize, line: usize, by: u32) -> Call {
         b'V' => Call::Serve { core },
         b'R' => Call::Receive { core },
         b'Y' => Call::Yield { line },
+        b'C' => Call::Victim { core },
         _ => Call::Take { line },
     }
 }
@@ -69,8 +71,8 @@ fn digit(b: u8) -> usize {
     b as usize % 16
 }
 
-// Plays a list on an engine of three cores, two lines of two bytes, and a lease of 2.
-fn play(list: &[u8]) {
+// Plays a list on an engine of three cores, two lines of two bytes, a lease of 2, and this capacity.
+fn play(cap: usize, list: &[u8]) {
     let mut private = [0u8; 12];
     let mut shared = [0u8; 14];
     let o = engine::open(Opening {
@@ -78,6 +80,7 @@ fn play(list: &[u8]) {
         lines: 2,
         width: 2,
         lease: 2,
+        cap,
     });
     let answer = o.answer;
     let state = o.state;
@@ -118,8 +121,11 @@ fn play(list: &[u8]) {
 // shares it, which is no copy to write back, loads it and drops it. On the way 30, 26 and 30.
 // Calls 70 to 76: core 2 asks for line 1 by a store in digits, owns it, and stores to it. On the way 13
 // twice, with the slot in use.
+// Then, with room for one copy, calls 1 to 12: core 0 has no victim; it shares line 0, which is its victim, and
+// has no room for line 1 until it drops it. On the way 26 and 31.
 pub(crate) fn play_all() {
     play(
+        2,
         b"L00. L01. R00. V00. V00. R00. L00. S10a V10. R10. S10a L00. A003 L00. V00. Y10. Y10. T20. \
           T20. V00. R00. L00. \
           A003 L00. V00. R00. L00. A003 L00. V00. E00. R00. E00. \
@@ -128,6 +134,10 @@ pub(crate) fn play_all() {
           L30. L02. s00e A000 M00. \
           D21. W21. W21. T21. L21. V21. R21. W21. L21. D21. \
           H21e H21z H21- V21. R21. H21e L21. ",
+    );
+    play(
+        1,
+        b"C00. L00. V00. R00. C00. L01. V00. R00. D00. R01. L01. C01. ",
     );
     outside();
 }
@@ -146,6 +156,7 @@ fn outside() {
         lines: 1,
         width: 1,
         lease: 1,
+        cap: 1,
     });
     let answer = o.answer;
     let mut s = o.state;

@@ -24,6 +24,7 @@ fn main() {
         lines: 1,
         width: 1,
         lease: 10,
+        cap: 1,
     });
     let answer = o.answer;
     print::record(0, answer, b"");

@@ -16,10 +16,11 @@ fn opened() -> Opened {
         lines: 1,
         width: 1,
         lease: 10,
+        cap: 1,
     })
 }
 
-// Core 1 shares line 0 and evicts it.
+// Core 1 shares line 0, which is its victim, and evicts it.
 fn evict() {
     let mut private = [0u8; 2];
     let mut shared = [0u8; 4];
@@ -27,8 +28,10 @@ fn evict() {
     let mut d = engine::load(o.state, &mut private, &mut shared, 1, 0);
     d = engine::serve(d.state, &mut private, &mut shared, 1);
     d = engine::receive(d.state, &mut private, &mut shared, 1);
-    d = engine::evict(d.state, &mut private, &mut shared, 1, 0);
+    d = engine::victim(d.state, &mut private, &mut shared, 1);
     shown(4, d, &private, &shared);
+    d = engine::evict(d.state, &mut private, &mut shared, 1, 0);
+    shown(5, d, &private, &shared);
 }
 
 // Core 1 advances, makes a fence, and owns line 0, which it does not drop (30), does not yield without a recall (23), and writes
