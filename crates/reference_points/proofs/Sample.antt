@@ -14,7 +14,7 @@ use Rattle.reference_points.specs.{Numbers.opening, Sample.{sampleJourna
 use Rattle.reference_points.proofs.{Rows.calling, Lines.answer, Reading.{line, call}}
 
 -- the first line opens an engine
-first : NextOf sampleJournal 0 0 (Opening 1 (opening 1 1 1 10) 42)
+first : NextOf sampleJournal 0 0 (Opening 1 (opening 1 1 1 10 1) 42)
 unfolding answer
 first = line sampleJournal 0 0 refl refl
 
@@ -37,7 +37,7 @@ reads =
     }
 
 -- so it opens, and is read
-opened : Opens sampleJournal (opening 1 1 1 10) calls ended
+opened : Opens sampleJournal (opening 1 1 1 10 1) calls ended
 unfolding calling
 opened = record { form = 1; next = 42; first = first; accepted = refl; reads = reads }
 
@@ -54,7 +54,7 @@ unfolding calling run decimal decimalUpTo hex recordAs endText tallyText lines h
 sample-theorem =
     record {
       listing = opens opened;
-      counts = tally (run calls 1 (freshMachine (opening 1 1 1 10)) .records);
+      counts = tally (run calls 1 (freshMachine (opening 1 1 1 10 1)) .records);
       tally = counted opened;
       line = refl;
       reader = passed;

@@ -10,9 +10,9 @@ use Rattle.protocol.specs.declared.Name.the-variants.{Take as taken, Advance as
 use Rattle.spelling.specs.Text.{text}
 use Rattle.reference_points.specs.Numbers.{opening}
 
--- 2 cores, 3 lines, a width of 2 and a lease of 10
+-- 2 cores, 3 lines, a width of 2, a lease of 10 and room for a copy of each line
 abbrev pub small : Opening
-small = opening 2 3 2 10
+small = opening 2 3 2 10 3
 
 -- a call, what is given to it, and what it answers
 pub data Exchange : Type 0 where

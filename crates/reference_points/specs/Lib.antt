@@ -9,6 +9,7 @@ pub mod Lines
 pub mod Records
 pub mod Tally
 pub mod Commits
+pub mod Capacity
 pub mod Sample
 pub mod SecondForm
 pub mod Logs

@@ -1,4 +1,4 @@
--- The refusals 1 to 7 and 20 to 27 of 01, and 30 of 02: each alone, and each two that can apply to one call at once, where the smaller comes first.
+-- The refusals 1 to 7 and 20 to 27 of 01, and 30 of 02 (31 has rows of its own, in Capacity): each alone, and each two that can apply to one call at once, where the smaller comes first.
 --
 -- Two numbers of which one speaks of another call (21 and 22, say) never meet. Nor do 6 and 27 (lts + 0 passes nothing), 20 and 27 (a store asks
 -- only where its copy is not owned), 21 and 27 (only an asked slot has an asked lts). 7 is an opening's alone.
@@ -8,7 +8,7 @@ use lib.ListN.{drop, replicate}
 use Rattle.protocol.specs.{Stamps.stamp, Buffers.Bytes, Machine.{Machine, machine, freshMachine, Pieces}}
 use Rattle.protocol.specs.declared.Call.{Call, the-variants.{Load, Store, Fence, Evict, Drop, Writeback as WriteBack, Advance, Serve, Receive, Yield}}
 use Rattle.protocol.specs.declared.Given.the-variants.{Bytes as AsBytes}
-use Rattle.protocol.specs.declared.{Call.the-variants.Take, Opening.Opening}
+use Rattle.protocol.specs.declared.{Call.the-variants.{Take, Victim}, Opening.Opening}
 use Rattle.protocol.specs.declared.{Name.the-variants.Open, Copy.the-variants.None as NoCopy, State.State}
 use Rattle.protocol.specs.declared.{Want.the-variants.{Load as WantLoad, Store as WantStore}, Held.the-variants.{None as NothingHeld, Version}}
 use Rattle.protocol.specs.declared.{Grant.the-variants.{Share as GrantShare, Own as GrantOwn}, Slot.the-variants.{Empty, Asked, Answered}}
@@ -57,7 +57,8 @@ full = pieces (core 7 9 Empty) (dirtyCopy 6 greatest) (ownedLine 1 NoRecall)
 
 abbrev pub causes : List Refusal
 causes =
-    -- 3 core ≥ cores. Cores 3 and 4 would be refused for their slots, copies and clocks too: with 20, 20, 26, 26, 26, 27, 21, 27, 22
+    -- 3 core ≥ cores. Cores 3 and 4 would be refused for their slots, copies and clocks too: with 20, 20, 26, 26, 26, 27, 21, 27, 22,
+    -- 26
     cause 3 idle (Load 3 0)
     ∷ cause 3 idle (Store AsBytes 3 0)
     ∷ cause 3 idle (Fence 3)
@@ -68,6 +69,7 @@ causes =
     ∷ cause 3 idle (Serve 3)
     ∷ cause 3 idle (Serve 4)
     ∷ cause 3 idle (Receive 4)
+    ∷ cause 3 idle (Victim 4)
     -- 3 and 27 of a store; 3 and 30; 3 and 4; 3 and 5; 3 and 6
     ∷ cause 3 idle (Store AsBytes 3 2)
     ∷ cause 3 idle (Drop 3 2)

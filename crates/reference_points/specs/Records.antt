@@ -1,8 +1,8 @@
--- The lines that the program prints, byte for byte (01, "Journal and driver"; 02, Two and Three).
+-- The lines that the program prints, byte for byte (01, "Journal and driver"; 02, Two to Four).
 use Prim.Native.Nat.{ℕ}
 use mathlib.Core.{Path._≡_, List.{List, [], _∷_, _++_}}
 use Rattle.protocol.specs.{Stamps.stamp, Buffers.Bytes, Step.{load, store, fence, Reply, refused, done, commit}, Run.place}
-use Rattle.protocol.specs.declared.{Counts.Counts, Name.the-variants.{Open, Ask, Recall, Share, Renew, Own, Drop, Evict, Writeback, Advance, Yield, Take}}
+use Rattle.protocol.specs.declared.{Counts.Counts, Name.the-variants.{Open, Ask, Recall, Share, Renew, Own, Drop, Evict, Writeback, Advance, Yield, Take, Victim}}
 use Rattle.spelling.specs.Text.{text}
 use Rattle.protocol.specs.declared.Given.the-variants.{Digits as AsDigits}
 use Rattle.listing.specs.Record.{recordAs, recordText, endText}
@@ -21,7 +21,7 @@ abbrev pub printedLine : Printed → Bytes
 printedLine (printed n r s) = s
 
 -- "n is the place; done is open, ask, recall, share, renew, own, drop, evict, advance, yield or take; a fence prints core and ts";
--- 02: "they print `done=drop` and `done=writeback`"
+-- 02: "they print `done=drop` and `done=writeback`", "prints `done=victim line=N`"
 abbrev pub records : List Printed
 records =
     printed 7 (commit 3 (stamp 45) (load 6 (171 ∷ 205 ∷ []))) (text "n=7 commit=load core=3 line=6 ts=45 data=abcd\n")
@@ -42,8 +42,11 @@ records =
     ∷ printed 9 (done Yield) (text "n=9 done=yield\n")
     ∷ printed 10 (done Take) (text "n=10 done=take\n")
     ∷ printed 11 (done Writeback) (text "n=11 done=writeback\n")
+    ∷ printed 12 (done (Victim 0)) (text "n=12 done=victim line=0\n")
+    ∷ printed 13 (done (Victim 63)) (text "n=13 done=victim line=63\n")
     ∷ printed 9 (refused 27) (text "n=9 refused=27\n")
     ∷ printed 12 (refused 30) (text "n=12 refused=30\n")
+    ∷ printed 12 (refused 31) (text "n=12 refused=31\n")
     ∷ []
 
 -- the data of a commit put from digits: "Listings are unchanged", so digits are printed as they are

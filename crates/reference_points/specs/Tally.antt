@@ -3,10 +3,10 @@ use Prim.Native.Nat.{ℕ}
 use mathlib.Core.{Path._≡_, List.{List, [], _∷_, _++_, map}}
 use lib.ListN.{replicate}
 use Rattle.protocol.specs.{Stamps.stamp, Run.{Record, place}, Step.{load, store, fence, Reply, refused, done, commit}, Counts.{classOf, tally}}
-use Rattle.protocol.specs.declared.Call.{Call, the-variants.{Load, Store, Fence, Evict, Drop, Writeback as WriteBack, Advance, Serve, Receive, Yield, Take}}
+use Rattle.protocol.specs.declared.Call.{Call, the-variants.{Load, Store, Fence, Evict, Drop, Writeback as WriteBack, Advance, Serve, Receive, Yield, Take, Victim}}
 use Rattle.protocol.specs.declared.Given.the-variants.{Bytes as AsBytes, Digits as AsDigits}
 use Rattle.protocol.specs.declared.Name.the-variants.{Ask, Recall, Share, Renew, Own, Drop as Dropped, Evict as Evicted, Advance as Advanced}
-use Rattle.protocol.specs.declared.Name.the-variants.{Writeback as WrittenBack, Yield as Yielded, Take as Taken}
+use Rattle.protocol.specs.declared.Name.the-variants.{Writeback as WrittenBack, Yield as Yielded, Take as Taken, Victim as Chosen}
 use Rattle.protocol.specs.declared.Class.{Class, the-variants.{Load as ALoad, Store as AStore, Fence as AFence, Ask as AnAsk, Share as AShare, Renew as ARenew}}
 use Rattle.protocol.specs.declared.Class.the-variants.{Own as AnOwn, Refused as ARefusal, Other}
 use Rattle.spelling.specs.Text.{text}
@@ -26,7 +26,7 @@ expected (counts call r k) = k
 
 -- a refusal is one whatever its number is
 abbrev pub everyNumber : List ℕ
-everyNumber = 1 ∷ 2 ∷ 3 ∷ 4 ∷ 5 ∷ 6 ∷ 7 ∷ 13 ∷ 20 ∷ 21 ∷ 22 ∷ 23 ∷ 24 ∷ 25 ∷ 26 ∷ 27 ∷ 30 ∷ []
+everyNumber = 1 ∷ 2 ∷ 3 ∷ 4 ∷ 5 ∷ 6 ∷ 7 ∷ 13 ∷ 20 ∷ 21 ∷ 22 ∷ 23 ∷ 24 ∷ 25 ∷ 26 ∷ 27 ∷ 30 ∷ 31 ∷ []
 
 -- "The first four count those commits and answers, the last three the serve answers": a receive answers share, renew and own too, and counts
 -- as none of them
@@ -51,6 +51,7 @@ classes =
     ∷ counts (Advance 0 1) (done Advanced) Other
     ∷ counts (Yield 0) (done Yielded) Other
     ∷ counts (Take 0) (done Taken) Other
+    ∷ counts (Victim 0) (done (Chosen 2)) Other
     ∷ counts (Store AsDigits 0 0) (commit 0 (stamp 3) (store 0 (7 ∷ []))) AStore
     ∷ counts (Store AsDigits 0 0) (done Ask) AnAsk
     ∷ (map (λ n. counts (Store AsDigits 0 0) (refused n) ARefusal) everyNumber ++ map (λ n. counts (Serve 0) (refused n) ARefusal) everyNumber)
