@@ -147,7 +147,7 @@ pub record StepInPlace (j : Bytes) (from : Checkpoint) (p₀ q₀ old : Bytes) :
   pub about : w ≡ about call
   pub named : Found (namedLine (w .line)) (o .lines) mostLines v
   pub core : Found (theCore (w .core) (lineAt (there .state) v .manager)) (o .cores) mostCores c
-  pub look : k ≡ lookTo (copyAt (there .state) c) (topOf (w .line) (o .lines))
+  pub look : k ≡ lookTo (copyAt (there .state) c) (topOf (w .line) o)
   pub line : Found (theLine (w .line) (coreAt (there .state) c .slot) (k .line)) (o .lines) mostLines l
   pub effect : d ≡ effectWith n call (pieces l (coreAt (there .state) c) (copyAt (there .state) c l) (lineAt (there .state) l) (k .copies)) o
 

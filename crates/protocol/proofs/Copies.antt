@@ -53,6 +53,14 @@ module _ (f : Copies) where
   count-most zero = omega arith
   count-most (suc n) = let q = count-most n in let h = one-most (isHeld (f n)) in omega arith
 
+  -- fewer where one is not held
+  pub count-missing : (n l : ℕ) → l < n → isHeld (f l) ≡ false → heldBelow f n < n
+  unfolding heldBelow
+  count-missing zero l h e = absurd (omega arith)
+  count-missing (suc n) l h e = by-cases (ℕ-discrete l n)
+      (λ i. let x : one (isHeld (f n)) ≡ 0 = ap (λ k. one (isHeld (f k))) (sym i) ∙ ap one e in let q = count-most n in omega (arith, x, q))
+      (λ i. let q = count-missing n l (omega (arith, h, i)) e in let m = one-most (isHeld (f n)) in omega (arith, q, m))
+
   -- none is held where the count is 0; one is where it is not
   pub none-held : (n : ℕ) → heldBelow f n ≡ 0 → (k : ℕ) → k < n → isHeld (f k) ≡ true → ⊥
   unfolding heldBelow

@@ -1,7 +1,6 @@
 -- What a call is about: the core, the line, and what it does to the core's clocks, read off the headings of 01's "Steps". Everything that asks
 -- which core or line a call looks at, what 3 to 6 refuse of it, or what it commits goes by this one definition.
 use Prim.Native.Nat.{ℕ}
-use mathlib.Core.Bool.{Bool, true, false}
 use Rattle.protocol.specs.declared.Call.{Call, the-variants.{Load, Store, Fence, Evict, Drop, Writeback as WriteBack, Advance}}
 use Rattle.protocol.specs.declared.Call.the-variants.{Serve, Receive, Yield, Take, Victim}
 use Rattle.protocol.specs.declared.Who.{Who, the-variants.{Named as NamedCore, Owner, Nobody}}
@@ -41,11 +40,3 @@ namedLine Asked = 0
 namedLine Granted = 0
 namedLine Nothing = 0
 namedLine OfVictim = 0
-
--- a call looks over all copies of its core: receive, which counts them, and victim. It is read off the line that the call is about
-abbrev pub looksOver : Which → Bool
-looksOver (NamedLine l) = false
-looksOver Asked = false
-looksOver Granted = true
-looksOver Nothing = false
-looksOver OfVictim = true

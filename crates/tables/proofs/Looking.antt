@@ -3,12 +3,13 @@
 use Prim.Native.Nat.{ℕ, zero, suc, _+_, _≤_, _<_}
 use mathlib.Core.{Path.{_≡_, refl, sym, _∙_, ap}, Bool.{Bool, true, false}, Logic.{_⊎_, inl, inr}, List.{[], _∷_}}
 use native.Mathlib.{Numerals.add-one, Omega.arith}
-use lib.Dec.{ltb, eqb}
-use borrow.Author.Tests.{le-leb, lt-ltb}
-use Rattle.protocol.specs.{Pick.{pick, both}, About.{about, looksOver}, Copies.{isHeld, Copies, heldBelow, rank, rankOf, below, IsVictim, replaces, victimBelow}}
+use lib.Dec.{ltb, leb, eqb}
+use borrow.Author.Tests.{ltb-false, le-leb, lt-leb, lt-ltb}
+use Rattle.protocol.specs.{Pick.{pick, both, fails}, About.about, Copies.{isHeld, Copies, heldBelow, rank, rankOf, below, IsVictim, replaces, victimBelow}}
 use Rattle.protocol.specs.{Machine.{Pieces, pieces, copyAt, copiesOf, victimOf, theLine}, Refusals.{stateRules, stateRefusal}}
 use Rattle.protocol.specs.Tables.{refusedRow, loadOwned, loadTable, storeTable, fenceTable, advanceTable, evictTable, sameVersion, leasedTo, serveLoad, serveAsked}
-use Rattle.protocol.specs.Tables.{serveTable, yieldTable, takeTable, tableOf, effectOf}
+use Rattle.protocol.specs.Tables.{serveTable, receiveRenew, receiveGrant, receiveTable, yieldTable, takeTable, tableOf, effectOf}
+use Rattle.protocol.specs.declared.Grant.{Grant, the-variants.{Share as GrantShare, Renew as GrantRenew, Own as GrantOwn}}
 use Rattle.protocol.specs.declared.{Copy.{Copy, the-variants.{None as NoCopy, Shared as CopyShared, Owned as CopyOwned}}, Stamp.Stamp, Held.Held}
 use Rattle.protocol.specs.declared.{Want.{Want, the-variants.{Load as WantLoad, Store as WantStore}}, Slot.{Slot, the-variants.{Empty, Asked, Answered}}}
 use Rattle.protocol.specs.declared.{Core.Core, Manager.{Manager, the-variants.{Shared, Owned}}, Writeback.{Writeback, the-variants.{None as NoWriteback, Flight}}}
@@ -17,7 +18,7 @@ use Rattle.protocol.specs.declared.Call.{Call, the-variants.{Load, Store, Fence
 use Rattle.protocol.specs.declared.Call.the-variants.{Serve, Receive, Yield, Take, Victim}
 use Rattle.protocol.specs.declared.Which.{Which, the-variants.{Named as NamedLine, Asked as OfAsked, Granted as OfGranted, Nothing, Victim as OfVictim}}
 use Rattle.protocol.proofs.{Tests.never, Copies.{one, count-most, none-held, victim-theorem}}
-use Rattle.tables.specs.{declared.copies.Look.Look, Look.{oneMore, found, takesPlace, withCopy, lookTo, topOf}}
+use Rattle.tables.specs.{declared.copies.Look.Look, Look.{oneMore, found, takesPlace, withCopy, lookTo, looksOver, topOf}}
 
 -- ---- what is found
 
@@ -129,26 +130,36 @@ last-below a b = go (ltb a b) (eqb a b)
 -- ---- of a call
 
 -- what a call finds that looks over its core's copies
-module _ (s : State) (c : ℕ) (w : Which) (low : s .opening .lines ≤ 64) (looks : looksOver w ≡ true) where
-  all-seen : Seen (copyAt s c) (s .opening .lines) (lookTo (copyAt s c) (topOf w (s .opening .lines)))
+module _ (s : State) (c : ℕ) (w : Which) (low : s .opening .lines ≤ 64) (looks : looksOver w (s .opening) ≡ true) where
+  all-seen : Seen (copyAt s c) (s .opening .lines) (lookTo (copyAt s c) (topOf w (s .opening)))
   all-seen = rw (looks, le-leb _ _ low) (seen (copyAt s c) (s .opening .lines) low)
 
-  pub look-copies : lookTo (copyAt s c) (topOf w (s .opening .lines)) .copies ≡ copiesOf s c
+  pub look-copies : lookTo (copyAt s c) (topOf w (s .opening)) .copies ≡ copiesOf s c
   look-copies = all-seen .copies
 
-  pub look-victim : lookTo (copyAt s c) (topOf w (s .opening .lines)) .line ≡ victimOf s c
+  pub look-victim : lookTo (copyAt s c) (topOf w (s .opening)) .line ≡ victimOf s c
   look-victim = all-seen .line
 
 -- the line of a call that does not is the same for any victim
-pub line-unseen : (w : Which) (k : Slot) (u v : ℕ) → looksOver w ≡ false → theLine w k u ≡ theLine w k v
-line-unseen (NamedLine l) k u v e = refl
-line-unseen OfAsked k u v e = refl
-line-unseen OfGranted k u v e = never e
-line-unseen Nothing k u v e = refl
-line-unseen OfVictim k u v e = never e
+pub line-unseen : (w : Which) (o : Opening) (k : Slot) (u v : ℕ) → looksOver w o ≡ false → theLine w k u ≡ theLine w k v
+line-unseen (NamedLine l) o k u v e = refl
+line-unseen OfAsked o k u v e = refl
+line-unseen OfGranted o k u v e = refl
+line-unseen Nothing o k u v e = refl
+line-unseen OfVictim o k u v e = never e
 
--- what it makes of the pieces is the same for any number of copies
-module _ (n : ℕ) (k : Core) (x : Copy) (m : ManagerLine) (i j : ℕ) (o : Opening) where
+-- it finds nothing
+pub look-none : (f : Copies) (w : Which) (o : Opening) → looksOver w o ≡ false → lookTo f (topOf w o) .copies ≡ 0
+unfolding lookTo
+look-none f w o e = rw e
+
+-- where a core may hold a copy of each line, there is room for one of a line that is not held, however many are counted below the capacity
+room-for : (h : Bool) (cap i j : ℕ) → i < cap → (h ≡ false → j < cap) → both (fails h) (leb cap i) ≡ both (fails h) (leb cap j)
+room-for true cap i j a b = refl
+room-for false cap i j a b = rw (lt-leb cap i a, lt-leb cap j (b refl))
+
+-- what it makes of the pieces is the same for any number of copies; a receive where both leave room
+module _ (n : ℕ) (k : Core) (x : Copy) (m : ManagerLine) (i j : ℕ) (o : Opening) (few : i < o .cap) (fits : o .lines ≤ o .cap → isHeld x ≡ false → j < o .cap) where
   abbrev p : Pieces
   p = pieces n k x m i
 
@@ -191,6 +202,12 @@ module _ (n : ℕ) (k : Core) (x : Copy) (m : ManagerLine) (i j : ℕ) (o : Open
   serve-same (Asked a l t h) c = asked-same (m .manager) a c l t h
   serve-same (Answered g l w r) c = refl
 
+  renew-same : (v : Copy) (r : Stamp) → receiveRenew v r p ≡ receiveRenew v r q
+  unfolding receiveRenew
+  renew-same NoCopy r = refl
+  renew-same (CopyShared w b) r = refl
+  renew-same (CopyOwned d w b) r = refl
+
   yield-same : (v : Copy) → yieldTable v p ≡ yieldTable v q
   unfolding yieldTable
   yield-same NoCopy = refl
@@ -202,7 +219,19 @@ module _ (n : ℕ) (k : Core) (x : Copy) (m : ManagerLine) (i j : ℕ) (o : Open
   take-same NoWriteback = refl
   take-same (Flight w r) = refl
 
-  pub effect-unseen : (call : Call) → looksOver (about call .line) ≡ false → effectOf call p o ≡ effectOf call q o
+  grant-same : (g : Grant) (w r : Stamp) → receiveGrant g w r p ≡ receiveGrant g w r q
+  unfolding receiveGrant
+  grant-same GrantShare w r = refl
+  grant-same GrantOwn w r = refl
+  grant-same GrantRenew w r = renew-same x r
+
+  receive-same : (v : Slot) → receiveTable v p ≡ receiveTable v q
+  unfolding receiveTable
+  receive-same Empty = refl
+  receive-same (Asked a l t h) = refl
+  receive-same (Answered g l w r) = grant-same g w r
+
+  pub effect-unseen : (call : Call) → looksOver (about call .line) o ≡ false → effectOf call p o ≡ effectOf call q o
   unfolding effectOf tableOf stateRefusal stateRules fenceTable advanceTable
   effect-unseen (Load c l) e = rw (load-same x c l)
   effect-unseen (Store g c l) e = rw (store-same x c l)
@@ -212,7 +241,7 @@ module _ (n : ℕ) (k : Core) (x : Copy) (m : ManagerLine) (i j : ℕ) (o : Open
   effect-unseen (WriteBack c l) e = rw (evict-same _ x)
   effect-unseen (Advance c by) e = refl
   effect-unseen (Serve c) e = rw (serve-same (k .slot) c)
-  effect-unseen (Receive c) e = never e
+  effect-unseen (Receive c) e = rw (receive-same (k .slot), room-for (isHeld x) (o .cap) i j few (fits (ltb-false (o .cap) (o .lines) e)))
   effect-unseen (Yield l) e = rw (yield-same x)
   effect-unseen (Take l) e = rw (take-same (m .writeback))
   effect-unseen (Victim c) e = never e

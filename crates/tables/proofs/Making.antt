@@ -5,17 +5,17 @@ use mathlib.Core.{Path.{_≡_, refl, sym, _∙_, ap₂}, Bool.{Bool, true, false
 use lib.ListN.{length}
 use native.Mathlib.{Omega.arith, Decide.ℕ-discrete}
 use borrow.Author.Tests.{le-leb, lt-ltb, ne-eqb}
-use Rattle.protocol.proofs.{Extents.{copy-ends, inside}, Refusals.{or-none, Fit, machine-fit, named, named-inside, call-there}}
+use Rattle.protocol.proofs.{Copies.count-missing, Extents.{copy-ends, inside}, Refusals.{or-none, Fit, machine-fit, named, named-inside, call-there}}
 use Rattle.protocol.specs.{Pick.pick, Limits.{mostCores, mostLines}, Buffers.{Bytes, part, copyStart, copyBytes, There, movedPrivate, movedShared}}
-use Rattle.protocol.specs.{About.{about, namedLine, looksOver}, Given.{givenAs, bytesGiven}}
+use Rattle.protocol.specs.{About.{about, namedLine}, Given.{givenAs, bytesGiven}}
 use Rattle.protocol.specs.Machine.{Machine, coreAt, copyAt, lineAt, copiesOf, victimOf, pieces, piecesAt, theCore, theLine, coreOf, lineOf}
 use Rattle.protocol.specs.{Refusals.{givenRefusal, machineRefusal, callRefusal}, Tables.{refusedRow, effectOf}, Step.{meaning, accepted, step}}
 use Rattle.protocol.specs.declared.{Opening.Opening, Call.Call, Answer.{Answer, the-variants.{Refused, Done, Commit}}, Effect.Effect, Move.the-variants.Still}
 use Rattle.protocol.specs.declared.Kind.the-variants.{Load, Store, Fence}
 use Rattle.refusals.specs.Input.{inputRefusal}
 use Rattle.buffers.{specs.Moves.{isThere, moveFits, Moves}, proofs.Laws.{from-there, start-there}}
-use Rattle.tables.specs.{declared.copies.Look.Look, Found.{foundAt, effectWith}, Look.{lookTo, topOf}, Spans.spanOf}
-use Rattle.tables.proofs.{Effects.{step-refused, row-refused, step-accepted, Sound, effect-sound, effect-moves}, Looking.{look-copies, look-victim, line-unseen, effect-unseen}}
+use Rattle.tables.specs.{declared.copies.Look.Look, Found.{foundAt, effectWith}, Look.{lookTo, looksOver, topOf}, Spans.spanOf}
+use Rattle.tables.proofs.{Effects.{step-refused, row-refused, step-accepted, Sound, effect-sound, effect-moves}, Looking.{look-copies, look-victim, line-unseen, look-none, effect-unseen}}
 
 -- what is there is found
 pub found-there : (n count most : ℕ) → n < count → count ≤ most → foundAt n count most ≡ n
@@ -26,7 +26,7 @@ found-there n count most h k = rw (le-leb _ _ k, lt-ltb _ _ h)
 pub record Finds (m : Machine) (call : Call) (v c : ℕ) (k : Look) (l : ℕ) : Type 0 where
   pub named : v ≡ foundAt (namedLine (about call .line)) (m .state .opening .lines) mostLines
   pub core : c ≡ foundAt (theCore (about call .core) (lineAt (m .state) v .manager)) (m .state .opening .cores) mostCores
-  pub look : k ≡ lookTo (copyAt (m .state) c) (topOf (about call .line) (m .state .opening .lines))
+  pub look : k ≡ lookTo (copyAt (m .state) c) (topOf (about call .line) (m .state .opening))
   pub line : l ≡ foundAt (theLine (about call .line) (coreAt (m .state) c .slot) (k .line)) (m .state .opening .lines) mostLines
 
 -- a commit's bytes lie in a buffer in which the line's do
@@ -83,12 +83,12 @@ module _ (m : Machine) (call : Call) (given : Bytes) (n : ℕ) (e : n ≡ inputR
 
     -- the line by the core's victim, whether the call looks for it or not
     victim-is : theLine (about call .line) (coreAt (m .state) c .slot) (k .line) ≡ theLine (about call .line) (coreAt (m .state) c .slot) (victimOf (m .state) c)
-    victim-is = go (looksOver (about call .line)) refl
+    victim-is = go (looksOver (about call .line) o) refl
       where
-        go : (b : Bool) → looksOver (about call .line) ≡ b
+        go : (b : Bool) → looksOver (about call .line) o ≡ b
             → theLine (about call .line) (coreAt (m .state) c .slot) (k .line) ≡ theLine (about call .line) (coreAt (m .state) c .slot) (victimOf (m .state) c)
         go true t = rw (f .look, look-victim (m .state) c (about call .line) (inside o (fit .opening) .mostLines) t)
-        go false t = line-unseen (about call .line) (coreAt (m .state) c .slot) (k .line) (victimOf (m .state) c) t
+        go false t = line-unseen (about call .line) o (coreAt (m .state) c .slot) (k .line) (victimOf (m .state) c) t
 
     line-is : l ≡ lineOf call (m .state)
     line-is =
@@ -100,12 +100,16 @@ module _ (m : Machine) (call : Call) (given : Bytes) (n : ℕ) (e : n ≡ inputR
 
     accepted-effect : made ≡ effectOf call (piecesAt (m .state) c l) o
     unfolding effectWith
-    accepted-effect = rw z (go (looksOver (about call .line)) refl)
+    accepted-effect = rw z (go (looksOver (about call .line) o) refl)
       where
-        go : (b : Bool) → looksOver (about call .line) ≡ b
+        go : (b : Bool) → looksOver (about call .line) o ≡ b
             → effectOf call (pieces l (coreAt (m .state) c) (copyAt (m .state) c l) (lineAt (m .state) l) (k .copies)) o ≡ effectOf call (piecesAt (m .state) c l) o
         go true t = rw (f .look, look-copies (m .state) c (about call .line) (inside o (fit .opening) .mostLines) t)
-        go false t = effect-unseen l (coreAt (m .state) c) (copyAt (m .state) c l) (lineAt (m .state) l) (k .copies) (copiesOf (m .state) c) o call t
+        go false t =
+            let n = look-none (copyAt (m .state) c) (about call .line) o t in
+            effect-unseen l (coreAt (m .state) c) (copyAt (m .state) c l) (lineAt (m .state) l) (k .copies) (copiesOf (m .state) c) o
+            (rw (f .look, n) (omega (arith, inside o (fit .opening) .someCap)))
+            (λ h e. let j = count-missing (copyAt (m .state) c) (o .lines) l (there .line) e in omega (arith, h, j)) call t
 
     sound : Sound o c l bytes (m .private) (m .shared) call made
     sound = rw (accepted-effect, core-is, line-is) (effect-sound m call bytes fit (allowed .1))

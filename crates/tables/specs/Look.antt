@@ -1,9 +1,10 @@
 -- Going through the copies of a core, line by line, as the code does: how many are held, and the victim with its copy.
 use Prim.Native.Nat.{ℕ, zero, suc, _+_, _≤_}
-use mathlib.Core.{Path._≡_, Bool.{Bool, true}}
+use mathlib.Core.{Path._≡_, Bool.{Bool, true, false}}
 use lib.Dec.{ltb, leb}
-use Rattle.protocol.specs.{Pick.{pick, both}, Limits.mostLines, About.looksOver, Copies.{isHeld, Copies, rankOf, below}}
-use Rattle.protocol.specs.declared.{Copy.{Copy, the-variants.None as NoCopy}, Which.Which}
+use Rattle.protocol.specs.{Pick.{pick, both}, Limits.mostLines, Copies.{isHeld, Copies, rankOf, below}}
+use Rattle.protocol.specs.declared.{Copy.{Copy, the-variants.None as NoCopy}, Opening.Opening}
+use Rattle.protocol.specs.declared.Which.{Which, the-variants.{Named as NamedLine, Asked, Granted, Nothing, Victim as OfVictim}}
 use Rattle.tables.specs.declared.copies.Look.{Look}
 
 -- one more, of at most as many as there are lines
@@ -31,11 +32,20 @@ unfoldable pub lookTo : Copies → ℕ → Look
 lookTo f zero = nothingFound
 lookTo f (suc n) = withCopy (lookTo f n) n (f n)
 
--- how many lines a call about this line goes through, of so many: all of them where it looks over its core's copies, else none
-abbrev pub topOf : Which → ℕ → ℕ
-topOf w n = pick (both (looksOver w) (leb n mostLines)) n 0
+-- a call about this line looks over all copies of its core: victim does, and receive, which counts them; but not where a core may hold a copy of
+-- each line, and so has room for one more whatever it holds
+abbrev pub looksOver : Which → Opening → Bool
+looksOver (NamedLine l) o = false
+looksOver Asked o = false
+looksOver Granted o = ltb (o .cap) (o .lines)
+looksOver Nothing o = false
+looksOver OfVictim o = true
+
+-- how many lines it goes through: all of them, or none
+abbrev pub topOf : Which → Opening → ℕ
+topOf w o = pick (both (looksOver w o) (leb (o .lines) mostLines)) (o .lines) 0
 
 -- the same of a value r, with what it means for an array of as many copies as there may be lines
-pub record Top (w : Which) (n r : ℕ) : Type 0 where
-  pub is : r ≡ topOf w n
+pub record Top (w : Which) (o : Opening) (r : ℕ) : Type 0 where
+  pub is : r ≡ topOf w o
   pub low : r ≤ mostLines

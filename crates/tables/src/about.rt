@@ -3,8 +3,8 @@
 // outside the limits, the index is 0, so that every call, refused or not, finds elements to look at.
 ghost use mathlib.Core.Path.{_≡_};
 ghost use Prim.Native.Nat.{_<_};
-ghost use Rattle.protocol.specs.{Limits.{mostCores, mostLines}, About.{namedLine, looksOver}, Machine.{slotLine, theCore, theLine}};
-ghost use Rattle.tables.specs.{Found.Found, Look.Top};
+ghost use Rattle.protocol.specs.{Limits.{mostCores, mostLines}, About.namedLine, Machine.{slotLine, theCore, theLine}};
+ghost use Rattle.tables.specs.{Found.Found, Look.{looksOver, Top}};
 use protocol::About;
 use protocol::Manager;
 use protocol::Opening;
@@ -39,14 +39,15 @@ fn named(line: Which) -> usize
     }
 }
 
-// Whether a call about this line looks over all copies of its core.
-fn looks_over(line: Which) -> bool
-    ensures { λ r. ⌜ r ≡ looksOver line ⌝ }
+// Whether a call about this line looks over all copies of its core. A receive counts them, but not where a
+// core may hold a copy of each line: it has room then.
+fn looks_over(line: Which, opening: Opening) -> bool
+    ensures { λ r. ⌜ r ≡ looksOver line opening ⌝ }
 {
     match line {
         Which::Named(_) => false,
         Which::Asked => false,
-        Which::Granted => true,
+        Which::Granted => opening.cap < opening.lines,
         Which::Nothing => false,
         Which::Victim => true,
     }
@@ -108,11 +109,11 @@ pub fn core_of(about: About, manager: Manager, opening: Opening) -> usize
 
 // How many lines a call goes through to look over its core's copies, from line 0 on: all of the opening's, or none.
 pub fn looked_over(about: About, opening: Opening) -> usize
-    ensures { λ r. ⌜ Top (about .line) (opening .lines) r ⌝ }
+    ensures { λ r. ⌜ Top (about .line) opening r ⌝ }
 {
     let line = about.line;
     let lines = opening.lines;
-    if !looks_over(line) {
+    if !looks_over(line, opening) {
         return 0;
     }
     if Opening::MOST_LINES < lines {

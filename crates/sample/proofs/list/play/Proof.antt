@@ -8,11 +8,11 @@ use Rattle.sample.proofs.list.play.Statement.{statement}
 use Rattle.sample.proofs.list.play.Tie as tie
 
 abbrev Inv-loop : tie.InvT-loop
-Inv-loop list private₀ shared₀ d₀ at₀ n₀ private shared d at n =
+Inv-loop cap list private₀ shared₀ d₀ at₀ n₀ private shared d at n =
     (at ≤ length list) × ((n ≤ at + 1) × ((length private ≡ 12) × (length shared ≡ 14)))
 
 abbrev μ-loop : tie.MeasureT-loop
-μ-loop list private₀ shared₀ d₀ at₀ n₀ private shared d at n = length list - at
+μ-loop cap list private₀ shared₀ d₀ at₀ n₀ private shared d at n = length list - at
 
 pub play-spec : {M : Type 1} → statement M
 play-spec =
