@@ -10,7 +10,8 @@
  *     cc -I/usr/local/include host.c -L/usr/local/lib -lfabric
  *
  * A journal has one of two forms, which its first line names. This check keeps to the first, `fabric=1`. The second, `fabric=2`, has the
- * steps op=drop and op=writeback in the place of op=evict; here both are 11, and a writer of such a journal has to see to them itself.
+ * steps op=drop and op=writeback in the place of op=evict, and op=victim; here all three are 11, and a writer of such a journal has to see
+ * to them itself.
  *
  * The journal is played by the program `steps`, and its format is in the manual page steps(1). examples/host.c of the repository is a
  * whole program.
@@ -31,7 +32,7 @@ extern "C" {
 enum fabric_line {
     FABRIC_LINE_STEP = 0,          /* a step line of a `fabric=1` journal */
     FABRIC_LINE_TOO_LONG = 10,     /* over 200 bytes */
-    FABRIC_LINE_NO_FORM = 11,      /* none of the lines below; nor is an empty one, a journal's first, or an op=drop or op=writeback */
+    FABRIC_LINE_NO_FORM = 11,      /* none of the lines below; nor is an empty one, a journal's first, an op=drop, op=writeback or op=victim */
     FABRIC_LINE_WRONG_NUMBER = 12, /* a number without digits, with another byte, with a leading zero, or above 4294967295 */
     FABRIC_LINE_WRONG_DATA = 13    /* data that are empty, odd in count, or have a byte other than 0-9 a-f */
 };
