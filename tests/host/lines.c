@@ -75,7 +75,7 @@ static size_t put_in(uint8_t *line, size_t len, size_t at, const void *bytes, si
 size_t damaged_line(struct random *r, uint8_t *line, size_t len)
 {
     static const char *const pieces[] = { " ", "  ", "\t", "\r", "\n", "0", "00", "=", "-1", "+1", "a", "F", "g", " line=0", " core=0",
-                                          " by=1", " data=00", "op=load", "4294967296", "99999999999999999999", "1e3", "\303\251" };
+                                          " by=1", " cap=1", " data=00", "op=load", "4294967296", "99999999999999999999", "1e3", "\303\251" };
     static const uint8_t odd_bytes[] = { 0, ' ', '\t', '\n', '\r', '0', '9', ':', '/', '=', 'A', 'F', 'G', 'N', 'H', '`', 'g', 127, 128, 255 };
     size_t at = random_below(r, (uint32_t)len + 1);
     switch (random_below(r, 9)) {
@@ -116,7 +116,8 @@ size_t damaged_line(struct random *r, uint8_t *line, size_t len)
         return len - (end - at);
     }
     case 7: /* the kind changed to one that only a fabric=2 journal has */ {
-        const char *kind = random_below(r, 2) == 0 ? "op=drop" : "op=writeback";
+        static const char *const kinds[] = { "op=drop", "op=writeback", "op=victim" };
+        const char *kind = kinds[random_below(r, sizeof kinds / sizeof *kinds)];
         const uint8_t *blank = memchr(line, ' ', len);
         size_t end = blank != NULL ? (size_t)(blank - line) : len;
         memmove(line, line + end, len - end);

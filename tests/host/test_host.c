@@ -245,18 +245,21 @@ static void texts(void)
     EXPECT(11, "op=fence\0core=0");
     EXPECT(11, "op=fence core=0\0 ");
     EXPECT(11, "\0");
-    /* The steps that a fabric=2 journal has in the place of evict, also with a value that would be 12. */
+    /* The steps that a fabric=2 journal alone has, also with a value that would be 12, and its first line. */
     EXPECT(11, "op=drop core=0 line=0");
     EXPECT(11, "op=writeback core=0 line=0");
     EXPECT(11, "op=drop core=x line=0");
     EXPECT(11, "op=writeback core=0 line=00");
     EXPECT(11, "op=drop core=0");
     EXPECT(11, "op=writeback line=0");
+    EXPECT(11, "op=victim core=0");
+    EXPECT(11, "op=victim core=00");
+    EXPECT(11, "op=victim core=0 line=0");
+    EXPECT(11, "fabric=2 cores=1 lines=1 width=1 lease=10 cap=1");
     EXPECT(11, "fabric=2 cores=1 lines=1 width=1 lease=10");
     expect_long(11, "op=writeback core=0 line=", 200, 'a');
     expect_long(10, "op=writeback core=0 line=", 201, 'a');
     /* Kinds that no journal has, a first line, and the forms' own letters. */
-    EXPECT(11, "op=victim core=0");
     EXPECT(11, "op=show core=0 line=0");
     EXPECT(11, "op=loads core=0 line=0");
     EXPECT(11, "op=loa core=0 line=0");
