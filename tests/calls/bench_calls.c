@@ -9,8 +9,8 @@
 #include <string.h>
 #include <time.h>
 
-/* the state: opening 32 bytes, 16 cores of 40, 1,024 cells of 12, 64 lines of 32 */
-enum { STATE = 32 + 16 * 40 + 1024 * 12 + 64 * 32 };
+/* the state: opening 40 bytes, 16 cores of 40, 1,024 cells of 12, 64 lines of 32 */
+enum { STATE = 40 + 16 * 40 + 1024 * 12 + 64 * 32 };
 
 static uint8_t from[STATE], to[STATE];
 

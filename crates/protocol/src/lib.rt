@@ -385,8 +385,8 @@ impl Given {
 }
 
 // The calls. A store's bytes are given beside the call, as bytes or as digits. Evict gives up whatever copy there is; drop a shared
-// one, writeback an owned one; victim names the line that a core gives up first. A new call is last, here and in each match: the others then take no instruction more. `given` is
-// first, in the room beside the variant's tag: a call then takes 24 bytes, not 32.
+// one, writeback an owned one; victim names the line that a core gives up first. A new call is last, here and in each match: the
+// others then take no instruction more. `given` is first, in the room beside the variant's tag: a call then takes 24 bytes, not 32.
 pub enum Call {
     Load {
         core: usize,

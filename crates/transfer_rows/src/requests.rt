@@ -291,8 +291,8 @@ fn is_full(grant: Grant, copy: Copy, copies: usize, opening: Opening) -> bool
     no_room(copy, copies, opening)
 }
 
-// receive: the grant in the core's slot; 22 where there is no answer, 31 where it brings a copy for which a core that holds so many has
-// no room.
+// receive: the grant in the core's slot; 22 where there is no answer, 31 where it brings a copy for which a
+// core that holds so many has no room.
 pub fn receive(core: Core, copy: Copy, line: ManagerLine, copies: usize, opening: Opening) -> Effect
     ensures { λ r. ⌜ ((c n : ℕ) → r ≡ effectOf (Call.Receive c) (pieces n core copy line copies) opening) ⌝ }
 {
