@@ -1,9 +1,10 @@
 // Makes mixed calls on one engine, for the benchmark (tests/calls/bench), and prints how many of them
 // were refused.
 //
-// Its arguments are the count of calls, and the engine's cores, lines and width. The lease is 10, the capacity the lines, and
-// the buffers are zeros. Whether the calls are made by `engine::step` or by their names is no argument
-// but a constant: the compiler puts `step` in line where a program calls it at one place only.
+// Its arguments are the count of calls, and the engine's cores, lines and width. The lease is 10, the
+// capacity the lines, and the buffers are zeros. Whether the calls are made by `engine::step` or by their
+// names is no argument but a constant: the compiler puts `step` in line where a program calls it at one
+// place only.
 use engine::Returned;
 use libc::STDERR_FILENO;
 use libc::STDOUT_FILENO;

@@ -35,7 +35,7 @@ fn held_of(copy: Copy) -> Held
 
 // The slot becomes asked, or 20 where it is in use.
 fn ask(want: Want, l: usize, core: Core, copy: Copy, line: ManagerLine) -> Effect
-    ensures { λ r. ⌜ ((n k : ℕ) → r ≡ pick (fails (isEmpty (core .slot))) (refusedRow 20 (pieces n core copy line k)) (asking want l (pieces n core copy line k))) ⌝ }
+    ensures { λ r. ⌜ ((n i : ℕ) → r ≡ pick (fails (isEmpty (core .slot))) (refusedRow 20 (pieces n core copy line i)) (asking want l (pieces n core copy line i))) ⌝ }
 {
     let slot = core.slot;
     match slot {
@@ -66,7 +66,7 @@ fn ask(want: Want, l: usize, core: Core, copy: Copy, line: ManagerLine) -> Effec
 
 // load: commits on an owned copy and within a shared one's lease; else asks, or 20.
 pub fn load(c: usize, l: usize, core: Core, copy: Copy, line: ManagerLine) -> Effect
-    ensures { λ r. ⌜ ((n k : ℕ) (o : Opening) → r ≡ effectOf (Call.Load c l) (pieces n core copy line k) o) ⌝ }
+    ensures { λ r. ⌜ ((n i : ℕ) (o : Opening) → r ≡ effectOf (Call.Load c l) (pieces n core copy line i) o) ⌝ }
 {
     let slot = core.slot;
     let before = core.clocks;
@@ -137,7 +137,7 @@ pub fn load(c: usize, l: usize, core: Core, copy: Copy, line: ManagerLine) -> Ef
 // store: commits on an owned copy, past its lease, or 27 where that passes the greatest timestamp; else
 // asks, or 20.
 pub fn store(c: usize, l: usize, core: Core, copy: Copy, line: ManagerLine) -> Effect
-    ensures { λ r. ⌜ ((g : Given) (n k : ℕ) (o : Opening) → r ≡ effectOf (Call.Store g c l) (pieces n core copy line k) o) ⌝ }
+    ensures { λ r. ⌜ ((g : Given) (n i : ℕ) (o : Opening) → r ≡ effectOf (Call.Store g c l) (pieces n core copy line i) o) ⌝ }
 {
     let slot = core.slot;
     let before = core.clocks;
@@ -171,7 +171,7 @@ pub fn store(c: usize, l: usize, core: Core, copy: Copy, line: ManagerLine) -> E
 
 // fence: commits at the later of the core's clocks.
 pub fn fence(c: usize, core: Core, copy: Copy, line: ManagerLine) -> Effect
-    ensures { λ r. ⌜ ((n k : ℕ) (o : Opening) → r ≡ effectOf (Call.Fence c) (pieces n core copy line k) o) ⌝ }
+    ensures { λ r. ⌜ ((n i : ℕ) (o : Opening) → r ≡ effectOf (Call.Fence c) (pieces n core copy line i) o) ⌝ }
 {
     let slot = core.slot;
     let before = core.clocks;
@@ -192,7 +192,7 @@ pub fn fence(c: usize, core: Core, copy: Copy, line: ManagerLine) -> Effect
 
 // advance: lts grows, or 27 where it passes the greatest timestamp.
 pub fn advance(by: u32, core: Core, copy: Copy, line: ManagerLine) -> Effect
-    ensures { λ r. ⌜ ((c n k : ℕ) (o : Opening) → r ≡ effectOf (Call.Advance c by) (pieces n core copy line k) o) ⌝ }
+    ensures { λ r. ⌜ ((c n i : ℕ) (o : Opening) → r ≡ effectOf (Call.Advance c by) (pieces n core copy line i) o) ⌝ }
 {
     let slot = core.slot;
     let before = core.clocks;

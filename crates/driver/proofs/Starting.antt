@@ -21,7 +21,7 @@ open-outside : (o : Sizes) → openingFits o ≡ false → openRefusal o ≡ 7
 unfolding openRefusal first
 open-outside o e = rw e
 
--- sizes or lease outside the limits
+-- sizes, lease or capacity outside the limits
 pub outside-limits : {j : Bytes} {form next : ℕ} {o : Sizes} → NextOf j 0 0 (Opening form o next) → openingFits o ≡ false → NotOpened j 7
 outside-limits {j} {o = o} x e =
     let n = open-outside o e in subst (NotOpened j) n (outside x (λ z. omega (arith, n, z)))
@@ -61,6 +61,6 @@ begun-fits (fails n t u) e = absurd (let z : _≡_ {A = ℕ} 0 1 = cc in omega a
 begun-fits (noRoom x h t u r) e = absurd (let z : _≡_ {A = ℕ} 0 1 = cc in omega arith)
 begun-fits (noRoomToEnd n t u r) e = absurd (let z : _≡_ {A = ℕ} 0 1 = cc in omega arith)
 
--- the sizes and the lease of the engine that is opened lie inside the limits
+-- the sizes, the lease and the capacity of the engine that is opened lie inside the limits
 pub start-fits : {j old new : Bytes} {r : Played} → Starts j old new r → r .progress ≡ More → openingFits (r .checkpoint .state .opening) ≡ true
 start-fits s e = begun-fits (s .begins) e

@@ -46,7 +46,7 @@ abbrev pub lastLines : Counts → Ending → Bytes
 lastLines k ended = endText k
 lastLines k (stopped n) = stopLines (sum k (oneOf 1 ARefusal)) n
 
--- no engine is opened: the first line's sizes or lease lie outside the limits (7); or the first line is refused (10 to 12), the input is
+-- no engine is opened: the first line's sizes, lease or capacity lie outside the limits (7); or the first line is refused (10 to 12), the input is
 -- empty (11) or over 65,536 bytes (14)
 pub data NotOpened (journal : Bytes) : ℕ → Type 0 where
   outside : {form : ℕ} {o : Sizes} {next : ℕ} → NextOf journal 0 0 (Opening form o next) → (openRefusal o ≡ 0 → ⊥) → NotOpened journal (openRefusal o)

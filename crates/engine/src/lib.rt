@@ -229,7 +229,7 @@ pub fn writeback(
     step(s, private, shared, Call::Writeback { core, line }, b"")
 }
 
-// The line that a core gives up first: the held one with the smallest rts, of those the smallest number.
+// The line that a core would give up: the held one with the smallest rts, of those the smallest number.
 // Nothing changes.
 pub fn victim(s: State, private: &mut [u8], shared: &mut [u8], core: usize) -> Returned
     ensures { λ r. ⌜ Makes (Call.Victim core) [] s («private» .entry) (shared .entry) r («private» .exit) (shared .exit) ⌝ }

@@ -39,10 +39,6 @@ access n commit core line ts digits =
     text "n=" ++ decimal n ++ commit ++ decimal core ++ text " line=" ++ decimal line ++ text " ts=" ++ decimal ts ++ text " data=" ++ digits
     ++ text "\n"
 
--- how a record ends that names a victim
-abbrev pub victimEnd : ℕ → List ℕ
-victimEnd l = text " done=victim line=" ++ decimal l ++ text "\n"
-
 -- how a record ends that names what was done
 abbrev pub doneEnd : Name → List ℕ
 doneEnd d = text " done=" ++ nameText d ++ text "\n"

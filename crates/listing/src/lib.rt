@@ -10,7 +10,7 @@ ghost use mathlib.Core.Path.{_≡_};
 ghost use Rattle.protocol.specs.Step.{valued, meaning};
 ghost use Rattle.spelling.specs.{Text.text, Over.PutAt};
 ghost use Rattle.listing.specs.Record.{doneText, refusedText, textAs, commitText, recordAs, endText, tallyText};
-ghost use Rattle.listing.specs.Back.{Room, Field, Tail, three, digitCount, access, victimEnd, doneEnd};
+ghost use Rattle.listing.specs.Back.{Room, Field, Tail, three, digitCount, access, doneEnd};
 use protocol::Answer;
 use protocol::Counts;
 use protocol::Given;
@@ -86,7 +86,7 @@ pub fn put_with_data(out: &mut [u8], at: usize, head: &[u8], read: Given, given:
 
 // How a record ends that names a victim, at the end of a line; the answer is where it starts.
 fn victim_tail(line: &mut [u8; 128], number: u64) -> usize
-    ensures { λ r. ⌜ Tail (now (line .entry)) (victimEnd number) (now (line .exit)) r ⌝ }
+    ensures { λ r. ⌜ Tail (now (line .entry)) (doneEnd (Name.Victim number)) (now (line .exit)) r ⌝ }
 {
     let end = tail(line, b"\n");
     field(line, end, b" done=victim line=", number)

@@ -4,16 +4,16 @@ use Prim.Native.Nat.{ℕ, _+_, _*_, _≤_, _<_}
 use mathlib.Core.{Path.{_≡_, refl, sym, _∙_, ap}, Bool.{Bool, true, false}, Logic.{_⊎_, inl, inr, ⊎-elim, by-cases}, List.{List, []}}
 use native.Mathlib.{Omega.arith, Decide.ℕ-discrete}
 use lib.{Dec.{leb, eqb}, ListN.take, Seq.set-getD}
-use borrow.Author.Tests.{leb-false}
+use borrow.Author.Tests.{leb-false, eqb-false}
 use Rattle.protocol.specs.{Pick.{pick, both, fails}, Fresh.{freshCore, freshCell, freshLine}, Buffers.{Bytes, There, movedPrivate, movedShared}}
 use Rattle.protocol.specs.{Copies.{isHeld, heldBelow}, Given.bytesGiven}
 use Rattle.protocol.specs.Machine.{Machine, Pieces, copyAt, copiesOf, victimOf, coreOf, lineOf, freshMachine, written, applied}
 use Rattle.protocol.specs.Refusals.{bringsCopy, noRoom, stateRules, stateRefusal, refusal}
 use Rattle.protocol.specs.Tables.{yielded, loadOwned, storeTable, fenceTable, advanceTable, evictTable, serveAsked, serveLoad, receiveGrant, receiveRenew}
 use Rattle.protocol.specs.Tables.{yieldTable, takeTable, victimTable, tableOf}
-use Rattle.protocol.specs.{Step.{refused, done, meaning, accepted, step}, Run.Entry, Capacity.{CapacityTheorem, VictimCallTheorem}}
+use Rattle.protocol.specs.{Step.{refused, done, meaning, Outcome, accepted, step}, Run.Entry, Capacity.{CapacityTheorem, VictimCallTheorem}}
 use Rattle.protocol.specs.declared.{Opening.Opening, State.State, Call.{Call, the-variants.{Receive, Victim}}, Name.the-variants.Victim as Chosen, Effect.Effect}
-use Rattle.protocol.proofs.{Tests.both-false, Copies.{one, one-most, count-same, count-one, count-none}, Refusals.{passed, NotRefused}}
+use Rattle.protocol.proofs.{Tests.both-false, Copies.{one, one-most, count-same, count-one, count-none, victim-theorem}, Refusals.{passed, NotRefused, not-refused}}
 use Rattle.protocol.proofs.{Written.{Arrays, copy-at, copy-off, arrays-written, arrays-fresh, copy-fresh}, Reached.reached}
 use Rattle.protocol.proofs.Cases.{Row, asks-load, reads-shared, reads-dirty, reads-clean, asks-store, writes, fences, advances, evicts-shared}
 use Rattle.protocol.proofs.Cases.{evicts-owned, recalls, renews, shares, grants, gets-share, gets-own, gets-renewal, drops-none, drops-owned, yields}
@@ -32,7 +32,7 @@ has-room : (c : ℕ) (p : Pieces) (o : Opening) → stateRefusal (Receive c) p o
 unfolding stateRefusal stateRules
 has-room c p o e b =
     let a = passed _ 22 _ (omega arith) e in
-    roomy (isHeld (p .copy)) (o .cap) (p .copies) (both-false (bringsCopy (p .core .slot)) (noRoom p o) (passed _ 31 [] (omega arith) (a .1) .0) b)
+    roomy (isHeld (p .copy)) (o .cap) (p .copies) (both-false (bringsCopy (p .core .slot)) (noRoom (p .copy) (p .copies) o) (passed _ 31 [] (omega arith) (a .1) .0) b)
 
 -- A ROW'S COPY is one more only where there is room
 brought : {c l : ℕ} {p : Pieces} {o : Opening} {call : Call} {d : Effect} → stateRefusal call p o ≡ 0 → Row c l p o call d
@@ -118,11 +118,26 @@ capacity-theorem o gs p c h =
 
 -- ---- victim
 
-pub victim-call-theorem : VictimCallTheorem
+-- the answer and the machine
+victim-step : (m : Machine) (c : ℕ) (given : Bytes)
+    → step m (Victim c) given
+    ≡ record { reply = pick (eqb (refusal m (Victim c) given) 0) (done (Chosen (victimOf (m .state) c))) (refused (refusal m (Victim c) given)); machine = m }
 unfolding step tableOf victimTable accepted applied meaning movedPrivate movedShared
-victim-call-theorem m c given = go (eqb (refusal m (Victim c) given) 0)
+victim-step m c given = go (eqb (refusal m (Victim c) given) 0)
   where
     go : (b : Bool) → pick b (accepted m (Victim c) given c (lineOf (Victim c) (m .state)) (victimTable (piecesOf (Victim c) (m .state)))) (record { reply = refused (refusal m (Victim c) given); machine = m })
         ≡ record { reply = pick b (done (Chosen (victimOf (m .state) c))) (refused (refusal m (Victim c) given)); machine = m }
     go true = rw (set-getD (m .state .core) c freshCore, set-getD (m .state .cell) (c * 64 + victimOf (m .state) c) freshCell, set-getD (m .state .line) (victimOf (m .state) c) freshLine)
     go false = refl
+
+-- a core that 26 does not refuse holds a copy
+some-copies : (m : Machine) (c : ℕ) (given : Bytes) → refusal m (Victim c) given ≡ 0 → copiesOf (m .state) c ≡ 0 → ⊥
+unfolding stateRefusal stateRules
+some-copies m c given e = eqb-false (copiesOf (m .state) c) 0 (passed _ 26 [] (omega arith) (not-refused m (Victim c) given e .stateOk) .0)
+
+pub victim-call-theorem : VictimCallTheorem
+victim-call-theorem m c given = record {
+  stays = ap (λ (x : Outcome). x .machine) (victim-step m c given);
+  reply = ap (λ (x : Outcome). x .reply) (victim-step m c given);
+  victim = λ e. victim-theorem (copyAt (m .state) c) (m .state .opening .lines) .found (some-copies m c given e);
+}

@@ -154,7 +154,7 @@ module _ (f : Copies) where
   pub victim-inside : (n : ℕ) → 1 ≤ n → victimBelow f n < n
   unfolding victimBelow
   victim-inside zero h = absurd (omega arith)
-  victim-inside (suc n) h = go (replaces f n (victimBelow f n)) (ℕ-discrete n 0) (λ i. victim-inside n i)
+  victim-inside (suc n) h = go (replaces (f n) n (f (victimBelow f n)) (victimBelow f n)) (ℕ-discrete n 0) (λ i. victim-inside n i)
     where
       go : (b : Bool) → Dec (n ≡ 0) → (1 ≤ n → victimBelow f n < n) → pick b n (victimBelow f n) < suc n
       go true d more = omega arith
@@ -167,7 +167,7 @@ module _ (f : Copies) where
     v = victimBelow f n
 
     -- it is held and takes the place of the one found so far
-    takes-over : replaces f n v ≡ true → ((k : ℕ) → k < n → isHeld (f k) ≡ true → IsVictim f n v) → IsVictim f (suc n) n
+    takes-over : replaces (f n) n (f v) v ≡ true → ((k : ℕ) → k < n → isHeld (f k) ≡ true → IsVictim f n v) → IsVictim f (suc n) n
     takes-over e before = record {
       inside = omega arith;
       held = p .0;
@@ -180,7 +180,7 @@ module _ (f : Copies) where
         p = both-true (isHeld (f n)) (pick (isHeld (f v)) (below (rank f n) (rank f v)) true) e
 
     -- it is not held, or ranks after the one found so far
-    stays : replaces f n v ≡ false → IsVictim f n v → IsVictim f (suc n) v
+    stays : replaces (f n) n (f v) v ≡ false → IsVictim f n v → IsVictim f (suc n) v
     stays e w = record {
       inside = omega (arith, w .inside);
       held = w .held;
@@ -195,10 +195,10 @@ module _ (f : Copies) where
   pub victim-found : (n k : ℕ) → k < n → isHeld (f k) ≡ true → IsVictim f n (victimBelow f n)
   unfolding victimBelow
   victim-found zero k h i = absurd (omega arith)
-  victim-found (suc n) k h i = go (replaces f n (victimBelow f n)) refl (λ k h i. victim-found n k h i)
+  victim-found (suc n) k h i = go (replaces (f n) n (f (victimBelow f n)) (victimBelow f n)) refl (λ k h i. victim-found n k h i)
     where
       -- the line found so far, which the last one does not replace, is held
-      last : replaces f n (victimBelow f n) ≡ false → isHeld (f n) ≡ true → isHeld (f (victimBelow f n)) ≡ true
+      last : replaces (f n) n (f (victimBelow f n)) (victimBelow f n) ≡ false → isHeld (f n) ≡ true → isHeld (f (victimBelow f n)) ≡ true
       last e j = by (isHeld (f (victimBelow f n))) (both-false (isHeld (f n)) _ e j)
         where
           by : (b : Bool) → pick b (below (rank f n) (rank f (victimBelow f n))) true ≡ false → b ≡ true
@@ -208,7 +208,7 @@ module _ (f : Copies) where
       only-line : n ≡ 0 → isHeld (f n) ≡ true → IsVictim f (suc n) (victimBelow f n)
       only-line e j = rw e (record { inside = omega arith; held = rw e at j; least = λ k h i ne. absurd (ne (omega (arith, h))) })
 
-      go : (b : Bool) → replaces f n (victimBelow f n) ≡ b → ((k : ℕ) → k < n → isHeld (f k) ≡ true → IsVictim f n (victimBelow f n))
+      go : (b : Bool) → replaces (f n) n (f (victimBelow f n)) (victimBelow f n) ≡ b → ((k : ℕ) → k < n → isHeld (f k) ≡ true → IsVictim f n (victimBelow f n))
           → IsVictim f (suc n) (pick b n (victimBelow f n))
       go true e more = takes-over n e more
       go false e more = by-cases (ℕ-discrete k n)

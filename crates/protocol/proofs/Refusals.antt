@@ -11,7 +11,7 @@ use Rattle.protocol.specs.Refusals.{openRefusal, ownerFits, slotFits, ow
 use Rattle.protocol.specs.Refusals.{givenRefusal, wrongCount, byNothing, callRules, callRefusal, stateRefusal, orElse, refusal}
 use Rattle.protocol.specs.declared.{Slot.{Slot, the-variants.{Empty, Asked, Answered}}, Core.Core, Manager.{Manager, the-variants.{Shared, Owned}}}
 use Rattle.protocol.specs.declared.{ManagerLine.ManagerLine, Opening.Opening, Call.Call, Who.{Who, the-variants.{Named as NamedCore, Owner, Nobody}}}
-use Rattle.protocol.specs.declared.{Which.{Which, the-variants.{Named as NamedLine, Asked as OfAsked, Granted as OfGranted, Nothing, Victim as OfVictim}}, About.About, Effect.Effect}
+use Rattle.protocol.specs.declared.{Which.{Which, the-variants.{Named as NamedLine, Asked as OfAsked, Answered as OfAnswered, Nothing, Victim as OfVictim}}, About.About, Effect.Effect}
 use Rattle.protocol.specs.declared.{Act.the-variants.Store as Stores, Given.Given}
 use Rattle.protocol.proofs.{Tests.{never, both-true}, Scan.every-at, Extents.{Inside, inside, there-at}, Copies.victim-inside}
 
@@ -104,7 +104,7 @@ core-inside o Nobody v h e i = h
 pub named-inside : (o : Opening) (w : Which) → 1 ≤ o .lines → noLine w o ≡ false → namedLine w < o .lines
 named-inside o (NamedLine l) h e = leb-false (o .lines) l e
 named-inside o OfAsked h e = h
-named-inside o OfGranted h e = h
+named-inside o OfAnswered h e = h
 named-inside o Nothing h e = h
 named-inside o OfVictim h e = h
 
@@ -116,7 +116,7 @@ slot-line n (Answered g l w r) h i = ltb-true l n i
 line-inside : (o : Opening) (w : Which) (v : Slot) (t : ℕ) → 1 ≤ o .lines → noLine w o ≡ false → slotFits (o .lines) v ≡ true → t < o .lines → theLine w v t < o .lines
 line-inside o (NamedLine l) v t h e i j = leb-false (o .lines) l e
 line-inside o OfAsked v t h e i j = slot-line (o .lines) v h i
-line-inside o OfGranted v t h e i j = slot-line (o .lines) v h i
+line-inside o OfAnswered v t h e i j = slot-line (o .lines) v h i
 line-inside o Nothing v t h e i j = h
 line-inside o OfVictim v t h e i j = j
 

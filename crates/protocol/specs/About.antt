@@ -4,7 +4,7 @@ use Prim.Native.Nat.{ℕ}
 use Rattle.protocol.specs.declared.Call.{Call, the-variants.{Load, Store, Fence, Evict, Drop, Writeback as WriteBack, Advance}}
 use Rattle.protocol.specs.declared.Call.the-variants.{Serve, Receive, Yield, Take, Victim}
 use Rattle.protocol.specs.declared.Who.{Who, the-variants.{Named as NamedCore, Owner, Nobody}}
-use Rattle.protocol.specs.declared.Which.{Which, the-variants.{Named as NamedLine, Asked, Granted, Nothing, Victim as OfVictim}}
+use Rattle.protocol.specs.declared.Which.{Which, the-variants.{Named as NamedLine, Asked, Answered, Nothing, Victim as OfVictim}}
 use Rattle.protocol.specs.declared.Act.{Act, the-variants.{Load as Loads, Store as Stores, Fence as Fences, Advance as Advances, Transfer}}
 use Rattle.protocol.specs.declared.About.{About}
 
@@ -23,7 +23,7 @@ about (Drop c l) = concerns (NamedCore c) (NamedLine l) Transfer
 about (WriteBack c l) = concerns (NamedCore c) (NamedLine l) Transfer
 about (Advance c by) = concerns (NamedCore c) Nothing (Advances by)
 about (Serve c) = concerns (NamedCore c) Asked Transfer
-about (Receive c) = concerns (NamedCore c) Granted Transfer
+about (Receive c) = concerns (NamedCore c) Answered Transfer
 about (Yield l) = concerns Owner (NamedLine l) Transfer
 about (Take l) = concerns Nobody (NamedLine l) Transfer
 about (Victim c) = concerns (NamedCore c) OfVictim Transfer
@@ -37,6 +37,6 @@ namedCore Nobody = 0
 abbrev pub namedLine : Which → ℕ
 namedLine (NamedLine l) = l
 namedLine Asked = 0
-namedLine Granted = 0
+namedLine Answered = 0
 namedLine Nothing = 0
 namedLine OfVictim = 0

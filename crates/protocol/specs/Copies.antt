@@ -1,4 +1,4 @@
--- The copies of one core, that of each line: which are held, how many, and which the core gives up first (02, Four).
+-- The copies of one core, that of each line: which are held, how many, and which is the victim (02, Four).
 use Prim.Native.Nat.{ℕ, zero, suc, _+_, _<_}
 use mathlib.Core.{Path._≡_, Bool.{Bool, true, false}, List.{List, [], _∷_}}
 use lib.Dec.{ltb, eqb}
@@ -33,13 +33,13 @@ heldBelow f (suc n) = heldBelow f n + pick (isHeld (f n)) 1 0
 
 -- ---- the victim
 
--- the end of a copy's lease
+-- the end of a copy's lease; of no copy 0, which no rank that is compared has
 abbrev pub rtsOf : Copy → Stamp
 rtsOf NoCopy = stamp 0
 rtsOf (CopyShared w r) = r
 rtsOf (CopyOwned d w r) = r
 
--- THE RANK of the copy x of line l: what decides is first. "the held line with the smallest rts, ties to the smallest line number"
+-- THE RANK of the copy x of line l: what decides first stands first. "the held line with the smallest rts, ties to the smallest line number"
 abbrev pub rankOf : Copy → ℕ → List ℕ
 rankOf x l = rtsOf x .0 ∷ l ∷ []
 
@@ -58,14 +58,14 @@ pub record IsVictim (f : Copies) (n l : ℕ) : Type 0 where
   pub held : isHeld (f l) ≡ true
   pub least : (k : ℕ) → k < n → isHeld (f k) ≡ true → (k ≡ l → ⊥) → below (rank f l) (rank f k) ≡ true
 
--- line k takes the place of line l: it is held, and l is not, or ranks after it
-abbrev pub replaces : Copies → ℕ → ℕ → Bool
-replaces f k l = both (isHeld (f k)) (pick (isHeld (f l)) (below (rank f k) (rank f l)) true)
+-- the copy x of line k takes the place of the copy y of line l: x is held, and y is not, or ranks after it
+abbrev pub replaces : Copy → ℕ → Copy → ℕ → Bool
+replaces x k y l = both (isHeld x) (pick (isHeld y) (below (rankOf x k) (rankOf y l)) true)
 
 -- the victim, found by going through the lines; 0 where none is held
 unfoldable pub victimBelow : Copies → ℕ → ℕ
 victimBelow f zero = 0
-victimBelow f (suc n) = pick (replaces f n (victimBelow f n)) n (victimBelow f n)
+victimBelow f (suc n) = pick (replaces (f n) n (f (victimBelow f n)) (victimBelow f n)) n (victimBelow f n)
 
 -- a core with a copy has exactly one victim, and going through the lines finds it; a core without has none
 pub record Victims (f : Copies) (n : ℕ) : Type 0 where

@@ -29,6 +29,6 @@ freshState o =
       line = replicate mostLines freshLine;
     }
 
--- "the fresh state of 1 core, 1 line, width 1, lease 1": its opening. Its capacity, which is 1 to lines, is 1
+-- "the fresh state of 1 core, 1 line, width 1, lease 1": its opening. 02, Four: its capacity, 1 to lines, is 1
 abbrev pub smallest : Opening
 smallest = record { cores = 1; lines = 1; width = 1; lease = 1; cap = 1 }

@@ -1,4 +1,5 @@
--- The machine: the state and the two lent buffers; the pieces of it that a call looks at, and where they are written back.
+-- The machine: the state and the two lent buffers; how many copies a core holds, and its victim; the pieces of it that a call looks at, and where
+-- they are written back.
 use Prim.Native.Nat.{ℕ, _+_, _*_}
 use lib.ListN.{getD, set, replicate}
 use Rattle.protocol.specs.{Buffers.{Bytes, privateLength, sharedLength, movedPrivate, movedShared}, Limits.mostLines, About.{about, namedLine}, Copies.{heldBelow, victimBelow}}
@@ -6,7 +7,7 @@ use Rattle.protocol.specs.{Fresh.{freshCore, freshCell, freshLine, fresh
 use Rattle.protocol.specs.declared.{Slot.{Slot, the-variants.{Empty, Asked, Answered}}, Core.Core}
 use Rattle.protocol.specs.declared.{Manager.{Manager, the-variants.{Shared, Owned}}, ManagerLine.ManagerLine, Opening.Opening, State.State}
 use Rattle.protocol.specs.declared.{Call.Call, Who.{Who, the-variants.{Named as NamedCore, Owner, Nobody}}}
-use Rattle.protocol.specs.declared.{Which.{Which, the-variants.{Named as NamedLine, Asked as OfAsked, Granted as OfGranted, Nothing, Victim as OfVictim}}, Effect.Effect}
+use Rattle.protocol.specs.declared.{Which.{Which, the-variants.{Named as NamedLine, Asked as OfAsked, Answered as OfAnswered, Nothing, Victim as OfVictim}}, Effect.Effect}
 
 -- a state and the two buffers
 pub record Machine : Type 0 where
@@ -35,7 +36,7 @@ copyAt s c l = getD (s .cell) (cellOf c l) freshCell .copy
 abbrev pub lineAt : State → ℕ → ManagerLine
 lineAt s l = getD (s .line) l freshLine
 
--- how many copies core c holds, of the lines that are there, and the line that it gives up first
+-- 02, Four: how many copies core c holds, of the lines that are there; and its victim, "the held line with the smallest rts"
 abbrev pub copiesOf : State → ℕ → ℕ
 copiesOf s c = heldBelow (copyAt s c) (s .opening .lines)
 
@@ -81,7 +82,7 @@ coreOf call s = theCore (about call .core) (lineAt s (namedLine (about call .lin
 abbrev pub theLine : Which → Slot → ℕ → ℕ
 theLine (NamedLine l) k v = l
 theLine OfAsked k v = slotLine k
-theLine OfGranted k v = slotLine k
+theLine OfAnswered k v = slotLine k
 theLine Nothing k v = 0
 theLine OfVictim k v = v
 

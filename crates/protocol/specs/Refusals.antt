@@ -17,7 +17,7 @@ use Rattle.protocol.specs.declared.{Opening.Opening, State.State}
 use Rattle.protocol.specs.declared.Call.{Call, the-variants.{Load, Store, Fence, Evict, Drop, Writeback as WriteBack, Advance}}
 use Rattle.protocol.specs.declared.Call.the-variants.{Serve, Receive, Yield, Take, Victim}
 use Rattle.protocol.specs.declared.Who.{Who, the-variants.{Named as NamedCore, Owner, Nobody}}
-use Rattle.protocol.specs.declared.Which.{Which, the-variants.{Named as NamedLine, Asked as OfAsked, Granted as OfGranted, Nothing, Victim as OfVictim}}
+use Rattle.protocol.specs.declared.Which.{Which, the-variants.{Named as NamedLine, Asked as OfAsked, Answered as OfAnswered, Nothing, Victim as OfVictim}}
 use Rattle.protocol.specs.declared.Act.{Act, the-variants.{Load as Loads, Store as Stores, Fence as Fences, Advance as Advances, Transfer}}
 use Rattle.protocol.specs.declared.{About.About, Given.{Given, the-variants.{Bytes as AsBytes, Digits as AsDigits}}}
 
@@ -84,7 +84,7 @@ noCore Nobody o = false
 abbrev pub noLine : Which → Opening → Bool
 noLine (NamedLine l) o = leb (o .lines) l
 noLine OfAsked o = false
-noLine OfGranted o = false
+noLine OfAnswered o = false
 noLine Nothing o = false
 noLine OfVictim o = false
 
@@ -180,9 +180,10 @@ bringsCopy Empty = false
 bringsCopy (Asked a l t h) = false
 bringsCopy (Answered g l w r) = isCopy g
 
--- the core has no room for a copy of the line: it does not hold one, and it holds cap or more
-abbrev pub noRoom : Pieces → Opening → Bool
-noRoom p o = both (fails (isHeld (p .copy))) (leb (o .cap) (p .copies))
+-- there is no room for a copy of a line, where the core holds this copy of it, and so many copies: "for a line not held, while cap or more copies
+-- are held"
+abbrev pub noRoom : Copy → ℕ → Opening → Bool
+noRoom x n o = both (fails (isHeld x)) (leb (o .cap) n)
 
 -- 20 to 27, 30 and 31, for each call those that speak of it.
 -- 20: load or store must ask, slot not empty. 21: serve, slot not asked. 22: receive, slot not answered. 23: yield, line not owned or no
@@ -202,7 +203,7 @@ stateRules (Advance c by) p o = (fails (canAdd (p .core .clocks .lts) by) gives 
 stateRules (Serve c) p o =
     (fails (isAsked (p .core .slot)) gives 21) ∷ (servePasses (p .core .slot) (p .line .manager) o gives 27) ∷ []
 stateRules (Receive c) p o =
-    (fails (isAnswered (p .core .slot)) gives 22) ∷ (both (bringsCopy (p .core .slot)) (noRoom p o) gives 31) ∷ []
+    (fails (isAnswered (p .core .slot)) gives 22) ∷ (both (bringsCopy (p .core .slot)) (noRoom (p .copy) (p .copies) o) gives 31) ∷ []
 stateRules (Yield l) p o =
     (fails (both (hasOwner (p .line .manager)) (stands (p .line .recall))) gives 23) ∷ (fails (isOwned (p .copy)) gives 24) ∷ []
 stateRules (Take l) p o = (fails (inFlight (p .line .writeback)) gives 25) ∷ []

@@ -385,7 +385,7 @@ impl Given {
 }
 
 // The calls. A store's bytes are given beside the call, as bytes or as digits. Evict gives up whatever copy there is; drop a shared
-// one, writeback an owned one; victim names the line that a core gives up first. A new call is last, here and in each match: the
+// one, writeback an owned one; victim names the line that a core would give up. A new call is last, here and in each match: the
 // others then take no instruction more. `given` is first, in the room beside the variant's tag: a call then takes 24 bytes, not 32.
 pub enum Call {
     Load {
@@ -440,18 +440,18 @@ pub enum Who {
     Nobody,
 }
 
-// The line that a call is about: the one that it names, the one that its core asks for or was granted, by the core's slot, none, or
-// the one that its core gives up first.
+// The line that a call is about: the one that it names, the one in its core's slot, which is asked or answered, none, or its core's
+// victim.
 pub enum Which {
     Named(usize),
     Asked,
-    Granted,
+    Answered,
     Nothing,
     Victim,
 }
 
 // What a call does to its core's clocks, and so what it may commit, and how a store's bytes are given; a transfer moves a request or
-// a line between a core and the manager, or nothing, and commits nothing.
+// a line between a core and the manager, and commits nothing; so does victim, which moves nothing.
 pub enum Act {
     Load,
     Store(Given),
@@ -502,7 +502,7 @@ impl Call {
                 concerns(Who::Named(core), Which::Nothing, Act::Advance(by))
             }
             Call::Serve { core } => concerns(Who::Named(core), Which::Asked, Act::Transfer),
-            Call::Receive { core } => concerns(Who::Named(core), Which::Granted, Act::Transfer),
+            Call::Receive { core } => concerns(Who::Named(core), Which::Answered, Act::Transfer),
             Call::Yield { line } => concerns(Who::Owner, Which::Named(line), Act::Transfer),
             Call::Take { line } => concerns(Who::Nobody, Which::Named(line), Act::Transfer),
             Call::Drop { core, line } => {

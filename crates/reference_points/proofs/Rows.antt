@@ -47,4 +47,4 @@ show-theorem = agree isShown isTold looks refl
 pub capacity-rows-theorem : CapacityRowsTheorem
 unfolding calling
 capacity-rows-theorem =
-    record { full = agree capGot capTold fullRows refl; victims = agree capGot capTold victimRows refl; fresh = refl; outside = refl; turn = refl; other = refl }
+    record { full = agree capGot capTold fullRows refl; victims = agree capGot capTold victimRows refl; fresh = refl; outside = refl; ofThree = refl; ofNone = refl }

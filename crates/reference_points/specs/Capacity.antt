@@ -12,7 +12,7 @@ use Rattle.protocol.specs.declared.{Slot.the-variants.Empty, Recall.the-variant
 use Rattle.protocol.specs.declared.Name.the-variants.{Share as share, Renew as renew, Own as own, Drop as dropped, Victim as victim}
 use Rattle.reference_points.specs.Rows.{core, answered, sharedCopy, cleanCopy, dirtyCopy, sharedLine, ownedLine, pieces, Places, places, unmoved, copyBytes}
 use Rattle.reference_points.specs.Rows.{managerBytes, writebackBytes, answerBytes, given, machineOf, cell, Agree}
-use Rattle.reference_points.specs.{Numbers.{idle, waiting}, Commits.small}
+use Rattle.reference_points.specs.{Numbers.{idle, waiting, granted}, Commits.small}
 
 -- a state with another capacity
 abbrev pub withCap : ℕ → State → State
@@ -71,9 +71,13 @@ fullRows =
     (pieces (core 7 9 Empty) (sharedCopy 4 9) (sharedLine 4 9)) unmoved
     ∷ row 1 (pieces (core 7 9 (answered GrantRenew 4 9)) NoCopy (sharedLine 4 9)) (Receive 1) (done dropped)
     (pieces (core 7 9 Empty) NoCopy (sharedLine 4 9)) unmoved
-    -- "after 22"
+    -- "after 22": they never meet, since only an answered slot brings a copy
     ∷ still 1 idle (Receive 1) (refused 22)
     ∷ still 1 waiting (Receive 1) (refused 22)
+    -- 3 and 31: core 3 is answered for line 4, which it does not hold, and holds line 2; 1 and 31: a capacity of 0, or above lines
+    ∷ still 1 idle (Receive 3) (refused 3)
+    ∷ still 0 granted (Receive 1) (refused 1)
+    ∷ still 5 granted (Receive 1) (refused 1)
     ∷ []
 
 -- ---- victim
@@ -94,8 +98,10 @@ victimRows =
     -- of the other cores: core 0 holds line 0 up to 8, line 1 up to 2 and line 2 up to 3; core 2 holds line 1 up to 9 and line 2 up to 3
     ∷ still 4 idle (Victim 0) (done (victim 1))
     ∷ still 4 idle (Victim 2) (done (victim 2))
-    -- 3
+    -- 3; 1
     ∷ still 4 idle (Victim 3) (refused 3)
+    ∷ still 0 idle (Victim 1) (refused 1)
+    ∷ still 5 idle (Victim 1) (refused 1)
     ∷ []
 
 -- "a core without copies gets 26": a fresh engine; one whose core 0 has a copy of line 3 alone, which lies outside its sizes
@@ -107,9 +113,9 @@ outsideOnly =
 abbrev pub stays : Machine → Reply → Outcome
 stays m a = record { reply = a; machine = m }
 
--- the copies of a core in turn: line 0 up to 5, line 1, owned, up to 5, line 2 up to 4
-abbrev pub inTurn : Machine
-inTurn =
+-- a machine of which core 1 holds line 0 up to 5, line 1, owned, up to 5, and line 2 up to 4
+abbrev pub threeHeld : Machine
+threeHeld =
     machine (record { opening = small; core = freshState small .core; cell = set (set (set (freshState small .cell) 64 (cell (sharedCopy 1 5))) 65 (cell (dirtyCopy 5 5))) 66 (cell (sharedCopy 1 4)); line = freshState small .line })
     (freshMachine small .private) (freshMachine small .shared)
 
@@ -118,5 +124,5 @@ pub record CapacityRowsTheorem : Type 0 where
   pub victims : Agree got told victimRows
   pub fresh : step (freshMachine small) (Victim 1) [] ≡ stays (freshMachine small) (refused 26)
   pub outside : step outsideOnly (Victim 0) [] ≡ stays outsideOnly (refused 26)
-  pub turn : step inTurn (Victim 1) [] ≡ stays inTurn (done (victim 2))
-  pub other : step inTurn (Victim 0) [] ≡ stays inTurn (refused 26)
+  pub ofThree : step threeHeld (Victim 1) [] ≡ stays threeHeld (done (victim 2))
+  pub ofNone : step threeHeld (Victim 0) [] ≡ stays threeHeld (refused 26)

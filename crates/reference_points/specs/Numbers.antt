@@ -1,4 +1,5 @@
--- The refusals 1 to 7 and 20 to 27 of 01, and 30 of 02 (31 has rows of its own, in Capacity): each alone, and each two that can apply to one call at once, where the smaller comes first.
+-- The refusals 1 to 7 and 20 to 27 of 01, and 30 of 02: each alone, and each two that can apply to one call at once, where the smaller comes first.
+-- 31, and the 26 of victim, are in Capacity.
 --
 -- Two numbers of which one speaks of another call (21 and 22, say) never meet. Nor do 6 and 27 (lts + 0 passes nothing), 20 and 27 (a store asks
 -- only where its copy is not owned), 21 and 27 (only an asked slot has an asked lts). 7 is an opening's alone.

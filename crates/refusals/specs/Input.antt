@@ -18,6 +18,6 @@ inputRefusal m call given =
     orElse (givenRefusal (givenAs (about call .act)) given)
     (orElse (machineRefusal m) (callRefusal call (m .state .opening) (length (bytesGiven call given))))
 
--- sizes and lease lie inside the limits, and buffers of np and nq bytes have their exact lengths
+-- sizes, lease and capacity lie inside the limits, and buffers of np and nq bytes have their exact lengths
 abbrev pub lengthsFit : Opening → ℕ → ℕ → Bool
 lengthsFit o np nq = both (openingFits o) (buffersFit o np nq)

@@ -152,7 +152,7 @@ fn no_line(line: Which, opening: Opening) -> bool
     match line {
         Which::Named(l) => opening.lines <= l,
         Which::Asked => false,
-        Which::Granted => false,
+        Which::Answered => false,
         Which::Nothing => false,
         Which::Victim => false,
     }

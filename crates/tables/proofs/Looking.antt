@@ -16,9 +16,9 @@ use Rattle.protocol.specs.declared.{Core.Core, Manager.{Manager, the-variants.{
 use Rattle.protocol.specs.declared.{ManagerLine.ManagerLine, Opening.Opening, State.State, Name.Name, Effect.Effect}
 use Rattle.protocol.specs.declared.Call.{Call, the-variants.{Load, Store, Fence, Evict, Drop, Writeback as WriteBack, Advance}}
 use Rattle.protocol.specs.declared.Call.the-variants.{Serve, Receive, Yield, Take, Victim}
-use Rattle.protocol.specs.declared.Which.{Which, the-variants.{Named as NamedLine, Asked as OfAsked, Granted as OfGranted, Nothing, Victim as OfVictim}}
+use Rattle.protocol.specs.declared.Which.{Which, the-variants.{Named as NamedLine, Asked as OfAsked, Answered as OfAnswered, Nothing, Victim as OfVictim}}
 use Rattle.protocol.proofs.{Tests.never, Copies.{one, count-most, none-held, victim-theorem}}
-use Rattle.tables.specs.{declared.copies.Look.Look, Look.{oneMore, found, takesPlace, withCopy, lookTo, looksOver, topOf}}
+use Rattle.tables.specs.{declared.copies.Look.Look, Look.{oneMore, found, withCopy, lookTo, looksOver, topOf}}
 
 -- ---- what is found
 
@@ -41,11 +41,11 @@ one-more n h = rw (lt-ltb n 64 h)
 
 -- the victim and the count with one line more
 module _ (f : Copies) (n : ℕ) where
-  replaced : replaces f n (victimBelow f n) ≡ true → n ≡ victimBelow f (suc n)
+  replaced : replaces (f n) n (f (victimBelow f n)) (victimBelow f n) ≡ true → n ≡ victimBelow f (suc n)
   unfolding victimBelow
   replaced e = rw e
 
-  kept : replaces f n (victimBelow f n) ≡ false → victimBelow f n ≡ victimBelow f (suc n)
+  kept : replaces (f n) n (f (victimBelow f n)) (victimBelow f n) ≡ false → victimBelow f n ≡ victimBelow f (suc n)
   unfolding victimBelow
   kept e = rw e
 
@@ -92,7 +92,7 @@ module _ (f : Copies) (n : ℕ) (h : n < 64) (k : Look) (s : Seen f n k) where
       by false q i = meets (victimBelow f n) e (kept f n (rw (e, i, q))) i
 
       go : ((k .copy ≡ NoCopy) × (heldBelow f n ≡ 0)) ⊎ ((k .copy ≡ f (victimBelow f n)) × (isHeld (f (victimBelow f n)) ≡ true))
-          → Seen f (suc n) (pick (takesPlace k n (f n)) (found (oneMore (k .copies)) n (f n)) (found (oneMore (k .copies)) (k .line) (k .copy)))
+          → Seen f (suc n) (pick (replaces (f n) n (k .copy) (k .line)) (found (oneMore (k .copies)) n (f n)) (found (oneMore (k .copies)) (k .line) (k .copy)))
       go (inl a) = rw (a .0) (meets n e (first-held f n (a .1) e) e)
       go (inr a) = rw (a .0, s .line, a .1) (by (below (rank f n) (rank f (victimBelow f n))) refl (a .1))
 
@@ -144,7 +144,7 @@ module _ (s : State) (c : ℕ) (w : Which) (low : s .opening .lines ≤ 64) (loo
 pub line-unseen : (w : Which) (o : Opening) (k : Slot) (u v : ℕ) → looksOver w o ≡ false → theLine w k u ≡ theLine w k v
 line-unseen (NamedLine l) o k u v e = refl
 line-unseen OfAsked o k u v e = refl
-line-unseen OfGranted o k u v e = refl
+line-unseen OfAnswered o k u v e = refl
 line-unseen Nothing o k u v e = refl
 line-unseen OfVictim o k u v e = never e
 

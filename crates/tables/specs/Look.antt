@@ -1,13 +1,14 @@
--- Going through the copies of a core, line by line, as the code does: how many are held, and the victim with its copy.
+-- Going through the copies of a core, line by line, as the code does (02, Four): how many are held, and the victim with its copy. And which calls
+-- do.
 use Prim.Native.Nat.{ℕ, zero, suc, _+_, _≤_}
 use mathlib.Core.{Path._≡_, Bool.{Bool, true, false}}
 use lib.Dec.{ltb, leb}
-use Rattle.protocol.specs.{Pick.{pick, both}, Limits.mostLines, Copies.{isHeld, Copies, rankOf, below}}
+use Rattle.protocol.specs.{Pick.{pick, both}, Limits.mostLines, Copies.{isHeld, Copies, replaces}}
 use Rattle.protocol.specs.declared.{Copy.{Copy, the-variants.None as NoCopy}, Opening.Opening}
-use Rattle.protocol.specs.declared.Which.{Which, the-variants.{Named as NamedLine, Asked, Granted, Nothing, Victim as OfVictim}}
+use Rattle.protocol.specs.declared.Which.{Which, the-variants.{Named as NamedLine, Asked, Answered, Nothing, Victim as OfVictim}}
 use Rattle.tables.specs.declared.copies.Look.{Look}
 
--- one more, of at most as many as there are lines
+-- one more, up to the most lines that there may be; no core's count passes it
 abbrev pub oneMore : ℕ → ℕ
 oneMore n = pick (ltb n mostLines) (n + 1) n
 
@@ -18,14 +19,10 @@ found n l x = record { copies = n; line = l; copy = x }
 abbrev pub nothingFound : Look
 nothingFound = found 0 0 NoCopy
 
--- the copy x of line l takes the place of the one found: there is none yet, or it ranks after x
-abbrev pub takesPlace : Look → ℕ → Copy → Bool
-takesPlace k l x = pick (isHeld (k .copy)) (below (rankOf x l) (rankOf (k .copy) (k .line))) true
-
 -- with the copy x of line l
 unfoldable pub withCopy : Look → ℕ → Copy → Look
 withCopy k l x =
-    pick (isHeld x) (pick (takesPlace k l x) (found (oneMore (k .copies)) l x) (found (oneMore (k .copies)) (k .line) (k .copy))) k
+    pick (isHeld x) (pick (replaces x l (k .copy) (k .line)) (found (oneMore (k .copies)) l x) (found (oneMore (k .copies)) (k .line) (k .copy))) k
 
 -- after the lines below n
 unfoldable pub lookTo : Copies → ℕ → Look
@@ -33,11 +30,11 @@ lookTo f zero = nothingFound
 lookTo f (suc n) = withCopy (lookTo f n) n (f n)
 
 -- a call about this line looks over all copies of its core: victim does, and receive, which counts them; but not where a core may hold a copy of
--- each line, and so has room for one more whatever it holds
+-- each line, and so has room for any line that it does not hold
 abbrev pub looksOver : Which → Opening → Bool
 looksOver (NamedLine l) o = false
 looksOver Asked o = false
-looksOver Granted o = ltb (o .cap) (o .lines)
+looksOver Answered o = ltb (o .cap) (o .lines)
 looksOver Nothing o = false
 looksOver OfVictim o = true
 

@@ -1,6 +1,7 @@
 // The core and the line that a call is about, as indices of the state's arrays: those that it names, the
-// line of its core's request, the owner of its line, its core's victim. Where the opening has no such core or line, or lies
-// outside the limits, the index is 0, so that every call, refused or not, finds elements to look at.
+// line of its core's request, the owner of its line, its core's victim. Where the opening has no such core
+// or line, or lies outside the limits, the index is 0, so that every call, refused or not, finds elements to
+// look at.
 ghost use mathlib.Core.Path.{_≡_};
 ghost use Prim.Native.Nat.{_<_};
 ghost use Rattle.protocol.specs.{Limits.{mostCores, mostLines}, About.namedLine, Machine.{slotLine, theCore, theLine}};
@@ -33,7 +34,7 @@ fn named(line: Which) -> usize
     match line {
         Which::Named(l) => l,
         Which::Asked => 0,
-        Which::Granted => 0,
+        Which::Answered => 0,
         Which::Nothing => 0,
         Which::Victim => 0,
     }
@@ -47,7 +48,7 @@ fn looks_over(line: Which, opening: Opening) -> bool
     match line {
         Which::Named(_) => false,
         Which::Asked => false,
-        Which::Granted => opening.cap < opening.lines,
+        Which::Answered => opening.cap < opening.lines,
         Which::Nothing => false,
         Which::Victim => true,
     }
@@ -85,7 +86,7 @@ fn line_by(line: Which, slot: Slot, victim: usize) -> usize
     match line {
         Which::Named(l) => l,
         Which::Asked => slot_line(slot),
-        Which::Granted => slot_line(slot),
+        Which::Answered => slot_line(slot),
         Which::Nothing => 0,
         Which::Victim => victim,
     }

@@ -1,8 +1,7 @@
 // The rows of serve and receive.
 ghost use Prim.Native.Nat.{ℕ};
 ghost use mathlib.Core.Path.{_≡_};
-ghost use lib.Dec.{leb};
-ghost use Rattle.protocol.specs.{Pick.{both, fails}, Copies.isHeld, Refusals.isCopy, Machine.pieces, Tables.{row, recalled, sameVersion, serveLoad, receiveGrant, receiveRenew, effectOf}};
+ghost use Rattle.protocol.specs.{Pick.both, Refusals.{isCopy, noRoom}, Machine.pieces, Tables.{row, recalled, sameVersion, serveLoad, receiveGrant, receiveRenew, effectOf}};
 ghost use Rattle.transfer_rows.specs.Asked.{askedEffect};
 use protocol::Answer;
 use protocol::Call;
@@ -57,7 +56,7 @@ fn serve_load(
     copy: Copy,
     line: ManagerLine,
 ) -> Effect
-    ensures { λ r. ⌜ ((n k : ℕ) → r ≡ serveLoad same l wts rts (pieces n core copy line k)) ⌝ }
+    ensures { λ r. ⌜ ((n i : ℕ) → r ≡ serveLoad same l wts rts (pieces n core copy line i)) ⌝ }
 {
     let clocks = core.clocks;
     let recall = line.recall;
@@ -118,7 +117,7 @@ fn serve_asked(
     line: ManagerLine,
     opening: Opening,
 ) -> Effect
-    ensures { λ r. ⌜ ((n k : ℕ) → r ≡ askedEffect want c l lts held (pieces n core copy line k) opening) ⌝ }
+    ensures { λ r. ⌜ ((n i : ℕ) → r ≡ askedEffect want c l lts held (pieces n core copy line i) opening) ⌝ }
 {
     let clocks = core.clocks;
     let manager = line.manager;
@@ -169,7 +168,7 @@ fn serve_asked(
 
 // serve: the request in the core's slot, or 21 where it does not ask.
 pub fn serve(c: usize, core: Core, copy: Copy, line: ManagerLine, opening: Opening) -> Effect
-    ensures { λ r. ⌜ ((n k : ℕ) → r ≡ effectOf (Call.Serve c) (pieces n core copy line k) opening) ⌝ }
+    ensures { λ r. ⌜ ((n i : ℕ) → r ≡ effectOf (Call.Serve c) (pieces n core copy line i) opening) ⌝ }
 {
     let slot = core.slot;
     match slot {
@@ -200,7 +199,7 @@ fn dropped(core: Core, copy: Copy, line: ManagerLine) -> Effect
 // A renewal received: a shared copy takes the new end of its lease; with no copy, or an owned one,
 // it is dropped.
 fn receive_renew(rts: Stamp, core: Core, copy: Copy, line: ManagerLine) -> Effect
-    ensures { λ r. ⌜ ((n k : ℕ) → r ≡ receiveRenew copy rts (pieces n core copy line k)) ⌝ }
+    ensures { λ r. ⌜ ((n i : ℕ) → r ≡ receiveRenew copy rts (pieces n core copy line i)) ⌝ }
 {
     let clocks = core.clocks;
     let emptied = Core {
@@ -229,7 +228,7 @@ fn receive_grant(
     copy: Copy,
     line: ManagerLine,
 ) -> Effect
-    ensures { λ r. ⌜ ((n k : ℕ) → r ≡ receiveGrant grant wts rts (pieces n core copy line k)) ⌝ }
+    ensures { λ r. ⌜ ((n i : ℕ) → r ≡ receiveGrant grant wts rts (pieces n core copy line i)) ⌝ }
 {
     let clocks = core.clocks;
     let emptied = Core {
@@ -272,7 +271,7 @@ fn is_copy(grant: Grant) -> bool
 
 // Whether a core that holds so many copies has no room for one of the line.
 fn no_room(copy: Copy, copies: usize, opening: Opening) -> bool
-    ensures { λ r. ⌜ r ≡ both (fails (isHeld copy)) (leb (opening .cap) copies) ⌝ }
+    ensures { λ r. ⌜ r ≡ noRoom copy copies opening ⌝ }
 {
     match copy {
         Copy::None => opening.cap <= copies,
@@ -283,7 +282,7 @@ fn no_room(copy: Copy, copies: usize, opening: Opening) -> bool
 
 // Whether 31 refuses a grant.
 fn is_full(grant: Grant, copy: Copy, copies: usize, opening: Opening) -> bool
-    ensures { λ r. ⌜ r ≡ both (isCopy grant) (both (fails (isHeld copy)) (leb (opening .cap) copies)) ⌝ }
+    ensures { λ r. ⌜ r ≡ both (isCopy grant) (noRoom copy copies opening) ⌝ }
 {
     if !is_copy(grant) {
         return false;

@@ -1,4 +1,4 @@
-// The rows of evict, drop and writeback, of yield and of take; and of victim, which names the line that a core gives up first.
+// The rows of evict, drop and writeback, of yield and of take; and of victim, which names the line that a core would give up.
 ghost use Prim.Native.Nat.{ℕ};
 ghost use mathlib.Core.Path.{_≡_};
 ghost use Rattle.protocol.specs.{Pick.both, Refusals.{hasOwner, stands}, Machine.pieces, Tables.{writtenBack, evictTable, yielded, effectOf}};
@@ -31,7 +31,7 @@ fn written_back(line: ManagerLine, wts: Stamp, rts: Stamp) -> ManagerLine
 
 // A copy is given up, and the answer is this name: a shared one goes; an owned one becomes the writeback; 26 where there is none.
 fn give_up(name: Name, core: Core, copy: Copy, line: ManagerLine) -> Effect
-    ensures { λ r. ⌜ ((n k : ℕ) → r ≡ evictTable name copy (pieces n core copy line k)) ⌝ }
+    ensures { λ r. ⌜ ((n i : ℕ) → r ≡ evictTable name copy (pieces n core copy line i)) ⌝ }
 {
     match copy {
         Copy::None => refusals::refused(26, core, copy, line),
@@ -57,14 +57,14 @@ fn give_up(name: Name, core: Core, copy: Copy, line: ManagerLine) -> Effect
 
 // evict: whichever fits the copy.
 pub fn evict(core: Core, copy: Copy, line: ManagerLine) -> Effect
-    ensures { λ r. ⌜ ((c l n k : ℕ) (o : Opening) → r ≡ effectOf (Call.Evict c l) (pieces n core copy line k) o) ⌝ }
+    ensures { λ r. ⌜ ((c l n i : ℕ) (o : Opening) → r ≡ effectOf (Call.Evict c l) (pieces n core copy line i) o) ⌝ }
 {
     give_up(Name::Evict, core, copy, line)
 }
 
 // drop: a shared copy goes; 26 where there is none, 30 where it is owned.
 pub fn drop(core: Core, copy: Copy, line: ManagerLine) -> Effect
-    ensures { λ r. ⌜ ((c l n k : ℕ) (o : Opening) → r ≡ effectOf (Call.Drop c l) (pieces n core copy line k) o) ⌝ }
+    ensures { λ r. ⌜ ((c l n i : ℕ) (o : Opening) → r ≡ effectOf (Call.Drop c l) (pieces n core copy line i) o) ⌝ }
 {
     match copy {
         Copy::None => give_up(Name::Drop, core, copy, line),
@@ -75,7 +75,7 @@ pub fn drop(core: Core, copy: Copy, line: ManagerLine) -> Effect
 
 // writeback: an owned copy becomes the writeback; 26 where there is none, 30 where it is shared.
 pub fn writeback(core: Core, copy: Copy, line: ManagerLine) -> Effect
-    ensures { λ r. ⌜ ((c l n k : ℕ) (o : Opening) → r ≡ effectOf (Call.Writeback c l) (pieces n core copy line k) o) ⌝ }
+    ensures { λ r. ⌜ ((c l n i : ℕ) (o : Opening) → r ≡ effectOf (Call.Writeback c l) (pieces n core copy line i) o) ⌝ }
 {
     match copy {
         Copy::None => give_up(Name::Writeback, core, copy, line),
@@ -113,7 +113,7 @@ fn is_recalled(line: ManagerLine) -> bool
 
 // yield: the owner's copy becomes the writeback; 23 without a recall, 24 without an owned copy.
 pub fn yield_line(core: Core, copy: Copy, line: ManagerLine) -> Effect
-    ensures { λ r. ⌜ ((l n k : ℕ) (o : Opening) → r ≡ effectOf (Call.Yield l) (pieces n core copy line k) o) ⌝ }
+    ensures { λ r. ⌜ ((l n i : ℕ) (o : Opening) → r ≡ effectOf (Call.Yield l) (pieces n core copy line i) o) ⌝ }
 {
     if !is_recalled(line) {
         return refusals::refused(23, core, copy, line);
@@ -138,7 +138,7 @@ pub fn yield_line(core: Core, copy: Copy, line: ManagerLine) -> Effect
 
 // take: the writeback becomes the manager's version, and recall and writeback are settled; 25 without one.
 pub fn take(core: Core, copy: Copy, line: ManagerLine) -> Effect
-    ensures { λ r. ⌜ ((l n k : ℕ) (o : Opening) → r ≡ effectOf (Call.Take l) (pieces n core copy line k) o) ⌝ }
+    ensures { λ r. ⌜ ((l n i : ℕ) (o : Opening) → r ≡ effectOf (Call.Take l) (pieces n core copy line i) o) ⌝ }
 {
     let flight = line.writeback;
     match flight {
