@@ -92,7 +92,7 @@ module _ (f : Copies) (n : ℕ) (h : n < 64) (k : Look) (s : Seen f n k) where
       by false q i = meets (victimBelow f n) e (kept f n (rw (e, i, q))) i
 
       go : ((k .copy ≡ NoCopy) × (heldBelow f n ≡ 0)) ⊎ ((k .copy ≡ f (victimBelow f n)) × (isHeld (f (victimBelow f n)) ≡ true))
-          → Seen f (suc n) (pick (replaces (f n) n (k .copy) (k .line)) (found (oneMore (k .copies)) n (f n)) (found (oneMore (k .copies)) (k .line) (k .copy)))
+          → Seen f (suc n) (pick (pick (isHeld (k .copy)) (below (rankOf (f n) n) (rankOf (k .copy) (k .line))) true) (found (oneMore (k .copies)) n (f n)) (found (oneMore (k .copies)) (k .line) (k .copy)))
       go (inl a) = rw (a .0) (meets n e (first-held f n (a .1) e) e)
       go (inr a) = rw (a .0, s .line, a .1) (by (below (rank f n) (rank f (victimBelow f n))) refl (a .1))
 
