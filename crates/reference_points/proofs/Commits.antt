@@ -1,20 +1,24 @@
 -- The commits are as the definitions give them: antt runs the calls.
 use mathlib.Core.Path.{refl}
 use Rattle.protocol.specs.Run.{run, commits}
-use Rattle.reference_points.specs.Commits.{exchanges, committed, givenUp, givenUpCommits, spelled, spelledCommits, Commits, CommitsTheorem}
+use Rattle.reference_points.specs.Commits.{small, narrow, filled, filledCommits, exchanges, committed, givenUp, givenUpCommits, spelled, spelledCommits, Commits, CommitsTheorem}
 use Rattle.reference_points.proofs.Rows.{calling}
 
-first : Commits exchanges committed
+first : Commits small exchanges committed
 unfolding calling run commits
 first = record { replies = refl; committed = refl }
 
-second : Commits givenUp givenUpCommits
+second : Commits small givenUp givenUpCommits
 unfolding calling run commits
 second = record { replies = refl; committed = refl }
 
-third : Commits spelled spelledCommits
+third : Commits small spelled spelledCommits
 unfolding calling run commits
 third = record { replies = refl; committed = refl }
 
+fourth : Commits narrow filled filledCommits
+unfolding calling run commits
+fourth = record { replies = refl; committed = refl }
+
 pub commits-theorem : CommitsTheorem
-commits-theorem = (first, second, third)
+commits-theorem = (first, second, third, fourth)

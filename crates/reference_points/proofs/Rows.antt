@@ -11,6 +11,9 @@ use Rattle.reference_points.specs.Numbers.{called, turnedAway, refusals,
 use Rattle.reference_points.specs.{Numbers.{inside, outside, OpeningsTheorem}, Show.{isShown, isTold, looks, ShowTheorem}}
 use Rattle.reference_points.specs.Spelt.{stored, toldOf, speltRows, digitRefusals, SpeltTheorem}
 use Rattle.reference_points.specs.Capacity.{got as capGot, told as capTold, fullRows, victimRows, CapacityRowsTheorem}
+use Rattle.reference_points.specs.Commits.{narrow}
+use Rattle.protocol.proofs.Capacity.{capacity-theorem}
+use native.Mathlib.Omega.{arith}
 use Rattle.reference_points.proofs.Each.{agree}
 
 -- the definitions that a call computes by: its refusals, its table, and what is moved
@@ -47,4 +50,15 @@ show-theorem = agree isShown isTold looks refl
 pub capacity-rows-theorem : CapacityRowsTheorem
 unfolding calling
 capacity-rows-theorem =
-    record { full = agree capGot capTold fullRows refl; victims = agree capGot capTold victimRows refl; fresh = refl; outside = refl; ofThree = refl; ofNone = refl }
+    record {
+      full = agree capGot capTold fullRows refl;
+      victims = agree capGot capTold victimRows refl;
+      fresh = refl;
+      outside = refl;
+      ofThree = refl;
+      ofNone = refl;
+      tie = refl;
+      ofOne = refl;
+      empty = refl;
+      most = λ gs p. capacity-theorem narrow gs p 1 (omega arith);
+    }

@@ -1,18 +1,22 @@
--- The commits of three short lists of calls: which calls commit, and what a commit carries (01, demand 3).
+-- The commits of four short lists of calls: which calls commit, and what a commit carries (01, demand 3).
 use Prim.Native.Nat.{ℕ}
 use mathlib.Core.{Path._≡_, List.{List, [], _∷_, map}}
 use Rattle.protocol.specs.{Stamps.stamp, Buffers.Bytes, Machine.freshMachine, Run.{Entry, Record, Commit, place, run}}
 use Rattle.protocol.specs.{Step.{Op, load, store, fence, Reply, refused, done, commit}, Order.commitsOf, declared.Opening.Opening}
-use Rattle.protocol.specs.declared.Call.{Call, the-variants.{Load, Store, Fence, Evict, Drop, Writeback as WriteBack, Advance, Serve, Receive, Take}}
+use Rattle.protocol.specs.declared.Call.{Call, the-variants.{Load, Store, Fence, Evict, Drop, Writeback as WriteBack, Advance, Serve, Receive, Take, Victim}}
 use Rattle.protocol.specs.declared.Given.the-variants.{Bytes as AsBytes, Digits as AsDigits}
 use Rattle.protocol.specs.declared.Name.the-variants.{Ask as ask, Share as share, Own as own, Drop as dropped, Evict as evict, Writeback as writeback}
-use Rattle.protocol.specs.declared.Name.the-variants.{Take as taken, Advance as advance}
+use Rattle.protocol.specs.declared.Name.the-variants.{Take as taken, Advance as advance, Victim as victim}
 use Rattle.spelling.specs.Text.{text}
 use Rattle.reference_points.specs.Numbers.{opening}
 
 -- 2 cores, 3 lines, a width of 2, a lease of 10 and room for a copy of each line
 abbrev pub small : Opening
 small = opening 2 3 2 10 3
+
+-- the same with room for one copy
+abbrev pub narrow : Opening
+narrow = opening 2 3 2 10 1
 
 -- a call, what is given to it, and what it answers
 pub data Exchange : Type 0 where
@@ -78,6 +82,25 @@ spelled =
     ∷ exchange (Load 1 2) [] (commit 1 (stamp 0) (load 2 (49 ∷ 50 ∷ [])))
     ∷ []
 
+-- core 1, which has room for one copy, stores to line 2, and loads line 0 once it has written line 2 back (02, Four)
+abbrev pub filled : List Exchange
+filled =
+    exchange (Victim 1) [] (refused 26)
+    ∷ exchange (Store AsBytes 1 2) (7 ∷ 8 ∷ []) (done ask)
+    ∷ exchange (Serve 1) [] (done own)
+    ∷ exchange (Receive 1) [] (done own)
+    ∷ exchange (Store AsBytes 1 2) (5 ∷ 6 ∷ []) (commit 1 (stamp 1) (store 2 (5 ∷ 6 ∷ [])))
+    ∷ exchange (Victim 1) (9 ∷ 9 ∷ []) (done (victim 2))
+    ∷ exchange (Load 1 0) [] (done ask)
+    ∷ exchange (Serve 1) [] (done share)
+    ∷ exchange (Receive 1) [] (refused 31)
+    ∷ exchange (Load 1 2) [] (commit 1 (stamp 0) (load 2 (5 ∷ 6 ∷ [])))
+    ∷ exchange (WriteBack 1 2) [] (done writeback)
+    ∷ exchange (Receive 1) [] (done share)
+    ∷ exchange (Load 1 0) [] (commit 1 (stamp 0) (load 0 (0 ∷ 0 ∷ [])))
+    ∷ exchange (Victim 1) [] (done (victim 0))
+    ∷ []
+
 -- a commit: its place in the list of calls, core, timestamp, and what it did
 abbrev pub aCommit : {A : Type 0} → ℕ → ℕ → ℕ → Op A → Commit A
 aCommit p c t o = record { place = place p; core = c; ts = stamp t; op = o }
@@ -103,10 +126,15 @@ spelledCommits =
     ∷ aCommit 10 1 0 (load 2 (49 ∷ 50 ∷ []))
     ∷ []
 
+abbrev pub filledCommits : List (Commit Bytes)
+filledCommits =
+    aCommit 5 1 1 (store 2 (5 ∷ 6 ∷ [])) ∷ aCommit 10 1 0 (load 2 (5 ∷ 6 ∷ [])) ∷ aCommit 13 1 0 (load 0 (0 ∷ 0 ∷ [])) ∷ []
+
 -- a list answers so, and has these commits
-pub record Commits (xs : List Exchange) (cs : List (Commit Bytes)) : Type 0 where
-  pub replies : map (λ (r : Record). r .reply) (run (map entryOf xs) 1 (freshMachine small) .records) ≡ map replyOf xs
-  pub committed : commitsOf small (map entryOf xs) ≡ cs
+pub record Commits (o : Opening) (xs : List Exchange) (cs : List (Commit Bytes)) : Type 0 where
+  pub replies : map (λ (r : Record). r .reply) (run (map entryOf xs) 1 (freshMachine o) .records) ≡ map replyOf xs
+  pub committed : commitsOf o (map entryOf xs) ≡ cs
 
 abbrev pub CommitsTheorem : Type 0
-CommitsTheorem = Commits exchanges committed × Commits givenUp givenUpCommits × Commits spelled spelledCommits
+CommitsTheorem =
+    Commits small exchanges committed × Commits small givenUp givenUpCommits × Commits small spelled spelledCommits × Commits narrow filled filledCommits
