@@ -18,13 +18,13 @@ use Rattle.journal.specs.declared.Next.{Next, the-variants.{Opening, Step, End,
 -- ---- a step's data
 
 -- a line of the form p ends with the digits of the bytes bs, which spell them where the form has an H; where it has none there are no bytes
-record Ends (p : List Part) (s bs : Bytes) : Type 0 where
+pub record Ends (p : List Part) (s bs : Bytes) : Type 0 where
   pub before : Bytes
   pub same : s ≡ before ++ hex bs
   pub some : hasData p ≡ true → Spells (hex bs) bs
   pub none : hasData p ≡ false → bs ≡ []
 
-ends-in : (p : List Part) → Shaped p → (ns bs : List ℕ) → Spelled p ns bs → Ends p (spell p ns bs) bs
+pub ends-in : (p : List Part) → Shaped p → (ns bs : List ℕ) → Spelled p ns bs → Ends p (spell p ns bs) bs
 unfolding Spelled spellings lay hex hasData
 ends-in [] h ns bs g = record { before = []; same = ap hex (sym (g .1)); some = λ e. never (sym e); none = λ e. g .1 }
 ends-in (fixed b ∷ p) h ns bs g =
@@ -41,7 +41,7 @@ ends-in (value number ∷ p) h (n ∷ ns) bs g =
 ends-in (value pairs ∷ p) h ns bs g =
     record { before = []; same = rw h (append-nil (hex bs)); some = λ e. record { some = g .1; bytes = g .2; same = refl }; none = λ e. never e }
 
-ends-drop : (p : List Part) (s bs : Bytes) → Ends p s bs → drop (length s - length (hex bs)) s ≡ hex bs
+pub ends-drop : (p : List Part) (s bs : Bytes) → Ends p s bs → drop (length s - length (hex bs)) s ≡ hex bs
 ends-drop p s bs e =
     let n : length s ≡ length (e .before) + length (hex bs) = ap length (e .same) ∙ length-append (e .before) (hex bs) in
     let k : length s - length (hex bs) ≡ length (e .before) = omega arith in
@@ -102,16 +102,23 @@ Known j at form (Step call start end next) = (form ≡ 0 → ⊥) × StepAt j at
 Known j at form End = form ≡ 0 → ⊥
 Known j at form (Refused n) = n ≤ 14
 
+-- the data of a line that is at an offset are those of the journal there
+pub line-data :
+    {j : Bytes} {at : ℕ} {l : Bytes} {next : ℕ} (start end : ℕ) → LineAt j at l next → start ≤ end → end ≡ length l
+    → part j (at + start) (at + end - (at + start)) ≡ drop start l
+line-data {j} {at} {l} {next} start end h i e =
+    let r : drop (at + start) j ≡ drop start l ++ (10 ∷ drop next j) =
+    sym (drop-drop start at j) ∙ ap (drop start) (h .whole) ∙ drop-append-le start l (10 ∷ drop next j) (omega arith) in
+    let m : length (drop start l) ≡ at + end - (at + start) = length-drop start l ∙ omega arith in
+    ap (take (at + end - (at + start))) r ∙ take-at (drop start l) (10 ∷ drop next j) (at + end - (at + start)) m
+
 step-known :
     (j : Bytes) (at : ℕ) (l : Bytes) (next : ℕ) (call : Call) (start end : ℕ) → LineAt j at l next → start ≤ end → end ≡ length l
     → Right call (drop start l) → StepAt j at call (at + start) (at + end) next
 step-known j at l next call start end h i e d =
     let n : length j - at ≡ length l + suc (length (drop next j)) = sym (length-drop at j) ∙ ap length (h .whole) ∙ length-append l (10 ∷ drop next j) in
-    let r : drop (at + start) j ≡ drop start l ++ (10 ∷ drop next j) =
-    sym (drop-drop start at j) ∙ ap (drop start) (h .whole) ∙ drop-append-le start l (10 ∷ drop next j) (omega arith) in
     let m : length (drop start l) ≡ at + end - (at + start) = length-drop start l ∙ omega arith in
-    let p : part j (at + start) (at + end - (at + start)) ≡ drop start l =
-    ap (take (at + end - (at + start))) r ∙ take-at (drop start l) (10 ∷ drop next j) _ m in
+    let p = line-data start end h i e in
     record {
       forward = omega (arith, h .after);
       inside = omega (arith, h .after);

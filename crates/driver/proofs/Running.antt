@@ -29,7 +29,7 @@ run-records (g ∷ gs) hs p m =
     let n : suc p + length gs ≡ p + suc (length gs) = omega arith in
     rw (run-records gs hs (suc p) (step m (g .call) (g .given) .machine), n)
 
-run-last : (gs hs : List Entry) (p : ℕ) (m : Machine) → run (gs ++ hs) p m .last ≡ run hs (p + length gs) (run gs p m .last) .last
+pub run-last : (gs hs : List Entry) (p : ℕ) (m : Machine) → run (gs ++ hs) p m .last ≡ run hs (p + length gs) (run gs p m .last) .last
 unfolding run
 run-last [] hs p m = ap (λ (k : ℕ). run hs k m .last) (omega arith)
 run-last (g ∷ gs) hs p m =

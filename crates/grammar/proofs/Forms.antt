@@ -1,15 +1,16 @@
 -- What is known of the rows of each form of journal: which part of the table they are, their shape, what their lines say, and that a step has
--- data exactly if its call is given digits. A new form is a line in `ranged`, `no-row`, `opening-at`, `rows-say` and `rows-fed`. Assumes nothing.
+-- data exactly if its call is given digits. A new form is a line in `ranged`, `no-row`, `opening-at`, `digit-at`, `rows-say` and `rows-fed`. Assumes nothing.
 use Prim.Native.Nat.{ℕ, zero, suc, _+_, _-_, _≤_, _<_}
 use mathlib.Core.{Path.{_≡_, refl, sym, _∙_, ap, subst}, Bool.{Bool, true, false}, List.{List, [], _∷_}}
 use native.Mathlib.Omega.{arith}
-use lib.{Dec.{ltb, lit≤}, ListN.{length, take, drop}, Seq.{getD-take, getD-drop}}
+use lib.{Dec.{ltb, lit≤, lit<}, ListN.{length, getD, take, drop}, Seq.{getD-take, getD-drop}}
 use borrow.Author.Tests.{ltb-true}
 use Rattle.protocol.{specs.declared.{Opening.{Opening as Sizes}, Given.{Given, the-variants.{Bytes, Digits}}}, proofs.Tests.never}
 use Rattle.protocol.specs.{Pick.{pick, fails}, About.about, Given.givenAs}
-use Rattle.grammar.specs.Table.{Numbered, Says, opens, calls, Row, rowsOf, noRow, rowAt, table, stepCount, openingCount, rowCount, formCount}
-use Rattle.grammar.specs.{Table.{sizes, fromOf, toOf}, Form.{Part, fixed, value, number, pairs, Has}, Line.Matches, Scan.{formOf, capOf}}
-use Rattle.grammar.proofs.{Fit.Shaped, Rows.{entry-at, every, every-at}}
+use Rattle.grammar.specs.Table.{Numbered, Says, opens, calls, Row, openings, rowsOf, noRow, rowAt, table, stepCount, openingCount, rowCount, formCount}
+use Rattle.grammar.specs.{Table.{sizes, fromOf, toOf}, Form.{Part, fixed, value, Value, number, pairs, Each, Has, RightData}}
+use Rattle.grammar.specs.{Line.{Matches, DataRight}, Scan.{formOf, byteOf, capOf}}
+use Rattle.grammar.proofs.{Fit.Shaped, Rows.{byte-at, entry-at, every, every-at}}
 
 -- ---- the rows of each form are one part of the table
 
@@ -65,6 +66,17 @@ pub opening-row : (row : ℕ) (n : Numbered) → stepCount ≤ row → row < row
 opening-row row n a b =
     let e : stepCount + (row - stepCount) ≡ row = omega arith in
     subst (λ (m : ℕ). rowAt table m .says n ≡ opens (row - stepCount + 1) (sizesOf (row - stepCount + 1) n)) e (opening-at (row - stepCount) n (omega arith))
+
+-- their eighth byte is the digit of their form
+digit-at : (k : ℕ) → k < openingCount → byteOf (getD (formOf (stepCount + k)) 7 (fixed 0)) ≡ 49 + k
+digit-at zero h = refl
+digit-at (suc zero) h = refl
+digit-at (suc (suc k)) h = absurd (omega arith)
+
+pub opening-digit : {s : List ℕ} {k : ℕ} {vs : List (List ℕ)} → Matches openings s k vs → (7 < length s) × (getD s 7 0 ≡ 49 + k)
+opening-digit {s} {k} {vs} f =
+    let b = byte-at 8 7 s (formOf (stepCount + k)) vs (lit< tt) (entry-at (stepCount + k) (omega (arith, f .listed)) .head) (in-table 0 f) in
+    (b .0, b .1 ∙ digit-at k (f .listed))
 
 -- ---- what a row says
 
@@ -137,3 +149,22 @@ rows-fed (suc (suc (suc form))) n = refl
 pub row-fed : (form k : ℕ) (n : Numbered) → k < length (rowsOf form) → Fed (rowAt (rowsOf form) k .form) (rowAt (rowsOf form) k .says n)
 row-fed form k n h =
     fed-in (rowAt (rowsOf form) k .form) (rowAt (rowsOf form) k .says n) (every-at (λ k r. fed (r .form) (r .says n)) (rowsOf form) 0 (rows-fed form n) k h)
+
+-- where a form has no H, all data are right
+plain-right : (P : Value → List ℕ → Type 0) (p : List Part) (vs : List (List ℕ)) → fails (hasData p) ≡ true → Each P p vs → Each RightData p vs
+unfolding Each hasData
+plain-right P [] [] e a = tt
+plain-right P [] (v ∷ vs) e a = absurd a
+plain-right P (fixed b ∷ p) vs e a = plain-right P p vs e a
+plain-right P (value q ∷ p) [] e a = absurd a
+plain-right P (value number ∷ p) (v ∷ vs) e a = (tt, plain-right P p vs e (a .1))
+plain-right P (value pairs ∷ p) (v ∷ vs) e a = never (sym e)
+
+-- no first line has one
+openings-plain : every (λ k r. fails (hasData (r .form))) 0 openings ≡ true
+unfolding hasData
+openings-plain = refl
+
+pub opening-data : {s : List ℕ} {k : ℕ} {vs : List (List ℕ)} → Matches openings s k vs → DataRight openings k vs
+opening-data {k = k} {vs = vs} f =
+    plain-right _ (rowAt openings k .form) vs (every-at (λ k r. fails (hasData (r .form))) openings 0 openings-plain k (f .listed)) (f .has .fit)

@@ -65,7 +65,7 @@ shaped-is (value pairs ∷ []) e = refl
 shaped-is (value pairs ∷ (x ∷ p)) e = never (sym e)
 
 -- a line that has a form has its fixed text
-byte-at : (n i : ℕ) (s : List ℕ) (p : List Part) (vs : List (List ℕ)) → i < n → fixedUpTo n p ≡ true → Has s p vs → (i < length s) × (getD s i 0 ≡ byteOf (getD p i (fixed 0)))
+pub byte-at : (n i : ℕ) (s : List ℕ) (p : List Part) (vs : List (List ℕ)) → i < n → fixedUpTo n p ≡ true → Has s p vs → (i < length s) × (getD s i 0 ≡ byteOf (getD p i (fixed 0)))
 byte-at zero i s p vs l e h = absurd (not-suc-le-zero l)
 byte-at (suc n) i s [] vs l e h = never (sym e)
 byte-at (suc n) i s (value q ∷ p) vs l e h = never (sym e)

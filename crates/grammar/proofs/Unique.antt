@@ -47,7 +47,7 @@ blank-no-hex : HexDigit 32 → ⊥
 blank-no-hex (inl h) = omega arith
 blank-no-hex (inr h) = omega arith
 
-spelt-has : (p : List Part) (ns bs : List ℕ) → Shaped p → Given p ns bs → Has (spell p ns bs) p (spellings p ns bs)
+pub spelt-has : (p : List Part) (ns bs : List ℕ) → Shaped p → Given p ns bs → Has (spell p ns bs) p (spellings p ns bs)
 spelt-has p ns bs h g =
     record {
       laid = refl;

@@ -29,36 +29,62 @@ abbrev pub sizes : Numbered → ℕ → Sizes
 sizes n cap = record { cores = n 0; lines = n 1; width = n 2; lease = n 3; cap = cap }
 
 -- THE FIRST LINES. "`fabric=2` gains `cap=N` after lease, is 11 without it from now on, and `fabric=1` means cap = lines"
+abbrev pub firstOpening : Row
+firstOpening = row "fabric=1 cores=N lines=N width=N lease=N" (λ n. opens 1 (sizes n (n 1)))
+
+abbrev pub secondOpening : Row
+secondOpening = row "fabric=2 cores=N lines=N width=N lease=N cap=N" (λ n. opens 2 (sizes n (n 4)))
+
 abbrev pub openings : List Row
-openings =
-    row "fabric=1 cores=N lines=N width=N lease=N" (λ n. opens 1 (sizes n (n 1)))
-    ∷ row "fabric=2 cores=N lines=N width=N lease=N cap=N" (λ n. opens 2 (sizes n (n 4)))
-    ∷ []
+openings = firstOpening ∷ secondOpening ∷ []
 
 -- THE STEPS of every form of journal. A store is given the digits of its `data=`
+abbrev pub loadRow : Row
+loadRow = row "op=load core=N line=N" (λ n. calls (Load (n 0) (n 1)))
+
+abbrev pub storeRow : Row
+storeRow = row "op=store core=N line=N data=H" (λ n. calls (Store Digits (n 0) (n 1)))
+
+abbrev pub fenceRow : Row
+fenceRow = row "op=fence core=N" (λ n. calls (Fence (n 0)))
+
+abbrev pub serveRow : Row
+serveRow = row "op=serve core=N" (λ n. calls (Serve (n 0)))
+
+abbrev pub receiveRow : Row
+receiveRow = row "op=receive core=N" (λ n. calls (Receive (n 0)))
+
+abbrev pub advanceRow : Row
+advanceRow = row "op=advance core=N by=N" (λ n. calls (Advance (n 0) (n 1)))
+
+abbrev pub yieldRow : Row
+yieldRow = row "op=yield line=N" (λ n. calls (Yield (n 0)))
+
+abbrev pub takeRow : Row
+takeRow = row "op=take line=N" (λ n. calls (Take (n 0)))
+
 abbrev pub steps : List Row
-steps =
-    row "op=load core=N line=N" (λ n. calls (Load (n 0) (n 1)))
-    ∷ row "op=store core=N line=N data=H" (λ n. calls (Store Digits (n 0) (n 1)))
-    ∷ row "op=fence core=N" (λ n. calls (Fence (n 0)))
-    ∷ row "op=serve core=N" (λ n. calls (Serve (n 0)))
-    ∷ row "op=receive core=N" (λ n. calls (Receive (n 0)))
-    ∷ row "op=advance core=N by=N" (λ n. calls (Advance (n 0) (n 1)))
-    ∷ row "op=yield line=N" (λ n. calls (Yield (n 0)))
-    ∷ row "op=take line=N" (λ n. calls (Take (n 0)))
-    ∷ []
+steps = loadRow ∷ storeRow ∷ fenceRow ∷ serveRow ∷ receiveRow ∷ advanceRow ∷ yieldRow ∷ takeRow ∷ []
 
 -- the step of `fabric=1` alone
+abbrev pub evictRow : Row
+evictRow = row "op=evict core=N line=N" (λ n. calls (Evict (n 0) (n 1)))
+
 abbrev pub evictStep : List Row
-evictStep = row "op=evict core=N line=N" (λ n. calls (Evict (n 0) (n 1))) ∷ []
+evictStep = evictRow ∷ []
 
 -- "A first line `fabric=2`, same keys, has these two steps in place of evict"; "A new call and `fabric=2` step, `op=victim core=N`"
+abbrev pub dropRow : Row
+dropRow = row "op=drop core=N line=N" (λ n. calls (Drop (n 0) (n 1)))
+
+abbrev pub writebackRow : Row
+writebackRow = row "op=writeback core=N line=N" (λ n. calls (Writeback (n 0) (n 1)))
+
+abbrev pub victimRow : Row
+victimRow = row "op=victim core=N" (λ n. calls (Victim (n 0)))
+
 abbrev pub secondSteps : List Row
-secondSteps =
-    row "op=drop core=N line=N" (λ n. calls (Drop (n 0) (n 1)))
-    ∷ row "op=writeback core=N line=N" (λ n. calls (Writeback (n 0) (n 1)))
-    ∷ row "op=victim core=N" (λ n. calls (Victim (n 0)))
-    ∷ []
+secondSteps = dropRow ∷ writebackRow ∷ victimRow ∷ []
 
 -- the rows that a line may have: in form 0 the first line is due; form 1 is `fabric=1`, form 2 `fabric=2`; there is no other yet
 abbrev pub rowsOf : ℕ → List Row

@@ -27,13 +27,13 @@ module _ (j : List ℕ) (at form : ℕ) where
       (Refused 14)
 
   -- where no newline follows, the line runs to the journal's end
-  to-the-end : at < length j → Without 10 (drop at j) → length j ≤ end
+  pub to-the-end : at < length j → Without 10 (drop at j) → length j ≤ end
   to-the-end h w =
       let e : line ≡ drop at j = ap (upTo 10) (sym (append-nil (drop at j))) ∙ upTo-unique 10 (drop at j) [] w (inl refl) in
       omega (arith, simp length-drop at (ap length e))
 
   -- a line with its newline is that line
-  line-same : {l : List ℕ} {next : ℕ} → LineAt j at l next → line ≡ l
+  pub line-same : {l : List ℕ} {next : ℕ} → LineAt j at l next → line ≡ l
   line-same {l} {next} h = ap (upTo 10) (h .whole) ∙ upTo-unique 10 l (10 ∷ drop next j) (h .clean) (inr (drop next j, refl))
 
   -- there is no other
