@@ -1,0 +1,4 @@
+pub mod Spelling
+pub mod Forms
+pub mod Conversion
+pub mod Writing
