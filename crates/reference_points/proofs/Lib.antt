@@ -11,3 +11,5 @@ pub mod SecondForm
 pub mod Decides
 pub mod Logs
 pub mod Chain
+pub mod Longest
+pub mod Conversions

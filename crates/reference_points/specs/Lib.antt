@@ -14,3 +14,4 @@ pub mod Sample
 pub mod SecondForm
 pub mod Logs
 pub mod Chain
+pub mod Conversions
