@@ -1,18 +1,25 @@
 # make run [JOURNAL=path]       play a journal (default: examples/sample.journal); standard output is just the listing
 # make run-tally [JOURNAL=path] count a journal's traffic (the same default); standard output is just its line
-# make build                    prove and build the programs target/bin/steps and tally and the library target/staticlib/libhost.a
+# make run-to1 [JOURNAL=path]   convert a journal to fabric=1 (default: examples/drop-writeback.journal); standard output is just the result
+# make run-to2 [JOURNAL=path]   convert a journal to fabric=2 (default: examples/evict.journal); standard output is just the result
+# make build                    prove and build the programs target/bin/steps, tally, to1 and to2 and the library target/staticlib/libhost.a
 # make test                     prove every crate, try the must-fail edits, run the programs and the project's other tests
 # make selftest                 the tests of the tests alone, after make build (part of make test)
 # make bench                    speed of the engine, the line check and steps (not part of make test)
 # make wrong-programs           try further wrong programs, which the prover must refuse (not part of make test)
 # make memcheck                 the C test of the line check under valgrind
 # make install [PREFIX=path]    the programs, the library, the header and the manual pages (default: /usr/local; DESTDIR is heeded)
-# make uninstall [PREFIX=path]  remove these six files
+# make uninstall [PREFIX=path]  remove these ten files
 # make clean                    remove what was built
 # make help                     this list
 
 PREFIX = /usr/local
 JOURNAL = examples/sample.journal
+# Where none is named, a journal of the form that is converted.
+ifneq ($(origin JOURNAL),command line)
+run-to1: override JOURNAL = examples/drop-writeback.journal
+run-to2: override JOURNAL = examples/evict.journal
+endif
 
 # Recipes have these paths from the environment, byte for byte: a blank, a quote or a $ in them is one like any other.
 override PREFIX := $(value PREFIX)
@@ -27,10 +34,14 @@ unexport MAKEFLAGS MFLAGS
 define INSTALLED
 755 target/bin/steps bin/steps
 755 target/bin/tally bin/tally
+755 target/bin/to1 bin/to1
+755 target/bin/to2 bin/to2
 644 target/staticlib/libhost.a lib/libfabric.a
 644 include/fabric.h include/fabric.h
 644 man/steps.1 share/man/man1/steps.1
 644 man/tally.1 share/man/man1/tally.1
+644 man/to1.1 share/man/man1/to1.1
+644 man/to2.1 share/man/man1/to2.1
 endef
 export INSTALLED
 
@@ -59,7 +70,7 @@ need-python3: what = Python
 need-cargo: what = the Rust toolchain
 need-valgrind: what = valgrind
 
-.PHONY: help run run-tally build test selftest bench wrong-programs memcheck install uninstall clean journal $(NEEDED)
+.PHONY: help run run-tally run-to1 run-to2 build test selftest bench wrong-programs memcheck install uninstall clean journal $(NEEDED)
 
 help:
 	@sed -n 's/^# \(make .*\)/\1/p' Makefile
@@ -72,8 +83,16 @@ run-tally: journal need-rt
 	$(call prove,check tally)
 	@target/bin/tally <"$$JOURNAL"
 
+run-to1: journal need-rt
+	$(call prove,check to1)
+	@target/bin/to1 <"$$JOURNAL"
+
+run-to2: journal need-rt
+	$(call prove,check to2)
+	@target/bin/to2 <"$$JOURNAL"
+
 build: need-rt
-	$(call prove,check steps tally host)
+	$(call prove,check steps tally to1 to2 host)
 	$(call prove,staticlib host)
 
 test: need-rt need-gcc need-python3 need-cargo
