@@ -8,11 +8,10 @@
 //! one slot, so a share or renewal that is under way never finds its own copy
 //! owned, and where a renewal's copy is gone, nothing has come in its place.
 
-use std::collections::BTreeMap;
-
 use crate::journal::{self, kind_name, unknown_kind, Form, MAX_JOURNAL, MAX_LINE};
 use crate::listing::done_name;
 use crate::machine::*;
+use crate::rows::Rows;
 use crate::run::{Record, Run};
 use crate::tally::Tallied;
 
@@ -318,14 +317,14 @@ const TALLIES: &[&str] = &[
 ];
 
 /// Every row that generated journals must meet.
-pub fn rows() -> impl Iterator<Item = &'static str> {
-    [ANSWERS, STEPS, CACHES, REFUSALS, JOURNALS, FORM_2, TALLIES].into_iter().flatten().copied()
+pub fn rows() -> Vec<&'static str> {
+    [ANSWERS, STEPS, CACHES, REFUSALS, JOURNALS, FORM_2, TALLIES].concat()
 }
 
 /// How often each row was met.
 #[derive(Default)]
 pub struct Coverage {
-    counts: BTreeMap<String, u64>,
+    met: Rows,
     /// Whether the journal that is played starts as one of the second form.
     second: bool,
     /// For each core that got 31 and has not received since, what made room since.
@@ -345,29 +344,23 @@ impl Coverage {
         let row = row.into();
         let of_form_2 = format!("fabric=2: {row}");
         if self.second && FORM_2.contains(&of_form_2.as_str()) {
-            *self.counts.entry(of_form_2).or_insert(0) += 1;
+            self.met.count(of_form_2);
         }
-        *self.counts.entry(row).or_insert(0) += 1;
+        self.met.count(row);
     }
 
     pub fn add(&mut self, other: &Coverage) {
-        for (row, count) in &other.counts {
-            *self.counts.entry(row.clone()).or_insert(0) += count;
-        }
+        self.met.add(&other.met);
     }
 
     /// The rows that were never met, and what was counted that is no row.
     pub fn missing(&self) -> Vec<String> {
-        let met = |row: &&str| self.counts.contains_key(*row);
-        let unmet = rows().filter(|row| !met(row)).map(String::from);
-        let unknown = self.counts.keys().filter(|name| !rows().any(|row| row == *name));
-        unmet.chain(unknown.map(|name| format!("{name}, which is no row"))).collect()
+        self.met.missing(&rows())
     }
 
     /// All rows with their counts, one a line.
     pub fn table(&self) -> String {
-        let count = |row| self.counts.get(row).copied().unwrap_or(0);
-        rows().map(|row| format!("{:>10}  {row}\n", count(row))).collect()
+        self.met.table(&rows())
     }
 
     /// Runs a journal, counts what occurs and gives the records. A second

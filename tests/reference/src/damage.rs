@@ -374,7 +374,7 @@ fn cut(random: &mut Random, mut text: Vec<u8>) -> Vec<u8> {
 }
 
 /// An opening with one or more sizes outside the limits, or just inside.
-fn with_sizes_outside(random: &mut Random, form: Form, text: Vec<u8>) -> Vec<u8> {
+pub fn with_sizes_outside(random: &mut Random, form: Form, text: Vec<u8>) -> Vec<u8> {
     let mut sizes = Sizes::SMALLEST;
     for _ in 0..random.between(1, 2) {
         match random.below(size_keys(form).len() as u32) {
@@ -408,7 +408,7 @@ fn with_bad_cap(random: &mut Random, text: Vec<u8>) -> Vec<u8> {
     let (sizes, cap) = opening.split_once(" cap=").unwrap_or((&opening, "1"));
     let (before, lease) = sizes.split_once(" lease=").unwrap_or((sizes, "1"));
     let wrong = wrong_number(random);
-    let above = opened_sizes(&text).lines + 1;
+    let above = opened_sizes(&text).lines.saturating_add(1);
     let bad = match random.below(14) {
         0 | 1 => sizes.to_string(),
         2 | 3 => format!("{sizes} cap={cap} cap={cap}"),

@@ -2,7 +2,8 @@
 //!
 //! `machine.rs` knows nothing of them: each fault bends the right step from the
 //! outside. Faults of the driver are asked for by `run.rs` and `listing.rs`, those
-//! of the tally by `tally.rs`.
+//! of the tally by `tally.rs`, and those of the conversion, which are in
+//! `conversion_faults.rs`, by `convert.rs`.
 
 use std::borrow::Cow;
 use std::ops::Range;
@@ -210,6 +211,64 @@ faults! {
     TallySwapsCommits "tally-swaps-commits" "the tally counts loads as stores, and stores as loads"
     TallyResetByRefusal "tally-reset-by-refusal" "a refusal sets the tally back to zeros"
     TallyLostAtBadLine "tally-lost-at-bad-line" "the tally is all zeros where a line ends the run"
+    // The conversion to the second form.
+    To2AllDrop "to2-all-drop" "every evict becomes a drop"
+    To2AllWriteback "to2-all-writeback" "every evict becomes a writeback"
+    To2AnyCopy "to2-any-copy" "the evict of a shared copy becomes a writeback too"
+    To2AllButShared "to2-all-but-shared" "an evict where there is no copy becomes a writeback too"
+    To2DirtyOnly "to2-dirty-only" "the evict of an owned copy that is not dirty becomes a drop"
+    To2ByLastMachine "to2-by-last-machine" "the machine at the run's end says whether a copy is owned"
+    To2OneStepEarly "to2-one-step-early" "the machine before the step above says whether a copy is owned"
+    To2ByManager "to2-by-manager" "the manager's owner of the line says whether a copy is owned"
+    To2OfAnyCore "to2-of-any-core" "an evict becomes a writeback where any core owns a copy of the line"
+    To2OfAnyLine "to2-of-any-line" "an evict becomes a writeback where the core owns a copy of any line"
+    To2WrappedCore "to2-wrapped-core" "the copy of a core that there is not is that of core modulo cores"
+    To2WrappedLine "to2-wrapped-line" "the copy of a line that there is not is that of line modulo lines"
+    To2FlatIndex "to2-flat-index" "a copy is the one at core x lines + line, whatever the line is"
+    To2EvictKept "to2-evict-kept" "evict stays in a journal of fabric=2"
+    To2RefusedLeftOut "to2-refused-left-out" "an evict that is refused is left out"
+    To2NoCap "to2-no-cap" "the first line of fabric=2 has no cap"
+    To2Cap1 "to2-cap-1" "the first line of fabric=2 has a cap of 1"
+    To2CapOfCores "to2-cap-of-cores" "the first line of fabric=2 has a cap of as many as cores"
+    // The conversion to the first form.
+    To1DropKept "to1-drop-kept" "drop stays in a journal of fabric=1"
+    To1WritebackKept "to1-writeback-kept" "writeback stays in a journal of fabric=1"
+    To1CapKept "to1-cap-kept" "the first line of fabric=1 has a cap"
+    To1CapTaken "to1-cap-taken" "a cap other than lines is taken"
+    To1VictimKept "to1-victim-kept" "victim stays in a journal of fabric=1"
+    To1VictimLeftOut "to1-victim-left-out" "a victim step is left out in silence"
+    To1RefusedVictimLeftOut "to1-refused-victim-left-out" "a victim step that is refused is left out in silence"
+    To130Taken "to1-30-taken" "a step that answers 30 becomes an evict"
+    To130OfDropTaken "to1-30-of-drop-taken" "a drop that answers 30 becomes an evict"
+    To130OfWritebackTaken "to1-30-of-writeback-taken" "a writeback that answers 30 becomes an evict"
+    To132For3 "to1-32-for-3" "32 for a drop or writeback that answers 3"
+    To132For4 "to1-32-for-4" "32 for a drop or writeback that answers 4"
+    To132For26 "to1-32-for-26" "32 for a drop or writeback that answers 26"
+    To132ForRefusals "to1-32-for-refusals" "32 for a step of another kind that is refused"
+    To132Before14 "to1-32-before-14" "32 before the input's 14"
+    To132BeforeLines "to1-32-before-lines" "32 before a malformed line's number"
+    To132Before7 "to1-32-before-7" "32 before 7"
+    To1Room14Before32 "to1-14-before-32" "the result's 14 before 32"
+    // Conversions both ways.
+    ConvertLinesBefore14 "convert-lines-before-14" "a malformed line's number before the input's 14"
+    Convert7Before14 "convert-7-before-14" "7 before the input's 14"
+    Convert7BeforeLines "convert-7-before-lines" "7 before the number of a malformed line further on"
+    ConvertRoomBeforeLines "convert-room-before-lines" "the result's 14 before a malformed line's number"
+    ConvertRoomBefore7 "convert-room-before-7" "the result's 14 before 7"
+    ConvertStopsAtBadLine "convert-stops-at-bad-line" "the journal ends at a malformed line, as a run does"
+    ConvertBadLinePassedOver "convert-bad-line-passed-over" "the first malformed line after the opening is passed over"
+    ConvertLastBadLine "convert-last-bad-line" "the last malformed line gives the number"
+    ConvertSmallestNumber "convert-smallest-number" "of several malformed lines the smallest number is given"
+    ConvertNewlineAdded "convert-newline-added" "a last line without newline is taken"
+    ConvertOtherFormCopied "convert-other-form-copied" "a journal that is of the result's form already is copied"
+    ConvertEmptyTaken "convert-empty-taken" "empty input gives an empty result"
+    ConvertLongResult "convert-long-result" "a result over 65,536 bytes is given"
+    ConvertShortRoom "convert-short-room" "14 for a result of exactly 65,536 bytes"
+    ConvertRefusedLeftOut "convert-refused-left-out" "steps that are refused are left out"
+    ConvertDataToWidth "convert-data-to-width" "a store's data are cut to the width"
+    ConvertUpperCase "convert-upper-case" "data are spelled in upper case"
+    ConvertSignedNumbers "convert-signed-numbers" "numbers from 2,147,483,648 on are spelled as negative ones"
+    ConvertNoLastNewline "convert-no-last-newline" "the last line's newline is left out"
 }
 
 impl Fault {

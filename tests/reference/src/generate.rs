@@ -26,6 +26,46 @@ pub fn journal(seed: u64) -> Vec<u8> {
     }
 }
 
+/// The journal of a seed for the conversion from this form. Of the second form, about two thirds
+/// keep to what the first has too, and the others do without a part of that; of both,
+/// some come to a length around the limit once they are converted.
+pub fn journal_to_convert(seed: u64, form: Form) -> Vec<u8> {
+    let mut random = Random::new(seed);
+    let damages = random.pick(&[0, 0, 0, 0, 0, 0, 0, 1, 1, 2]);
+    let length = match random.below(100) {
+        0..=4 => {
+            Length::Converted(MAX_JOURNAL + random.pick(&[0, 0, 1, 1, 2, 300]) - random.pick(&[0, 0, 0, 100]))
+        }
+        _ => length(&mut random, damages > 0),
+    };
+    if random.percent(1) {
+        return at_limit(&mut random, form);
+    }
+    let mut traffic = Traffic::new(&mut random, form).keeping_to_first_form();
+    if matches!(length, Length::Converted(_)) && traffic.random.percent(50) {
+        traffic.mood.weights = [40, 0, 5, 40, 15];
+    }
+    let mut text = traffic.journal(length);
+    for _ in 0..damages {
+        // A few bytes leave little to damage.
+        if text.len() > 100 {
+            text = damage::damage(&mut random, form, text);
+        }
+    }
+    text
+}
+
+/// A journal around the limit of 65,536 bytes that is too long once it is converted,
+/// mostly with sizes outside their limits.
+fn at_limit(random: &mut Random, form: Form) -> Vec<u8> {
+    let mut text = damage::with_sizes_outside(random, form, b"\n".to_vec());
+    if form == Form::Two {
+        text.extend(b"op=drop core=0 line=0\n".repeat(20));
+    }
+    fill_up(&mut text, MAX_JOURNAL + 1 - random.below(4) as usize);
+    text
+}
+
 /// A list of calls of a seed, on an engine of these sizes, of any capacity. It
 /// mixes evict, drop and writeback, which no journal can.
 pub fn calls(seed: u64, count: usize) -> (Sizes, Vec<Step>) {
@@ -48,6 +88,8 @@ pub enum Length {
     Steps(u32),
     /// Exactly this number of bytes.
     Exactly(usize),
+    /// Exactly this number of bytes once it is of the other form.
+    Converted(usize),
 }
 
 fn length(random: &mut Random, damaged: bool) -> Length {
@@ -126,12 +168,21 @@ impl Mood {
     }
 }
 
+/// What traffic of the second form does without, to keep to the first.
+#[derive(Clone, Copy, Default)]
+struct Without {
+    victims: bool,
+    /// Drops of owned copies and writebacks of shared ones.
+    misfits: bool,
+}
+
 /// A source of steps that belong together.
 pub struct Traffic<'a> {
     random: &'a mut Random,
     form: Form,
     /// Whether it has the evictions of both forms.
     mixed: bool,
+    without: Without,
     mood: Mood,
     machine: Machine,
     /// What each core wants to do until it commits.
@@ -150,7 +201,31 @@ impl<'a> Traffic<'a> {
     pub fn of_sizes(random: &'a mut Random, form: Form, sizes: Sizes) -> Traffic<'a> {
         let mood = Mood::new(random, &sizes);
         let machine = Machine::open(sizes).expect("sizes inside the limits");
-        Traffic { random, form, mixed: false, mood, machine, wishes: [None; MAX_CORES], remedy: None }
+        let without = Without::default();
+        Traffic {
+            random,
+            form,
+            mixed: false,
+            without,
+            mood,
+            machine,
+            wishes: [None; MAX_CORES],
+            remedy: None,
+        }
+    }
+
+    /// Traffic that mostly has no capacity other than lines, no victims, and no
+    /// evictions that do not fit the copy.
+    fn keeping_to_first_form(mut self) -> Traffic<'a> {
+        let all = self.random.percent(60);
+        let mut keeps = || all || self.random.percent(60);
+        let (cap, victims, misfits) = (keeps(), keeps(), keeps());
+        if cap {
+            let sizes = Sizes { cap: self.sizes().lines, ..self.sizes() };
+            self.machine = Machine::open(sizes).expect("sizes inside the limits");
+        }
+        self.without = Without { victims, misfits };
+        self
     }
 
     /// Only reasonable traffic, of all cores on all lines: no wild steps and low
@@ -176,23 +251,54 @@ impl<'a> Traffic<'a> {
         let (steps, limit) = match length {
             Length::Steps(steps) => (steps, MAX_JOURNAL),
             // Room for the lines that fill up to the exact length.
-            Length::Exactly(bytes) => (u32::MAX, bytes - 400),
+            Length::Exactly(bytes) | Length::Converted(bytes) => (u32::MAX, bytes - 400),
         };
+        let mut growth = self.growth_of_opening();
         for _ in 0..steps {
             let before = text.len();
             let step = self.mostly_fruitful_step();
             write_step(&mut text, &step);
             text.push(b'\n');
-            if text.len() > limit {
+            let converted = text.len().saturating_add_signed(growth + self.growth(&step));
+            if text.len() > limit || matches!(length, Length::Converted(_)) && converted > limit {
                 text.truncate(before);
                 break;
             }
+            growth += self.growth(&step);
             self.play(&step);
         }
-        if let Length::Exactly(bytes) = length {
-            fill_up(&mut text, bytes);
+        match length {
+            Length::Exactly(bytes) => fill_up(&mut text, bytes),
+            Length::Converted(bytes) => fill_up(&mut text, bytes.saturating_add_signed(-growth)),
+            Length::Steps(_) => {}
         }
         text
+    }
+
+    /// By how many bytes the first line of the other form is longer.
+    fn growth_of_opening(&self) -> isize {
+        let Sizes { lines, cap, .. } = self.sizes();
+        match self.form {
+            Form::One => format!(" cap={lines}").len() as isize,
+            Form::Two => -(format!(" cap={cap}").len() as isize),
+        }
+    }
+
+    /// By how many bytes a step's line of the other form is longer.
+    fn growth(&self, step: &Step) -> isize {
+        let Sizes { cores, lines, .. } = self.sizes();
+        match *step {
+            Step::Evict { core, line } if core < cores && line < lines => {
+                match self.machine.copy(core, line) {
+                    PrivateCopy::Owned { .. } => 4,
+                    _ => -1,
+                }
+            }
+            Step::Evict { .. } => -1,
+            Step::Drop { .. } => 1,
+            Step::Writeback { .. } => -4,
+            _ => 0,
+        }
     }
 
     /// Plays a step and forgets a wish that has come true.
@@ -254,14 +360,27 @@ impl<'a> Traffic<'a> {
 
     /// A step; one that the machine refuses is mostly given up for another.
     fn mostly_fruitful_step(&mut self) -> Step {
-        let mut step = self.next_step();
+        let mut step = self.kept_step();
         for _ in 0..3 {
             if self.machine.refusal(&step).is_none() || self.random.percent(20) {
                 break;
             }
-            step = self.next_step();
+            step = self.kept_step();
         }
         step
+    }
+
+    /// The next step, or another in its place where the traffic does without it.
+    fn kept_step(&mut self) -> Step {
+        match self.next_step() {
+            Step::Victim { core } if self.without.victims => Step::Fence { core },
+            step @ (Step::Drop { core, line } | Step::Writeback { core, line })
+                if self.without.misfits && self.machine.refusal(&step) == Some(30) =>
+            {
+                self.fitting_eviction(core, line)
+            }
+            step => step,
+        }
     }
 
     fn next_step(&mut self) -> Step {

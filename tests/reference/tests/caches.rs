@@ -2,6 +2,9 @@
 //! refusal 31, victim, states that hold more copies than the capacity or copies of
 //! lines that there are not, and that no core of a fresh engine ever holds more.
 
+mod common;
+
+use common::refusal;
 use reference::generate;
 use reference::journal::Form;
 use reference::machine::*;
@@ -32,18 +35,6 @@ fn holding(sizes: Sizes, copies: &[PrivateCopy]) -> Machine {
 fn answered(mut machine: Machine, grant: Grant, line: u32) -> Machine {
     machine.state.cores[1].slot = Slot::Answered { grant, line, wts: 3, rts: 8 };
     machine
-}
-
-/// The refusal of a call; the machine must stay as it was.
-fn refusal(machine: &mut Machine, step: Step) -> Option<u32> {
-    let before = machine.clone();
-    match machine.call(&step) {
-        Answer::Refused(number) => {
-            assert!(*machine == before, "{step:?} is refused with {number} and changes something");
-            Some(number)
-        }
-        _ => None,
-    }
 }
 
 /// The victim of core 1, which must leave the machine as it was.

@@ -1,6 +1,9 @@
 //! Refusals 1 to 7, 20 to 27 and 30, their order, and that a refused call changes
 //! nothing. The capacity and refusal 31 are in `caches.rs`.
 
+mod common;
+
+use common::refusal;
 use reference::generate;
 use reference::journal::{self, Lines};
 use reference::machine::*;
@@ -10,18 +13,6 @@ const FENCE: Step = Step::Fence { core: 0 };
 
 fn machine() -> Machine {
     Machine::open(SIZES).unwrap()
-}
-
-/// The refusal of a call; the machine must stay as it was.
-fn refusal(machine: &mut Machine, step: Step) -> Option<u32> {
-    let before = machine.clone();
-    match machine.call(&step) {
-        Answer::Refused(number) => {
-            assert!(*machine == before, "{step:?} is refused with {number} and changes something");
-            Some(number)
-        }
-        _ => None,
-    }
 }
 
 #[test]

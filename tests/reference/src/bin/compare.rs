@@ -15,30 +15,31 @@
 //! row of `coverage::rows`: few journals prove little.
 
 use std::io::Write;
+use std::ops::Range;
 use std::process::ExitCode;
 use std::sync::atomic::{AtomicU64, Ordering};
 use std::sync::Mutex;
 use std::time::{Duration, Instant};
 
+use reference::compared::{Compared, TRIES};
 use reference::coverage::Coverage;
 use reference::faults::Fault;
 use reference::generate;
 use reference::listing::{listing, listing_with_fault};
 use reference::order::{self, Ties};
-use reference::program::{self, Failure};
+use reference::program::{self, Printed};
 use reference::run::{overfull, Run};
-use reference::shrink::shrink;
+use reference::seeds::for_each_seed;
 use reference::tally::{tally_with_fault, Tallied, Tally};
 
-/// How many journals the search for a small one may try, and for how long.
-const TRIES: u32 = 4000;
-const TIME_TO_SHRINK: Duration = Duration::from_secs(60);
-
 /// What a program has to print for a journal, by a reference with a fault.
-type Printed = fn(&[u8], Fault) -> Vec<u8>;
+type Expected = fn(&[u8], Fault) -> Printed;
 
 /// What the programs have to print, in the order in which they are given.
-const PRINTED: [(&str, Printed); 2] = [("listings", listing_with_fault), ("tallies", tally_with_fault)];
+const PRINTED: [(&str, Expected); 2] = [
+    ("listings", |journal, fault| Printed::out(listing_with_fault(journal, fault))),
+    ("tallies", |journal, fault| Printed::out(tally_with_fault(journal, fault))),
+];
 
 /// What is wrong where asks is not what a run's answers and slots come to.
 const NOT_THE_SUM: &str = "the tally does not add up";
@@ -53,6 +54,12 @@ struct Options {
     patience: Duration,
     fault: Fault,
     programs: Vec<String>,
+}
+
+impl Options {
+    fn seeds(&self) -> Range<u64> {
+        self.first..self.first + self.count
+    }
 }
 
 fn main() -> ExitCode {
@@ -105,27 +112,6 @@ fn print(seed: u64) -> ExitCode {
     }
 }
 
-/// Calls a function for each seed, in several threads. It stops early once the
-/// function says so.
-fn for_each_seed(options: &Options, work: impl Fn(u64) -> bool + Sync) {
-    let next = AtomicU64::new(options.first);
-    let end = options.first + options.count;
-    let threads = std::thread::available_parallelism().map_or(2, |n| n.get().min(8));
-    std::thread::scope(|scope| {
-        for _ in 0..threads {
-            scope.spawn(|| loop {
-                let seed = next.fetch_add(1, Ordering::Relaxed);
-                if seed >= end {
-                    break;
-                }
-                if !work(seed) {
-                    next.store(end, Ordering::Relaxed);
-                }
-            });
-        }
-    });
-}
-
 /// Names the rows that were never met; whether there are none.
 fn whole(coverage: &Coverage) -> bool {
     let missing = coverage.missing();
@@ -154,31 +140,6 @@ fn none_failed(what: &str, failed: &[(u64, impl std::fmt::Debug)]) -> bool {
 
 // ---- Against programs ----
 
-/// A program that is compared, and what it has to print.
-struct Compared<'a> {
-    program: &'a str,
-    what: &'static str,
-    printed: Printed,
-    options: &'a Options,
-}
-
-impl Compared<'_> {
-    /// What the program prints for a journal.
-    fn run(&self, journal: &[u8]) -> Result<Vec<u8>, Failure> {
-        program::on_bytes(self.program, journal, self.options.patience)
-    }
-
-    /// What the reference prints for it.
-    fn expected(&self, journal: &[u8]) -> Vec<u8> {
-        (self.printed)(journal, self.options.fault)
-    }
-
-    /// Whether the program prints for a journal what the reference does.
-    fn agrees(&self, journal: &[u8]) -> bool {
-        self.run(journal).is_ok_and(|text| text == self.expected(journal))
-    }
-}
-
 fn compare(options: &Options) -> ExitCode {
     let start = Instant::now();
     let done = AtomicU64::new(0);
@@ -187,9 +148,12 @@ fn compare(options: &Options) -> ExitCode {
     let wrong_sums = Mutex::new(Vec::new());
     let too_full = Mutex::new(Vec::new());
     let programs = options.programs.iter().zip(PRINTED);
-    let programs = programs.map(|(program, (what, printed))| Compared { program, what, printed, options });
+    let programs = programs.map(|(program, (what, printed))| {
+        let (fault, patience) = (options.fault, options.patience);
+        Compared { program, what, printed, fault, patience, tries: TRIES }
+    });
     let programs: Vec<Compared> = programs.collect();
-    for_each_seed(options, |seed| {
+    for_each_seed(options.seeds(), |seed| {
         let journal = generate::journal(seed);
         let mut own = Coverage::default();
         own.run(&journal);
@@ -210,7 +174,7 @@ fn compare(options: &Options) -> ExitCode {
     });
     let done = done.into_inner();
     if let Some((seed, compared)) = differing.into_inner().unwrap() {
-        show_difference(seed, compared);
+        compared.show_difference(&format!("seed {seed}"), generate::journal(seed));
         println!("compare: a difference at seed {seed}, after {done} journals");
         return ExitCode::FAILURE;
     }
@@ -229,38 +193,6 @@ fn compare(options: &Options) -> ExitCode {
     exit(whole && add_up && within)
 }
 
-/// Shrinks the seed's journal and prints it with what both print for it.
-fn show_difference(seed: u64, compared: &Compared) {
-    let journal = generate::journal(seed);
-    let start = Instant::now();
-    let differs = |candidate: &[u8]| start.elapsed() < TIME_TO_SHRINK && !compared.agrees(candidate);
-    let small = match compared.run(&journal) {
-        Err(Failure::Hangs) => journal,
-        _ => shrink(&journal, TRIES, differs),
-    };
-    let what = compared.what;
-    println!("seed {seed}: the {what} differ. The smallest journal found ({} bytes):", small.len());
-    print_text(&small);
-    println!("the reference prints:");
-    print_text(&compared.expected(&small));
-    println!("{} prints:", compared.program);
-    match compared.run(&small) {
-        Ok(text) => print_text(&text),
-        Err(failure) => println!("    ({failure})"),
-    }
-}
-
-/// Prints a text indented, odd bytes made visible, long ones cut.
-fn print_text(text: &[u8]) {
-    for line in text.split_inclusive(|&byte| byte == b'\n').take(100) {
-        let (line, newline) = match line.strip_suffix(b"\n") {
-            Some(line) => (line, ""),
-            None => (line, "   (no newline)"),
-        };
-        println!("    {}{newline}", line.escape_ascii());
-    }
-}
-
 // ---- The reference alone ----
 
 fn self_test(options: &Options) -> ExitCode {
@@ -269,8 +201,9 @@ fn self_test(options: &Options) -> ExitCode {
     let disorders = Mutex::new(Vec::new());
     let wrong_sums = Mutex::new(Vec::new());
     let too_full = Mutex::new(Vec::new());
-    let shown: Vec<[AtomicU64; 3]> = Fault::ALL.iter().map(|_| Default::default()).collect();
-    for_each_seed(options, |seed| {
+    let faults: Vec<Fault> = Fault::ALL.iter().copied().filter(|fault| !fault.of_conversion()).collect();
+    let shown: Vec<[AtomicU64; 3]> = faults.iter().map(|_| Default::default()).collect();
+    for_each_seed(options.seeds(), |seed| {
         let journal = generate::journal(seed);
         let mut own = Coverage::default();
         let records = own.run(&journal);
@@ -292,7 +225,7 @@ fn self_test(options: &Options) -> ExitCode {
         // Every tenth short journal is enough to see what faults do.
         if seed % 10 == 0 && journal.len() < 10_000 {
             let (listing, tally) = (listing(&journal), Tallied::of(&journal, Fault::None).tally);
-            for (fault, counts) in Fault::ALL.iter().zip(&shown) {
+            for (fault, counts) in faults.iter().zip(&shown) {
                 for (count, by_this) in counts.iter().zip(shows(&journal, &listing, &tally, *fault)) {
                     count.fetch_add(u64::from(by_this), Ordering::Relaxed);
                 }
@@ -304,7 +237,7 @@ fn self_test(options: &Options) -> ExitCode {
     println!(
         "Of every tenth journal, how many show a fault by their listing, by demand 3, and by their tally:"
     );
-    for (fault, counts) in Fault::ALL.iter().zip(shown) {
+    for (fault, counts) in faults.iter().zip(shown) {
         let [by_listing, by_order, by_tally] = counts.map(AtomicU64::into_inner);
         println!("{by_listing:>10} {by_order:>8} {by_tally:>8}  {}", fault.name());
     }

@@ -9,26 +9,22 @@
 
 use std::path::Path;
 use std::process::ExitCode;
-use std::time::Duration;
 
 use reference::faults::Fault;
 use reference::kept::{self, Kept};
 use reference::listing::listing;
 use reference::order::{self, Ties};
-use reference::program::{self, Failure};
+use reference::program::{self, Printed};
 use reference::run::{overfull, Run};
 use reference::tally::Tallied;
+use reference::text::first_difference;
 
 /// What each program has to print for a kept journal: steps, then tally.
 const PRINTED: [fn(&Kept) -> &[u8]; 2] = [|kept| &kept.listing, |kept| &kept.tally];
 
 fn main() -> ExitCode {
     let mut arguments: Vec<String> = std::env::args().skip(1).collect();
-    let mut patience = Some(program::PATIENCE);
-    if arguments.first().is_some_and(|first| first == "--limit") {
-        patience = arguments.get(1).and_then(|text| text.parse().ok()).map(Duration::from_secs);
-        arguments.drain(..arguments.len().min(2));
-    }
+    let patience = program::patience_of(&mut arguments);
     let (Some(patience), Some(folder), true) = (patience, arguments.first(), arguments.len() <= 3) else {
         eprintln!("usage: kept [--limit SECONDS] FOLDER [STEPS [TALLY]]");
         return ExitCode::from(2);
@@ -49,7 +45,8 @@ fn main() -> ExitCode {
         }
     }
     for (program, printed) in arguments[1..].iter().zip(PRINTED) {
-        failed += failures_of(program, printed, folder, &all, patience);
+        let kept = all.iter().map(|kept| (kept.name.clone(), Printed::out(printed(kept).to_vec())));
+        failed += program::failures(program, folder, kept, patience);
     }
     println!("kept: {} journals, {failed} failures", all.len());
     if failed == 0 && !all.is_empty() {
@@ -82,42 +79,4 @@ fn troubles(kept: &Kept) -> Vec<String> {
         troubles.push(format!("demand 3 fails: {trouble:?}"));
     }
     troubles
-}
-
-/// Plays all kept journals through a program and counts the failures. It stops
-/// at a journal over which the program hangs.
-fn failures_of(
-    program: &str,
-    printed: fn(&Kept) -> &[u8],
-    folder: &Path,
-    all: &[Kept],
-    patience: Duration,
-) -> u32 {
-    let mut failed = 0;
-    for kept in all {
-        let journal = folder.join(format!("{}.journal", kept.name));
-        let (trouble, hangs) = match program::on_file(program, &journal, patience) {
-            Ok(text) if text == printed(kept) => continue,
-            Ok(text) => (first_difference(program, &text, printed(kept)), false),
-            Err(failure) => (format!("{program}: {failure}"), matches!(failure, Failure::Hangs)),
-        };
-        println!("{}: {trouble}", kept.name);
-        failed += 1;
-        if hangs {
-            break;
-        }
-    }
-    failed
-}
-
-/// Says on which line a text first differs from the kept one.
-fn first_difference(who: &str, text: &[u8], kept: &[u8]) -> String {
-    let lines = |text: &[u8]| -> Vec<String> {
-        let lines = text.split_inclusive(|&byte| byte == b'\n');
-        lines.map(|line| line.escape_ascii().to_string()).collect()
-    };
-    let (text, kept) = (lines(text), lines(kept));
-    let at = text.iter().zip(&kept).take_while(|(one, other)| one == other).count();
-    let show = |lines: &[String]| lines.get(at).cloned().unwrap_or("nothing".into());
-    format!("line {}: {who} has {}, kept is {}", at + 1, show(&text), show(&kept))
 }

@@ -1,44 +1,55 @@
 //! Reads a journal on standard input and writes its listing.
 //!
-//! Usage: reference [--fault NAME] [--order] [--tally]
+//! Usage: reference [--fault NAME] [--order] [--tally | --to1 | --to2]
 //!        reference --list-faults
 //!
 //! `--fault` switches a fault on. `--tally` writes the tally's line in the place
-//! of the listing. `--order` also checks demand 3 on the run's commits, says the
+//! of the listing; `--to1` and `--to2` write the journal in the other form, or the
+//! number of the refusal on standard error. `--order` also checks demand 3 on the run's commits, says the
 //! result on standard error and fails if it does not hold.
 
 use std::io::{Read, Write};
 use std::process::ExitCode;
 
+use reference::convert;
 use reference::faults::Fault;
-use reference::journal::MAX_JOURNAL;
+use reference::journal::{Form, MAX_JOURNAL};
 use reference::listing::listing_with_fault;
 use reference::order::{self, Ties};
+use reference::program::Printed;
 use reference::run::Run;
 use reference::tally::tally_with_fault;
 
 fn main() -> ExitCode {
     let mut fault = Fault::None;
     let mut order = false;
-    let mut print: fn(&[u8], Fault) -> Vec<u8> = listing_with_fault;
+    let mut print: fn(&[u8], Fault) -> Printed =
+        |journal, fault| Printed::out(listing_with_fault(journal, fault));
     let mut arguments = std::env::args().skip(1);
     while let Some(argument) = arguments.next() {
         match argument.as_str() {
             "--order" => order = true,
-            "--tally" => print = tally_with_fault,
+            "--tally" => print = |journal, fault| Printed::out(tally_with_fault(journal, fault)),
+            "--to1" => print = |journal, fault| convert::printed(Form::One, journal, fault),
+            "--to2" => print = |journal, fault| convert::printed(Form::Two, journal, fault),
             "--list-faults" => return list_faults(),
             "--fault" => match arguments.next().as_deref().and_then(Fault::named) {
                 Some(named) => fault = named,
                 None => return usage("--fault needs a name of --list-faults"),
             },
-            _ => return usage("usage: reference [--fault NAME] [--order] [--tally] | --list-faults"),
+            _ => {
+                return usage(
+                    "usage: reference [--fault NAME] [--order] [--tally | --to1 | --to2] | --list-faults",
+                )
+            }
         }
     }
     let journal = match read_journal() {
         Ok(journal) => journal,
         Err(error) => return usage(&format!("standard input: {error}")),
     };
-    if std::io::stdout().write_all(&print(&journal, fault)).is_err() {
+    let Printed { out, error } = print(&journal, fault);
+    if std::io::stdout().write_all(&out).and(std::io::stderr().write_all(&error)).is_err() {
         return ExitCode::FAILURE;
     }
     if order {
