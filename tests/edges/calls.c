@@ -1,5 +1,5 @@
 // A read and a write that do as the environment says on one descriptor, for a program that is started with this library preloaded.
-//   EDGE_FD      the descriptor: 0 or 1
+//   EDGE_FD      the descriptor: 0, 1 or 2
 //   EDGE_MOST    a call moves at most so many bytes
 //   EDGE_ERRNO   the error of the calls that fail: EDGE_TIMES of them, after EDGE_AFTER that do not
 #define _GNU_SOURCE
