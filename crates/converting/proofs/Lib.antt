@@ -3,3 +3,4 @@ pub mod Lists
 pub mod OneConversion
 pub mod Back
 pub mod Kept
+pub mod AnyBuffer
