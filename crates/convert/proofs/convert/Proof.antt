@@ -10,7 +10,7 @@ returns-2 : tie.Need-returns-2
 returns-2 c =
     let p = c .before .before .before .before .before in
     let n = p .before .before .before .before .before in
-    copied (length-written (n .before .before .write .ensures) (n .n2 .given .1)) (p .put-text .ensures) (c .before .e .given .1)
+    copied (length-written (n .before .before .write .ensures) (n .n2 .given .1)) {new = p .put-text .last .0} {r = p .put-text .result} (p .put-text .ensures) (c .before .e .given .1)
 
 returns-3 : tie.Need-returns-3
 returns-3 c =
