@@ -5,7 +5,7 @@
 // as they are.
 ghost use Prim.Native.Nat.{ℕ};
 ghost use mathlib.Core.Path.{_≡_};
-ghost use Rattle.protocol.specs.{Pick.{pick, fails}, Refusals.isEmpty, Machine.pieces, Tables.{heldOf, asking, refusedRow, effectOf}};
+ghost use Rattle.protocol.specs.{Pick.{pick, fails}, Stamps.after, Refusals.isEmpty, Machine.pieces, Tables.{heldOf, asking, refusedRow, effectOf}};
 use protocol::Answer;
 use protocol::Call;
 use protocol::Copy;
@@ -19,6 +19,7 @@ use protocol::Move;
 use protocol::Name;
 use protocol::Opening;
 use protocol::Slot;
+use protocol::Stamp;
 use protocol::Sum;
 use protocol::Want;
 
@@ -134,8 +135,19 @@ pub fn load(c: usize, l: usize, core: Core, copy: Copy, line: ManagerLine) -> Ef
     }
 }
 
-// store: commits on an owned copy, past its lease, or 27 where that passes the greatest timestamp; else
-// asks, or 20.
+// The earliest that the lease of an owned copy lets a store be: its end where the copy is dirty, else one
+// past it, where that is a timestamp.
+fn earliest_of(dirty: bool, rts: Stamp) -> Sum
+    ensures { λ r. ⌜ r ≡ pick dirty (Sum.At rts) (after rts 1) ⌝ }
+{
+    if dirty {
+        return Sum::At(rts);
+    }
+    rts.after(1)
+}
+
+// store: commits on an owned copy, past its lease or, where it is dirty, from the lease's end on, or 27
+// where rts + 1 passes the greatest timestamp; else asks, or 20.
 pub fn store(c: usize, l: usize, core: Core, copy: Copy, line: ManagerLine) -> Effect
     ensures { λ r. ⌜ ((g : Given) (n i : ℕ) (o : Opening) → r ≡ effectOf (Call.Store g c l) (pieces n core copy line i) o) ⌝ }
 {
@@ -144,7 +156,7 @@ pub fn store(c: usize, l: usize, core: Core, copy: Copy, line: ManagerLine) -> E
     match copy {
         Copy::None => ask(Want::Store, l, core, copy, line),
         Copy::Shared { .. } => ask(Want::Store, l, core, copy, line),
-        Copy::Owned { rts, .. } => match rts.after(1) {
+        Copy::Owned { dirty, rts, .. } => match earliest_of(dirty, rts) {
             Sum::Passes => refusals::refused(27, core, copy, line),
             Sum::At(earliest) => {
                 let clocks = before.store(earliest);

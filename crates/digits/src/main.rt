@@ -1,5 +1,5 @@
-// Stores in digits by direct calls, at every width: what right digits store, each number that right and wrong digits are refused
-// with, and that nothing is stored where a call asks or is refused. What it prints is compared with what the second implementation
+// Stores in digits by direct calls, at every width: what right digits store, also to a dirty line at the greatest timestamp, each
+// number that right and wrong digits are refused with, and that nothing is stored where a call asks or is refused. What it prints is compared with what the second implementation
 // answers to the same calls.
 //
 // For each width, on an engine of two cores and two lines, it prints the answers to a list of calls, each with digits of its own,
@@ -8,7 +8,7 @@
 //
 // A list has five bytes for each call: its kind, a digit for the core, a digit for the line, which digits it is given, and a blank.
 // The kinds are S a store in digits, B the same on a state with a lease of 0, T the same with a private buffer that is a byte short,
-// M advance by the greatest number, V serve and R receive. The digits are r those of a line, x the same with a wrong one first,
+// M advance by the greatest number, L load, V serve and R receive. The digits are r those of a line, x the same with a wrong one first,
 // o one digit less, l one more, f a byte less, m a byte more, and e none.
 ghost use Prim.Native.Nat.{_≤_};
 use engine::Returned;
@@ -29,11 +29,11 @@ const MOST_DIGITS: usize = 130;
 const HEX: [u8; 16] = *b"0123456789abcdef";
 
 // How many calls there are, and the calls.
-const CALLS: usize = 26;
+const CALLS: usize = 32;
 
 const LIST: [u8; 5 * CALLS] =
     *b"S11r V1.. R1.. S11r S11x S11o S11l S11e S11f S11m S21r S21x S12r S12x S01r S01r S01x B11r B11x T11r \
-      T11x M1.. S11r S11r S11x R0.. ";
+      T11x M1.. S11r S11r S11x S10r V1.. R1.. L10. S10r S10x R0.. ";
 
 // Writes what was put at the start of a buffer.
 fn write(out: &[u8], put: Put) {
@@ -66,8 +66,9 @@ fn print_bytes(text: &[u8], bytes: &[u8]) {
 }
 
 // A call of a kind that is no store.
-fn call_of(kind: u8, core: usize) -> Call {
+fn call_of(kind: u8, core: usize, line: usize) -> Call {
     match kind {
+        b'L' => Call::Load { core, line },
         b'M' => Call::Advance {
             core,
             by: 4294967295,
@@ -103,7 +104,7 @@ fn make(
         broken.state.opening.lease = 10;
         return broken;
     }
-    engine::step(s, private, shared, call_of(kind, core), b"")
+    engine::step(s, private, shared, call_of(kind, core, line), b"")
 }
 
 // How many digits a call is given on an engine of this width.

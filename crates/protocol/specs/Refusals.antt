@@ -1,5 +1,5 @@
 -- The refusals of the calls, in the scope document's order: "Checked in this order; first that applies." 30 is of 02, Two; that 13 is the
--- first check of a store in digits of 02, Three; 31, and the 26 of victim, of 02, Four.
+-- first check of a store in digits of 02, Three; 31, and the 26 of victim, of 02, Four; that a store to a dirty line is never 27 of 02, Six.
 use Prim.Native.Nat.{ℕ, _%_}
 use mathlib.Core.{Bool.{Bool, true, false}, List.{List, [], _∷_}}
 use lib.{Dec.{ltb, leb, eqb}, ListN.{length, take}}
@@ -155,11 +155,12 @@ loadAsks NoCopy lts = true
 loadAsks (CopyShared w r) lts = earlier r lts
 loadAsks (CopyOwned d w r) lts = false
 
--- rts + 1 passes the greatest timestamp (store to an owned line)
+-- rts + 1 passes the greatest timestamp (store to an owned line). 02, Six: "Number 27 no longer arises from a store to a dirty line."
 abbrev pub storePasses : Copy → Bool
 storePasses NoCopy = false
 storePasses (CopyShared w r) = false
-storePasses (CopyOwned d w r) = fails (canAdd r 1)
+storePasses (CopyOwned true w r) = false
+storePasses (CopyOwned false w r) = fails (canAdd r 1)
 
 -- asked lts + lease passes the greatest timestamp (serve of a load on a shared line)
 abbrev pub servePasses : Slot → Manager → Opening → Bool
@@ -187,10 +188,11 @@ noRoom x n o = both (fails (isHeld x)) (leb (o .cap) n)
 
 -- 20 to 27, 30 and 31, for each call those that speak of it.
 -- 20: load or store must ask, slot not empty. 21: serve, slot not asked. 22: receive, slot not answered. 23: yield, line not owned or no
--- recall. 24: yield, owner's copy not owned. 25: take, no writeback. 26: evict, no copy. 27: rts + 1 (store to an owned line), lts + by
--- (advance) or asked lts + lease (serve of a load on a shared line) passes the greatest timestamp. "30, the copy isn't of the state that the step
--- names, straight after 26": drop names a shared copy, writeback an owned one, and evict, drop and writeback alike are 26 without a copy. "31,
--- receive of share or own for a line not held, while cap or more copies are held; after 22". Victim: "a core without copies gets 26"
+-- recall. 24: yield, owner's copy not owned. 25: take, no writeback. 26: evict, no copy. 27: rts + 1 (store to an owned line not yet
+-- dirty), lts + by (advance) or asked lts + lease (serve of a load on a shared line) passes the greatest timestamp. "30, the copy isn't of the
+-- state that the step names, straight after 26": drop names a shared copy, writeback an owned one, and evict, drop and writeback alike are 26
+-- without a copy. "31, receive of share or own for a line not held, while cap or more copies are held; after 22". Victim: "a core without copies
+-- gets 26"
 unfoldable pub stateRules : Call → Pieces → Opening → List Rule
 stateRules (Load c l) p o = (both (loadAsks (p .copy) (p .core .clocks .lts)) (fails (isEmpty (p .core .slot))) gives 20) ∷ []
 stateRules (Store g c l) p o =

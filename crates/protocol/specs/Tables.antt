@@ -77,15 +77,17 @@ loadTable NoCopy c l p = asking WantLoad l p
 
 -- ---- store
 
--- the earliest that a store may stand, past the lease: rts + 1
-abbrev pub earliest : Stamp → Stamp
-earliest r = plus r 1
+-- the earliest that a copy's lease lets a store be, by whether the copy is dirty: rts + 1; 02, Six: "A store to a dirty line commits at
+-- max(lts, sts, rts); on an owned line not yet dirty, the old formula holds."
+abbrev pub earliest : Bool → Stamp → Stamp
+earliest true r = r
+earliest false r = plus r 1
 
--- "owned: ts = max(lts, sts, rts + 1); sts, wts and rts become ts, bytes replaced, dirty; commit at ts. Else: ask."
+-- "owned: ts = max(lts, sts, rts + 1); sts, wts and rts become ts, bytes replaced, dirty; commit at ts. Else: ask." Of a dirty copy rts for rts + 1
 unfoldable pub storeTable : Copy → ℕ → ℕ → Pieces → Effect
 storeTable (CopyOwned d w r) c l p =
-    row (Commit c (storeTime (p .core .clocks) (earliest r)) (OfStore l)) MoveStore (clocked (p .core) (stored (p .core .clocks) (earliest r)))
-    (CopyOwned true (storeTime (p .core .clocks) (earliest r)) (storeTime (p .core .clocks) (earliest r))) (p .line)
+    row (Commit c (storeTime (p .core .clocks) (earliest d r)) (OfStore l)) MoveStore (clocked (p .core) (stored (p .core .clocks) (earliest d r)))
+    (CopyOwned true (storeTime (p .core .clocks) (earliest d r)) (storeTime (p .core .clocks) (earliest d r))) (p .line)
 storeTable (CopyShared w r) c l p = asking WantStore l p
 storeTable NoCopy c l p = asking WantStore l p
 

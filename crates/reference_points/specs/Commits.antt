@@ -1,12 +1,13 @@
--- The commits of four short lists of calls: which calls commit, and what a commit carries (01, demand 3).
+-- The commits of five short lists of calls: which calls commit, and what a commit carries (01, demand 3).
 use Prim.Native.Nat.{ℕ}
 use mathlib.Core.{Path._≡_, List.{List, [], _∷_, map}}
 use Rattle.protocol.specs.{Stamps.stamp, Buffers.Bytes, Machine.freshMachine, Run.{Entry, Record, Commit, place, run}}
 use Rattle.protocol.specs.{Step.{Op, load, store, fence, Reply, refused, done, commit}, Order.commitsOf, declared.Opening.Opening}
-use Rattle.protocol.specs.declared.Call.{Call, the-variants.{Load, Store, Fence, Evict, Drop, Writeback as WriteBack, Advance, Serve, Receive, Take, Victim}}
+use Rattle.protocol.specs.declared.Call.{Call, the-variants.{Load, Store, Fence, Evict, Drop, Writeback as WriteBack, Advance, Serve, Receive}}
+use Rattle.protocol.specs.declared.Call.the-variants.{Yield, Take, Victim}
 use Rattle.protocol.specs.declared.Given.the-variants.{Bytes as AsBytes, Digits as AsDigits}
 use Rattle.protocol.specs.declared.Name.the-variants.{Ask as ask, Share as share, Own as own, Drop as dropped, Evict as evict, Writeback as writeback}
-use Rattle.protocol.specs.declared.Name.the-variants.{Take as taken, Advance as advance, Victim as victim}
+use Rattle.protocol.specs.declared.Name.the-variants.{Take as taken, Advance as advance, Victim as victim, Recall as recall, Yield as yield}
 use Rattle.spelling.specs.Text.{text}
 use Rattle.reference_points.specs.Numbers.{opening}
 
@@ -77,7 +78,7 @@ spelled =
     ∷ exchange (Store AsDigits 1 2) (text "1fa0") (commit 1 (stamp 1) (store 2 (31 ∷ 160 ∷ [])))
     ∷ exchange (Store AsDigits 1 2) (text "1fa") (refused 13)
     ∷ exchange (Load 1 2) [] (commit 1 (stamp 0) (load 2 (31 ∷ 160 ∷ [])))
-    ∷ exchange (Store AsBytes 1 2) (49 ∷ 50 ∷ []) (commit 1 (stamp 2) (store 2 (49 ∷ 50 ∷ [])))
+    ∷ exchange (Store AsBytes 1 2) (49 ∷ 50 ∷ []) (commit 1 (stamp 1) (store 2 (49 ∷ 50 ∷ [])))
     ∷ exchange (Store AsDigits 1 2) (text "12") (refused 5)
     ∷ exchange (Load 1 2) [] (commit 1 (stamp 0) (load 2 (49 ∷ 50 ∷ [])))
     ∷ []
@@ -101,6 +102,29 @@ filled =
     ∷ exchange (Victim 1) [] (done (victim 0))
     ∷ []
 
+-- core 1 stores to line 2 twice at one timestamp; core 0 has it downgraded, and is lent it until 10. Owned again it is not dirty: the store is past
+-- that lease, within which core 0 still reads its copy, and the next is at the same timestamp (02, Six)
+abbrev pub repeated : List Exchange
+repeated =
+    exchange (Store AsBytes 1 2) (1 ∷ 1 ∷ []) (done ask)
+    ∷ exchange (Serve 1) [] (done own)
+    ∷ exchange (Receive 1) [] (done own)
+    ∷ exchange (Store AsBytes 1 2) (1 ∷ 1 ∷ []) (commit 1 (stamp 1) (store 2 (1 ∷ 1 ∷ [])))
+    ∷ exchange (Store AsDigits 1 2) (text "0202") (commit 1 (stamp 1) (store 2 (2 ∷ 2 ∷ [])))
+    ∷ exchange (Load 0 2) [] (done ask)
+    ∷ exchange (Serve 0) [] (done recall)
+    ∷ exchange (Yield 2) [] (done yield)
+    ∷ exchange (Take 2) [] (done taken)
+    ∷ exchange (Serve 0) [] (done share)
+    ∷ exchange (Receive 0) [] (done share)
+    ∷ exchange (Store AsBytes 1 2) (3 ∷ 3 ∷ []) (done ask)
+    ∷ exchange (Serve 1) [] (done own)
+    ∷ exchange (Receive 1) [] (done own)
+    ∷ exchange (Store AsBytes 1 2) (3 ∷ 3 ∷ []) (commit 1 (stamp 11) (store 2 (3 ∷ 3 ∷ [])))
+    ∷ exchange (Load 0 2) [] (commit 0 (stamp 1) (load 2 (2 ∷ 2 ∷ [])))
+    ∷ exchange (Store AsBytes 1 2) (4 ∷ 4 ∷ []) (commit 1 (stamp 11) (store 2 (4 ∷ 4 ∷ [])))
+    ∷ []
+
 -- a commit: its place in the list of calls, core, timestamp, and what it did
 abbrev pub aCommit : {A : Type 0} → ℕ → ℕ → ℕ → Op A → Commit A
 aCommit p c t o = record { place = place p; core = c; ts = stamp t; op = o }
@@ -122,13 +146,22 @@ abbrev pub spelledCommits : List (Commit Bytes)
 spelledCommits =
     aCommit 5 1 1 (store 2 (31 ∷ 160 ∷ []))
     ∷ aCommit 7 1 0 (load 2 (31 ∷ 160 ∷ []))
-    ∷ aCommit 8 1 2 (store 2 (49 ∷ 50 ∷ []))
+    ∷ aCommit 8 1 1 (store 2 (49 ∷ 50 ∷ []))
     ∷ aCommit 10 1 0 (load 2 (49 ∷ 50 ∷ []))
     ∷ []
 
 abbrev pub filledCommits : List (Commit Bytes)
 filledCommits =
     aCommit 5 1 1 (store 2 (5 ∷ 6 ∷ [])) ∷ aCommit 10 1 0 (load 2 (5 ∷ 6 ∷ [])) ∷ aCommit 13 1 0 (load 0 (0 ∷ 0 ∷ [])) ∷ []
+
+abbrev pub repeatedCommits : List (Commit Bytes)
+repeatedCommits =
+    aCommit 4 1 1 (store 2 (1 ∷ 1 ∷ []))
+    ∷ aCommit 5 1 1 (store 2 (2 ∷ 2 ∷ []))
+    ∷ aCommit 15 1 11 (store 2 (3 ∷ 3 ∷ []))
+    ∷ aCommit 16 0 1 (load 2 (2 ∷ 2 ∷ []))
+    ∷ aCommit 17 1 11 (store 2 (4 ∷ 4 ∷ []))
+    ∷ []
 
 -- a list answers so, and has these commits
 pub record Commits (o : Opening) (xs : List Exchange) (cs : List (Commit Bytes)) : Type 0 where
@@ -138,3 +171,4 @@ pub record Commits (o : Opening) (xs : List Exchange) (cs : List (Commit Bytes))
 abbrev pub CommitsTheorem : Type 0
 CommitsTheorem =
     Commits small exchanges committed × Commits small givenUp givenUpCommits × Commits small spelled spelledCommits × Commits narrow filled filledCommits
+    × Commits small repeated repeatedCommits

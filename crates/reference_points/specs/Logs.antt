@@ -44,6 +44,9 @@ disobeying =
     ∷ (at 1 1 3 (store 0 1) ∷ at 2 0 3 (load 0 0) ∷ [])
     ∷ (at 1 0 3 (load 0 1) ∷ at 2 1 3 (store 0 1) ∷ [])
     ∷ (at 1 1 3 (store 0 1) ∷ at 2 0 3 (store 0 2) ∷ at 3 2 4 (load 0 1) ∷ [])
+    -- of one core's stores to a line at one timestamp another than the last made is read, by another core and by itself
+    ∷ (at 1 0 3 (store 0 1) ∷ at 2 0 3 (store 0 2) ∷ at 3 1 3 (load 0 1) ∷ [])
+    ∷ (at 1 0 3 (store 0 1) ∷ at 2 0 3 (store 0 2) ∷ at 3 0 1 (load 0 1) ∷ [])
     -- message passing: the flag is seen and the message is not
     ∷ (at 1 0 1 (store 0 1) ∷ at 2 0 2 (store 1 1) ∷ at 3 1 3 (load 1 1) ∷ at 4 1 4 (load 0 0) ∷ [])
     ∷ []
@@ -69,6 +72,9 @@ obeying =
     ∷ (at 1 1 3 (store 0 1) ∷ at 2 0 3 (load 0 1) ∷ [])
     ∷ (at 1 0 3 (load 0 0) ∷ at 2 1 3 (store 0 1) ∷ [])
     ∷ (at 1 1 3 (store 0 1) ∷ at 2 0 3 (store 0 2) ∷ at 3 2 4 (load 0 2) ∷ [])
+    -- one core's stores to a line at one timestamp: the last made is read, or, between them, the one made so far
+    ∷ (at 1 0 3 (store 0 1) ∷ at 2 0 3 (store 0 2) ∷ at 3 1 3 (load 0 2) ∷ at 4 0 1 (load 0 2) ∷ [])
+    ∷ (at 1 0 3 (store 0 1) ∷ at 2 1 3 (load 0 1) ∷ at 3 0 3 (store 0 2) ∷ [])
     ∷ []
 
 abbrev pub TsoTheorem : Type 0

@@ -52,9 +52,9 @@ waiting = pieces (core 7 9 (asked WantLoad 7 NothingHeld)) NoCopy (sharedLine 4 
 abbrev pub granted : Pieces
 granted = pieces (core 7 9 (answered GrantOwn 4 9)) NoCopy (sharedLine 4 9)
 
--- an owned copy at the greatest timestamp
+-- an owned copy, not dirty, at the greatest timestamp
 abbrev pub full : Pieces
-full = pieces (core 7 9 Empty) (dirtyCopy 6 greatest) (ownedLine 1 NoRecall)
+full = pieces (core 7 9 Empty) (cleanCopy 6 greatest) (ownedLine 1 NoRecall)
 
 abbrev pub causes : List Refusal
 causes =
@@ -138,9 +138,9 @@ causes =
     ∷ cause 26 granted (Drop 1 2)
     ∷ cause 26 idle (WriteBack 1 2)
     ∷ cause 26 (pieces (core 7 9 Empty) NoCopy (busy (ownedLine 1 NoRecall))) (WriteBack 1 2)
-    -- 27 rts + 1 (store to an owned line), lts + by (advance) or asked lts + lease (serve of a load on a shared line) passes 4,294,967,295
+    -- 27 rts + 1 (store to an owned line not yet dirty), lts + by (advance) or asked lts + lease (serve of a load on a shared line) passes 4,294,967,295
     ∷ cause 27 full (Store AsBytes 1 2)
-    ∷ cause 27 (pieces (core 7 9 askedElsewhere) (cleanCopy 6 greatest) (busy (ownedLine 1 NoRecall))) (Store AsBytes 1 2)
+    ∷ cause 27 (pieces (core greatest greatest askedElsewhere) (cleanCopy greatest greatest) (busy (ownedLine 1 NoRecall))) (Store AsBytes 1 2)
     ∷ cause 27 (pieces (core 7 9 Empty) NoCopy (sharedLine 4 9)) (Advance 1 4294967289)
     ∷ cause 27 (pieces (core 1 9 askedElsewhere) (sharedCopy 4 9) (sharedLine 4 9)) (Advance 1 greatest)
     ∷ cause 27 (pieces (core 7 9 (asked WantLoad 4294967286 NothingHeld)) NoCopy (sharedLine 4 greatest)) (Serve 1)

@@ -1,4 +1,5 @@
--- The reference points W1 to W12 of 01, one row each (a point that names two leases has two).
+-- The reference points W1 to W12 of 01, one row each (a point that names two leases has two). 02, Six: "W1 to W4 read as stores to lines not yet
+-- dirty"; the same four of a dirty line stand beside them.
 --
 -- What a point does not name is set so that a step which looks at it or changes it shows: where nothing is asked, the slot is in use for another
 -- line, and the manager's line has a recall and a writeback; a load finds sts later than all the rest.
@@ -11,9 +12,9 @@ use Rattle.protocol.specs.declared.Call.the-variants.{Load, Serve}
 use Rattle.reference_points.specs.Rows.{core, asked, answered, askedElsewhere, sharedCopy, cleanCopy, dirtyCopy, sharedLine, ownedLine, pieces}
 use Rattle.reference_points.specs.{Rows.{busy, greatest, unmoved, Row, row, AllHold}, Steps.{asking, loadingOver, storing, fencingOver, withBytes}}
 
--- a store to an owned line, not dirty: lts, sts and rts before it, and its ts
-abbrev pub storeRow : ℕ → ℕ → ℕ → ℕ → Row
-storeRow lts sts rts ts = storing askedElsewhere (busy (ownedLine 1 NoRecall)) lts sts (cleanCopy 0 rts) ts
+-- a store to an owned line: lts, sts and the copy before it, and its ts
+abbrev pub storeRow : ℕ → ℕ → Copy → ℕ → Row
+storeRow lts sts x ts = storing askedElsewhere (busy (ownedLine 1 NoRecall)) lts sts x ts
 
 -- a load that commits: the line at the manager, lts and the copy before it, its ts, and the copy after it
 abbrev pub loadRow : ManagerLine → ℕ → Copy → ℕ → Copy → Row
@@ -28,14 +29,18 @@ loadServed lts rts = pieces (core lts 0 (answered GrantShare 0 rts)) NoCopy (sha
 
 abbrev pub points : List Row
 points =
-    -- W1 store: lts 0, sts 0, rts 0: ts 1
-    storeRow 0 0 0 1
-    -- W2 rts 10: 11
-    ∷ storeRow 0 0 10 11
-    -- W3 lts 20, sts 15, rts 10: 20
-    ∷ storeRow 20 15 10 20
-    -- W4 lts 0, sts 30, rts 10: 30
-    ∷ storeRow 0 30 10 30
+    -- W1 store: lts 0, sts 0, rts 0: ts 1; dirty: 0
+    storeRow 0 0 (cleanCopy 0 0) 1
+    ∷ storeRow 0 0 (dirtyCopy 0 0) 0
+    -- W2 rts 10: 11; dirty: 10
+    ∷ storeRow 0 0 (cleanCopy 0 10) 11
+    ∷ storeRow 0 0 (dirtyCopy 0 10) 10
+    -- W3 lts 20, sts 15, rts 10: 20; dirty: 20
+    ∷ storeRow 20 15 (cleanCopy 0 10) 20
+    ∷ storeRow 20 15 (dirtyCopy 0 10) 20
+    -- W4 lts 0, sts 30, rts 10: 30; dirty: 30
+    ∷ storeRow 0 30 (cleanCopy 0 10) 30
+    ∷ storeRow 0 30 (dirtyCopy 0 10) 30
     -- Shared wts 4, rts 9: W5 lts 9: ts 9
     ∷ loadRow (sharedLine 4 9) 9 (sharedCopy 4 9) 9 (sharedCopy 4 9)
     -- W6 lts 10: ask

@@ -115,7 +115,7 @@ cell x = record { copy = x }
 
 -- the state with this lease and these pieces, and with room for a copy of each line. Core 2 asks to store to line 1, which is shared, with wts
 -- later than rts. Cores 3 and 4 and lines 4 and 5 lie outside the sizes: core 3 has lts at the greatest timestamp, an answered slot and an owned
--- copy of line 2 at the greatest rts; core 4 asked at the greatest timestamp; core 1 has such a copy of line 4 too; line 4 has an owner, and line 5
+-- copy of line 2, not dirty, at the greatest rts; core 4 asked at the greatest timestamp; core 1 has such a copy of line 4 too; line 4 has an owner, and line 5
 -- an owner who holds no copy, and a recall
 abbrev pub stateOf : ℕ → Pieces → State
 stateOf lease p =
@@ -126,10 +126,10 @@ stateOf lease p =
           ∷ core greatest 1 (Answered GrantShare 4 (stamp 1) (stamp 1)) ∷ core 1 1 (asked WantLoad greatest NothingHeld) ∷ replicate 11 freshCore;
       cell =
           cell (dirtyCopy 6 8) ∷ cell (sharedCopy 1 2) ∷ cell (sharedCopy 2 3) ∷ replicate 61 freshCell
-          ++ cell (sharedCopy 3 4) ∷ cell (sharedCopy 8 12) ∷ cell (p .copy) ∷ cell (cleanCopy 5 9) ∷ cell (dirtyCopy 6 greatest)
+          ++ cell (sharedCopy 3 4) ∷ cell (sharedCopy 8 12) ∷ cell (p .copy) ∷ cell (cleanCopy 5 9) ∷ cell (cleanCopy 6 greatest)
           ∷ replicate 59 freshCell
           ++ cell NoCopy ∷ cell (sharedCopy 8 9) ∷ cell (sharedCopy 1 3) ∷ replicate 61 freshCell
-          ++ cell NoCopy ∷ cell NoCopy ∷ cell (dirtyCopy 6 greatest) ∷ replicate 829 freshCell;
+          ++ cell NoCopy ∷ cell NoCopy ∷ cell (cleanCopy 6 greatest) ∷ replicate 829 freshCell;
       line =
           withWriteback 5 7 (ownedLine 0 Downgrade) ∷ sharedLine 8 7 ∷ p .line ∷ ownedLine 1 NoRecall ∷ ownedLine 3 NoRecall ∷ ownedLine 1 Flush
           ∷ replicate 58 freshLine;

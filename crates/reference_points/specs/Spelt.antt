@@ -55,11 +55,11 @@ turnedLetters = text "badcfe9a5f"
 abbrev pub turnedLetterBytes : Bytes
 turnedLetterBytes = 186 ∷ 220 ∷ 254 ∷ 154 ∷ 95 ∷ []
 
--- a store that commits at 14: the digits, and the bytes that the commit carries and the copy then has
+-- a store that commits at 13: the digits, and the bytes that the commit carries and the copy then has
 abbrev pub storing : Bytes → Bytes → Spelt
 storing ds bs =
-    spelt (pieces (core 7 9 Empty) (dirtyCopy 11 13) (ownedLine 1 NoRecall)) ds (commit 1 (stamp 14) (store 2 bs))
-    (pieces (core 7 14 Empty) (dirtyCopy 14 14) (ownedLine 1 NoRecall)) (places bs managerBytes writebackBytes answerBytes)
+    spelt (pieces (core 7 9 Empty) (dirtyCopy 11 13) (ownedLine 1 NoRecall)) ds (commit 1 (stamp 13) (store 2 bs))
+    (pieces (core 7 13 Empty) (dirtyCopy 13 13) (ownedLine 1 NoRecall)) (places bs managerBytes writebackBytes answerBytes)
 
 abbrev pub speltRows : List Spelt
 speltRows =

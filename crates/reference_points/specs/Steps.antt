@@ -1,4 +1,4 @@
--- The step tables of 01 and of 02, Two, row by row: beside the reference points, what each step does to the core, its copy, the manager's line and the bytes.
+-- The step tables of 01 and of 02, Two and Six, row by row: beside the reference points, what each step does to the core, its copy, the manager's line and the bytes.
 -- What it leaves shows where there is something to leave: a slot in use, a copy held, a recall and a writeback. So does a number that comes early.
 use Prim.Native.Nat.{ℕ}
 use mathlib.Core.{Path._≡_, List.{List, [], _∷_, _++_, map}}
@@ -83,14 +83,26 @@ storing s m lts sts x ts =
 abbrev pub storeRows : List Row
 storeRows =
     -- "owned: ts = max(lts, sts, rts + 1); sts, wts and rts become ts, bytes replaced, dirty; commit at ts"
-    storing Empty (ownedLine 1 NoRecall) 7 9 (dirtyCopy 11 13) 14
-    ∷ storing askedElsewhere (ownedLine 1 Flush) 7 9 (dirtyCopy 6 6) 9
+    storing Empty (ownedLine 1 NoRecall) 7 9 (cleanCopy 11 13) 14
+    ∷ storing askedElsewhere (ownedLine 1 Flush) 7 9 (cleanCopy 6 6) 9
     ∷ storing answeredElsewhere (busy (ownedLine 1 NoRecall)) 12 9 (cleanCopy 6 8) 12
     ∷ storing (answered GrantRenew 4 15) (busy (ownedLine 1 NoRecall)) 7 9 (cleanCopy 6 20) 21
-    -- up to the greatest timestamp: rts + 1 reaches it; lts is there; sts is
+    -- "A store to a dirty line commits at max(lts, sts, rts)": again at rts, which is the wts or later; at sts; at lts; wts is not looked at
+    ∷ storing Empty (ownedLine 1 NoRecall) 7 9 (dirtyCopy 11 11) 11
+    ∷ storing askedElsewhere (ownedLine 1 Flush) 7 9 (dirtyCopy 11 13) 13
+    ∷ storing answeredElsewhere (busy (ownedLine 1 NoRecall)) 7 9 (dirtyCopy 6 8) 9
+    ∷ storing (answered GrantRenew 4 15) (busy (ownedLine 1 NoRecall)) 12 9 (dirtyCopy 6 8) 12
+    ∷ storing Empty (ownedLine 1 NoRecall) 7 9 (dirtyCopy 20 8) 9
+    -- up to the greatest timestamp: rts + 1 reaches it; lts is there; sts is; of a dirty copy rts
     ∷ storing Empty (ownedLine 1 NoRecall) 7 9 (cleanCopy 6 4294967294) greatest
+    ∷ storing Empty (ownedLine 1 NoRecall) greatest 9 (cleanCopy 6 8) greatest
+    ∷ storing Empty (ownedLine 1 NoRecall) 7 greatest (cleanCopy 6 8) greatest
     ∷ storing Empty (ownedLine 1 NoRecall) greatest 9 (dirtyCopy 6 8) greatest
     ∷ storing Empty (ownedLine 1 NoRecall) 7 greatest (dirtyCopy 6 8) greatest
+    ∷ storing askedElsewhere (ownedLine 1 Flush) 7 9 (dirtyCopy 6 4294967294) 4294967294
+    -- "Number 27 no longer arises from a store to a dirty line"
+    ∷ storing Empty (ownedLine 1 NoRecall) 7 9 (dirtyCopy 6 greatest) greatest
+    ∷ storing askedElsewhere (busy (ownedLine 1 NoRecall)) greatest greatest (dirtyCopy greatest greatest) greatest
     ∷ []
 
 -- a fence: the slot, the copy and the manager's line, which stay; lts and sts before it, and its ts

@@ -2,7 +2,8 @@
 use mathlib.Core.Path.{refl, sym, _∙_}
 use borrow.Author.Needs.{needs}
 use Rattle.protocol.specs.{Machine.pieces, Pick.{fails, first}, Refusals.{isEmpty, stateRules, stateRefusal}, Tables.{storeTable, tableOf, effectOf}}
-use Rattle.protocol.proofs.{Stamps.{sum-at, sum-passes}, Refusals.ruled}
+use Rattle.protocol.proofs.Refusals.{ruled}
+use Rattle.core_rows.proofs.Laws.{store-at, store-passes}
 use Rattle.core_rows.proofs.store.Statement.{statement}
 use Rattle.core_rows.proofs.store.Tie as tie
 
@@ -19,15 +20,18 @@ unfolding effectOf stateRefusal stateRules first
 returns-3 c g n i o =
     let b = c .before .before .before in
     let x = b .before .before in
-    rw (c .refused .ensures, x .copy .given .1, sum-passes (x .copy .given .0 .1 .1 .0) 1 (sym (b .after .ensures) ∙ c .before .enum-told3 .given .1))
+    let v = x .copy .given .0 in
+    rw (c .refused .ensures, x .copy .given .1, store-passes (v .0) (v .1 .0) (v .1 .1 .0) (sym (b .earliest-of .ensures) ∙ c .before .enum-told3 .given .1))
 
 returns-4 : tie.Need-returns-4
 unfolding effectOf tableOf storeTable stateRefusal stateRules first
 returns-4 c g n i o =
     let e = c .before .before .before in
     let b = e .before .before in
-    let s = sum-at (b .before .before .copy .given .0 .1 .1 .0) 1 (sym (b .after .ensures) ∙ e .earliest .given .1) in
-    rw (c .before .store .ensures, b .before .before .copy .given .1, s .0, s .1)
+    let x = b .before .before in
+    let v = x .copy .given .0 in
+    let s = store-at (v .0) (v .1 .0) (v .1 .1 .0) (sym (b .earliest-of .ensures) ∙ e .earliest .given .1) in
+    rw (c .before .store .ensures, x .copy .given .1, s .0, s .1)
 
 pub store-spec : {M : Type 1} → statement M
 store-spec =

@@ -1,4 +1,4 @@
--- The list has 26 calls; the buffers keep their lengths.
+-- The list has 32 calls; the buffers keep their lengths.
 use Prim.Native.Nat.{_≤_, _-_}
 use mathlib.Core.Path.{_≡_, _∙_}
 use native.Mathlib.Omega.{arith}
@@ -8,10 +8,10 @@ use Rattle.digits.proofs.play.Statement.{statement}
 use Rattle.digits.proofs.play.Tie as tie
 
 abbrev Inv-loop : tie.InvT-loop
-Inv-loop width private₀ shared₀ d₀ i₀ private shared d i = (i ≤ 26) × (length private ≡ length private₀) × (length shared ≡ length shared₀)
+Inv-loop width private₀ shared₀ d₀ i₀ private shared d i = (i ≤ 32) × (length private ≡ length private₀) × (length shared ≡ length shared₀)
 
 abbrev μ-loop : tie.MeasureT-loop
-μ-loop width private₀ shared₀ d₀ i₀ private shared d i = 26 - i
+μ-loop width private₀ shared₀ d₀ i₀ private shared d i = 32 - i
 
 loop-again : tie.Need-loop-again Inv-loop μ-loop
 loop-again c =

@@ -78,10 +78,15 @@ module _ (c l : ℕ) (w r : Stamp) (p : Pieces) where
 
   -- ---- store
 
-  -- a store is past the lease of its copy, and at or after both clocks
-  pub store-past : (d : Bool) → r .0 < timeOf (storeTable (CopyOwned d w r) c l p .answer)
+  -- a store is at or after the end of its copy's lease, past it if the copy is not dirty, and at or after both clocks
+  pub store-from : (d : Bool) → r .0 ≤ timeOf (storeTable (CopyOwned d w r) c l p .answer)
   unfolding storeTable
-  store-past d = omega arith
+  store-from true = omega arith
+  store-from false = omega arith
+
+  pub store-past : r .0 < timeOf (storeTable (CopyOwned false w r) c l p .answer)
+  unfolding storeTable
+  store-past = omega arith
 
   pub store-after-loads : (d : Bool) → p .core .clocks .lts .0 ≤ timeOf (storeTable (CopyOwned d w r) c l p .answer)
   unfolding storeTable

@@ -27,8 +27,8 @@ use Rattle.protocol.proofs.Order.Versions.{version, IsAt, here, carry, 
 use Rattle.protocol.proofs.Order.Versions.{MarksAgree, lease-of, lease-renewed, reads-snapshot, reads-newest, reads-mine}
 use Rattle.protocol.proofs.Order.Look.{LineCell, Value, cells, marks, look, viewCopy, viewManager, viewWriteback, granted, view-at, view-none, SpeaksOf}
 use Rattle.protocol.proofs.Order.Look.{SlotStep}
-use Rattle.protocol.proofs.Order.Rows.{read-within, lease-grows, read-after, read-clocked, read-version, shared-version, shared-within, store-past}
-use Rattle.protocol.proofs.Order.Rows.{store-after-loads, store-after-stores, same-version, grant-within, manager-grows, evict-lease, yield-lease}
+use Rattle.protocol.proofs.Order.Rows.{timeOf, read-within, lease-grows, read-after, read-clocked, read-version, shared-version, shared-within}
+use Rattle.protocol.proofs.Order.Rows.{store-from, store-past, store-after-loads, store-after-stores, same-version, grant-within, manager-grows, evict-lease, yield-lease}
 use Rattle.protocol.proofs.Order.Rows.{evict-moves, yield-moves}
 use Rattle.protocol.proofs.Order.Invariant.{Onward, Writes, On, Passed, Allowed, Beside, VersionOf, SpotOf, LineInv, Inv, clocks-applied, inv-applied}
 use Rattle.protocol.proofs.Order.Invariant.{Leaves, line-applied}
@@ -231,6 +231,15 @@ module _ (z : Value) (p : ℕ) {H : List (Commit Bytes)} (given : Bytes) {m : Ma
 
   -- ---- stores
 
+  -- a store to an owned copy is past every lease handed out: they end before the copy's version was made if it is dirty, and within the copy's
+  -- own lease if it is not
+  past-leases : (b : Bool) (w r : Stamp) → copyAt (m .state) c l ≡ CopyOwned b w r
+      → g .leased < timeOf (storeTable (CopyOwned b w r) c l ps .answer)
+  past-leases true w r e =
+      let v = at-copy (CopyOwned true w r) e in
+      omega (arith, v .1 tt .1, v .0 .isR, ok .wr, store-from c l w r ps true)
+  past-leases false w r e = let v = at-copy (CopyOwned false w r) e in omega (arith, v .0 .isR, ok .lr, store-past c l w r ps)
+
   -- what loads from or stores to line l is on it
   on-line : (l′ : ℕ) (a : Commit Bytes) (y : Bytes) → l′ ≡ l → Loads l′ a y ⊎ Stores l′ a y → On l a
   on-line l′ a y i (inl e) = rw e i
@@ -289,7 +298,7 @@ module _ (z : Value) (p : ℕ) {H : List (Commit Bytes)} (given : Bytes) {m : Ma
     record {
       inOrder = all-map (λ a i j y. kept-all (a .op) (a .ts .0) (t .0) (k .clocks) (store-after-loads c l w r ps b) (store-after-stores c l w r ps b) (i j)) (I .clocks c);
       sees = λ l′ y i. absurd (let n : _≡_ {A = ℕ} 0 1 = cc in omega arith);
-      above = λ l′ y i. all-map (λ a j u n. omega (arith, j (on-line l′ a u (cc) n), v .isR, store-past c l w r ps b)) (ok .top);
+      above = λ l′ y i. all-map (λ a j u n. omega (arith, j (on-line l′ a u (cc) n), v .isR, store-from c l w r ps b)) (ok .top);
     },
     commits-keeps fit (inl (refl, tt)) (λ s. absurd (owner-silent e s)) (omega arith, store-after-stores c l w r ps b) t (store l given) (omega arith)
         (λ l′ n y i. n (cc)) (λ l′ n i. n (sym i))
@@ -303,7 +312,7 @@ module _ (z : Value) (p : ℕ) {H : List (Commit Bytes)} (given : Bytes) {m : Ma
   )
     where
       t : Stamp
-      t = storeTime (k .clocks) (earliest r)
+      t = storeTime (k .clocks) (earliest b r)
 
       x : Commit Bytes
       x = commitBy p c t (store l given)
@@ -312,10 +321,10 @@ module _ (z : Value) (p : ℕ) {H : List (Commit Bytes)} (given : Bytes) {m : Ma
       v = at-copy (CopyOwned b w r) e .0
 
       h₁ : g .leased < t .0
-      h₁ = omega (arith, v .isR, ok .lr, store-past c l w r ps b)
+      h₁ = past-leases b w r e
 
       h₂ : g .r ≤ t .0
-      h₂ = omega (arith, v .isR, store-past c l w r ps b)
+      h₂ = omega (arith, v .isR, store-from c l w r ps b)
 
       -- it writes every cell
       all : (i : LineCell) → Written z (Writes l) (On l) H g x i given (mine c)
