@@ -4,11 +4,12 @@ use mathlib.Core.{Path.{_≡_, refl, sym, ap}, Bool.{Bool, true, false}}
 use native.Mathlib.Omega.{arith}
 use borrow.Author.Tests.{eqb-true}
 use Rattle.protocol.specs.{Stamps.stamp, Machine.Pieces}
-use Rattle.protocol.specs.Tables.{loadOwned, loadShared, storeTable, evictTable, sameVersion, leasedTo, serveLoad, yieldTable}
+use Rattle.protocol.specs.Tables.{loadOwned, loadShared, storeTable, evictTable, sameVersion, leasedTo, serveLoad, receiveGrant, yieldTable}
 use Rattle.protocol.specs.declared.{Name.Name, Stamp.Stamp, Copy.{Copy, the-variants.{None as NoCopy, Shared as CopyShared, Owned as CopyOwned}}}
 use Rattle.protocol.specs.declared.{Held.{Held, the-variants.{None as NothingHeld, Version}}, Slot.{Slot, the-variants.{Empty, Asked, Answered}}}
 use Rattle.protocol.specs.declared.{Manager.{Manager, the-variants.{Shared, Owned}}, Writeback.{Writeback, the-variants.{None as NoWriteback, Flight}}}
 use Rattle.protocol.specs.declared.{Answer.{Answer, the-variants.{Refused, Done, Commit}}, Move.the-variants.Writeback as MoveWriteback}
+use Rattle.protocol.specs.declared.Grant.the-variants.{Own as GrantOwn}
 use Rattle.protocol.proofs.Tests.{never}
 
 -- ---- the timestamps in a row
@@ -116,6 +117,13 @@ pub manager-grows : (l : ℕ) (w r t : Stamp) (lease : ℕ) (p : Pieces) (d : Bo
 unfolding serveLoad
 manager-grows l w r t lease p true = omega arith
 manager-grows l w r t lease p false = omega arith
+
+-- ---- receive
+
+-- a line that a core was given is not dirty, whichever copy of it the core held
+pub own-clean : (w r : Stamp) (p : Pieces) → receiveGrant GrantOwn w r p .copy ≡ CopyOwned false w r
+unfolding receiveGrant
+own-clean w r p = refl
 
 -- ---- evict, drop, writeback, yield and take
 

@@ -8,15 +8,16 @@ use Rattle.protocol.specs.{Given.bytesGiven, Stamps.later, Clock.storeTi
 use Rattle.protocol.specs.{Machine.{Machine, Pieces, piecesAt, coreAt, copyAt, lineAt, applied}, Copies.isOwned}
 use Rattle.protocol.specs.{Step.{Op, load, store, fence, Reply, refused, done, commit, meaning, Outcome, accepted, step}, Run.{place, Commit, commitAt}}
 use Rattle.protocol.specs.Order.{TsoKeeps, Loads, Stores}
-use Rattle.protocol.specs.Tables.{row, heldOf, loadOwned, earliest, storeTable, fenceTable, advanceTable, evictTable, leasedTo, serveLoad, serveAsked}
+use Rattle.protocol.specs.Tables.{row, slotted, heldOf, loadOwned, earliest, storeTable, fenceTable, advanceTable, evictTable, leasedTo, serveLoad, serveAsked}
 use Rattle.protocol.specs.Tables.{receiveRenew, receiveGrant, yielded, yieldTable, takeTable, victimTable, writtenBack}
 use Rattle.protocol.specs.declared.{Stamp.Stamp, Clocks.Clocks, Copy.{Copy, the-variants.{None as NoCopy, Shared as CopyShared, Owned as CopyOwned}}}
 use Rattle.protocol.specs.declared.{Want.{Want, the-variants.{Load as WantLoad, Store as WantStore}}, Held.{Held, the-variants.Version}}
 use Rattle.protocol.specs.declared.{Grant.{Grant, the-variants.{Share as GrantShare, Renew as GrantRenew, Own as GrantOwn}}, Core.Core}
 use Rattle.protocol.specs.declared.{Manager.{Manager, the-variants.Shared}, Recall.{Recall, the-variants.{None as NoRecall, Downgrade, Flush}}}
 use Rattle.protocol.specs.declared.{Writeback.{Writeback, the-variants.Flight}, Opening.Opening, Call.{Call, the-variants.Load}}
-use Rattle.protocol.specs.declared.{Answer.{Answer, the-variants.Done}, Move.{Move, the-variants.Writeback as MoveWriteback}, Effect.Effect}
-use Rattle.protocol.specs.declared.{Slot.the-variants.{Asked, Answered}, Name.the-variants.Yield as Yielded}
+use Rattle.protocol.specs.declared.{Answer.{Answer, the-variants.Done}, Effect.Effect}
+use Rattle.protocol.specs.declared.Move.{Move, the-variants.{Receive as MoveReceive, Writeback as MoveWriteback}}
+use Rattle.protocol.specs.declared.{Slot.the-variants.{Empty, Asked, Answered}, Name.the-variants.{Own, Yield as Yielded}}
 use Rattle.protocol.proofs.{Tests.never, Refusals.{Fit, machine-fit}, Written.core-at, Keep.{EffectFits, made-fits}}
 use Rattle.protocol.proofs.Cases.{Row, asks-load, reads-shared, reads-dirty, reads-clean, asks-store, writes, fences, advances, evicts-shared}
 use Rattle.protocol.proofs.Cases.{evicts-owned, recalls, renews, shares, grants, gets-share, gets-own, gets-renewal, drops-none, drops-owned, yields}
@@ -29,7 +30,7 @@ use Rattle.protocol.proofs.Order.Look.{LineCell, Value, cells, marks, l
 use Rattle.protocol.proofs.Order.Look.{SlotStep}
 use Rattle.protocol.proofs.Order.Rows.{timeOf, read-within, lease-grows, read-after, read-clocked, read-version, shared-version, shared-within}
 use Rattle.protocol.proofs.Order.Rows.{store-from, store-past, store-after-loads, store-after-stores, same-version, grant-within, manager-grows, evict-lease, yield-lease}
-use Rattle.protocol.proofs.Order.Rows.{evict-moves, yield-moves}
+use Rattle.protocol.proofs.Order.Rows.{own-clean, evict-moves, yield-moves}
 use Rattle.protocol.proofs.Order.Invariant.{Onward, Writes, On, Passed, Allowed, Beside, VersionOf, SpotOf, LineInv, Inv, clocks-applied, inv-applied}
 use Rattle.protocol.proofs.Order.Invariant.{Leaves, line-applied}
 
@@ -245,6 +246,20 @@ module _ (z : Value) (p : ℕ) {H : List (Commit Bytes)} (given : Bytes) {m : Ma
   on-line l′ a y i (inl e) = rw e i
   on-line l′ a y i (inr e) = rw e i
 
+  -- ---- a line that was given
+
+  -- its newest version, in the slot until now, is the copy's; v is that copy
+  gets-line : (v : Copy) {w r : Stamp} → k .slot ≡ Answered GrantOwn l w r → v ≡ CopyOwned false w r
+      → Fitting (row (Done Own) MoveReceive (slotted k Empty) (CopyOwned false w r) (lineAt (m .state) l))
+      → Inv z H (next (row (Done Own) MoveReceive (slotted k Empty) v (lineAt (m .state) l)))
+  unfolding look
+  gets-line v {w} {r} e i fit =
+      let u = at-slot GrantOwn w r e .0 in
+      rw i
+      (keeps fit (inr (λ l′ n. absurd n)) (λ n. absurd n) (omega arith)
+      (goes fit u (λ n. n refl) (atCopy c) (r .0) (g .leased) (omega arith) (omega arith) (omega (arith, ok .lr, u .isR))
+      (λ ok′ stay. (stay atManager refl, stay atWriteback refl, (here, λ j. tt), tt))))
+
   -- ---- writebacks
 
   -- an owner's version goes to the writeback, with its bytes and its whole lease; u is what its copy becomes
@@ -391,11 +406,7 @@ module _ (z : Value) (p : ℕ) {H : List (Commit Bytes)} (given : Bytes) {m : Ma
       (λ ok′ stay. (tt, stay atWriteback refl, stay (atCopy c) refl, rw (view-at l GrantOwn w r line) (here, λ j. tt))))
   row-good (gets-share {w = w} {r = r} e) fit =
       keeps fit (inr (λ l′ n. absurd n)) (λ n. absurd n) (omega arith) (as-was fit (at atManager, at atWriteback, at-slot GrantShare w r e, tt))
-  row-good (gets-own {w = w} {r = r} e) fit =
-      let u = at-slot GrantOwn w r e .0 in
-      keeps fit (inr (λ l′ n. absurd n)) (λ n. absurd n) (omega arith)
-      (goes fit u (λ n. n refl) (atCopy c) (r .0) (g .leased) (omega arith) (omega arith) (omega (arith, ok .lr, u .isR))
-      (λ ok′ stay. (stay atManager refl, stay atWriteback refl, (here, λ j. tt), tt)))
+  row-good (gets-own {w = w} {r = r} e) fit = gets-line (receiveGrant GrantOwn w r ps .copy) e (own-clean w r ps) fit
   row-good (gets-renewal {w = w} {r = r} {v = w₁} {q = r₁} e i) fit =
       let j : w ≡ w₁ = (rw (e, i) at pair) refl in
       let y = at-slot GrantRenew w r e in
