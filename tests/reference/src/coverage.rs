@@ -6,7 +6,12 @@
 //! need a broken state or buffer, answers that find an owned copy, and a late
 //! renewal that finds a full cache. A core's copies come only by the answer in its
 //! one slot, so a share or renewal that is under way never finds its own copy
-//! owned, and where a renewal's copy is gone, nothing has come in its place.
+//! owned, and where a renewal's copy is gone, nothing has come in its place. Nor
+//! does rts alone decide on a store to a dirty line: it is the timestamp of the
+//! core's store that made the copy, or of a load of the core since, so it never
+//! passes both clocks.
+
+use std::collections::BTreeMap;
 
 use crate::journal::{self, kind_name, unknown_kind, Form, MAX_JOURNAL, MAX_LINE};
 use crate::listing::done_name;
@@ -50,9 +55,10 @@ const STEPS: &[&str] = &[
     "store: owned clean, at lts",
     "store: owned clean, at sts",
     "store: owned clean, at rts + 1",
-    "store: owned dirty, at lts",
-    "store: owned dirty, at sts",
-    "store: owned dirty, at rts + 1",
+    "store: owned dirty, at wts again",
+    "store: owned dirty, at rts past wts",
+    "store: owned dirty, at lts past rts",
+    "store: owned dirty, at sts past rts",
     "store: shared",
     "store: no copy",
     "store: commits within 2,000 of the greatest timestamp",
@@ -138,6 +144,20 @@ const CACHES: &[&str] = &[
     "victim: full",
     "victim: room is left",
     "victim: an answer waits for room",
+];
+
+/// 02, "Repeated stores without a new timestamp": where the two formulas part,
+/// lines that were dirty and are not any more, though their core owns them again,
+/// and stores of one timestamp to one line.
+const REPEATED: &[&str] = &[
+    "store: owned clean, rts + 1 is the greatest timestamp",
+    "store: owned dirty, rts is the greatest timestamp",
+    "store: owned dirty, a recall stands",
+    "store: owned again after a downgrade, past another core's lease",
+    "store: owned again after an eviction, past another core's lease",
+    "store: owned again after a flush, past another core's lease",
+    "load: at the timestamp of several stores of another core to the line",
+    "refused 27: store, the line was dirty before",
 ];
 
 /// 01, "Refused because of the input" and "of the state".
@@ -318,7 +338,7 @@ const TALLIES: &[&str] = &[
 
 /// Every row that generated journals must meet.
 pub fn rows() -> Vec<&'static str> {
-    [ANSWERS, STEPS, CACHES, REFUSALS, JOURNALS, FORM_2, TALLIES].concat()
+    [ANSWERS, STEPS, CACHES, REPEATED, REFUSALS, JOURNALS, FORM_2, TALLIES].concat()
 }
 
 /// How often each row was met.
@@ -329,6 +349,19 @@ pub struct Coverage {
     second: bool,
     /// For each core that got 31 and has not received since, what made room since.
     waiting: [Option<Room>; MAX_CORES],
+    /// For each core and line that was dirty and has not been stored to by that core
+    /// since: by what the core ceased to own it.
+    lost: BTreeMap<(u32, u32), &'static str>,
+    /// For each line its last stores.
+    stored: BTreeMap<u32, Stored>,
+}
+
+/// The last stores to a line, as many as one core made at one timestamp.
+#[derive(Clone, Copy)]
+struct Stored {
+    core: u32,
+    ts: u32,
+    count: u32,
 }
 
 /// What has made room in a cache since 31.
@@ -368,6 +401,8 @@ impl Coverage {
     pub fn run(&mut self, journal: &[u8]) -> Vec<Record> {
         self.second = journal.starts_with(Form::Two.start().as_bytes());
         self.waiting = [None; MAX_CORES];
+        self.lost.clear();
+        self.stored.clear();
         self.count_limits(journal);
         let mut records = Vec::new();
         let mut run = Run::new(journal);
@@ -382,6 +417,7 @@ impl Coverage {
                 (Some(machine), Some(step)) => {
                     self.count_step(step, record.answer, &machine.state);
                     self.count_room(step, record.answer, machine);
+                    self.count_repeated(step, record.answer, &machine.state);
                     machine.step(step);
                 }
                 _ => {}
@@ -438,6 +474,77 @@ impl Coverage {
     fn made_room(&mut self, core: u32, kind: &'static str) {
         if let Some(room) = &mut self.waiting[core as usize] {
             *room = Room::By(kind);
+        }
+    }
+
+    /// What a store or a load has to do with the stores to its line before it.
+    fn count_repeated(&mut self, step: &Step, answer: Answer, before: &State) {
+        match (*step, answer) {
+            (Step::Store { core, line, .. }, Answer::Commit(Commit::Store { ts, .. })) => {
+                self.count_store(core, line, before);
+                let count = match self.stored.get(&line) {
+                    Some(last) if (last.core, last.ts) == (core, ts) => last.count + 1,
+                    _ => 1,
+                };
+                self.stored.insert(line, Stored { core, ts, count });
+            }
+            (Step::Store { core, line, .. }, Answer::Refused(27))
+                if self.lost.contains_key(&(core, line)) =>
+            {
+                self.count("refused 27: store, the line was dirty before");
+            }
+            (Step::Load { core, line }, Answer::Commit(Commit::Load { ts, .. })) => {
+                let several = |last: &Stored| last.core != core && last.ts == ts && last.count > 1;
+                if self.stored.get(&line).is_some_and(several) {
+                    self.count("load: at the timestamp of several stores of another core to the line");
+                }
+            }
+            (Step::Evict { core, line }, Answer::Evict)
+            | (Step::Writeback { core, line }, Answer::Writeback) => {
+                self.lose(core, line, "an eviction", before);
+            }
+            (Step::Yield { line }, Answer::Yield) => match before.lines[line as usize] {
+                Line { holder: Holder::Owned { core }, recall: Recall::Flush, .. } => {
+                    self.lose(core, line, "a flush", before);
+                }
+                Line { holder: Holder::Owned { core }, .. } => self.lose(core, line, "a downgrade", before),
+                _ => {}
+            },
+            _ => {}
+        }
+    }
+
+    /// Notes by what a core ceases to own a line, if it is dirty.
+    fn lose(&mut self, core: u32, line: u32, by: &'static str, before: &State) {
+        if matches!(copy(before, core, line), PrivateCopy::Owned { dirty: true, .. }) {
+            self.lost.insert((core, line), by);
+        }
+    }
+
+    /// How a store that commits stands to the greatest timestamp, to a recall, and
+    /// to the leases of the line that were given since it was dirty last.
+    fn count_store(&mut self, core: u32, line: u32, before: &State) {
+        let PrivateCopy::Owned { rts, dirty, .. } = copy(before, core, line) else {
+            return;
+        };
+        let lost = self.lost.remove(&(core, line));
+        match (dirty, rts) {
+            (true, GREATEST) => self.count("store: owned dirty, rts is the greatest timestamp"),
+            (false, rts) if rts == GREATEST - 1 => {
+                self.count("store: owned clean, rts + 1 is the greatest timestamp");
+            }
+            _ => {}
+        }
+        if dirty && before.lines[line as usize].recall != Recall::None {
+            self.count("store: owned dirty, a recall stands");
+        }
+        let Core { lts, sts, .. } = before.cores[core as usize];
+        let lent =
+            |other| matches!(copy(before, other, line), PrivateCopy::Shared { rts: end, .. } if end == rts);
+        if let Some(by) = lost {
+            if rts >= lts.max(sts) && (0..before.sizes.cores).any(lent) {
+                self.count(format!("store: owned again after {by}, past another core's lease"));
+            }
         }
     }
 
@@ -944,18 +1051,18 @@ fn load_row(lts: u32, copy: PrivateCopy) -> &'static str {
     }
 }
 
-fn store_row(clocks: &Core, copy: PrivateCopy) -> String {
+fn store_row(clocks: &Core, copy: PrivateCopy) -> &'static str {
+    let Core { lts, sts, .. } = *clocks;
     match copy {
-        PrivateCopy::None => "no copy".into(),
-        PrivateCopy::Shared { .. } => "shared".into(),
-        PrivateCopy::Owned { rts, dirty, .. } => {
-            let at = match () {
-                _ if rts >= clocks.lts.max(clocks.sts) => "rts + 1",
-                _ if clocks.lts >= clocks.sts => "lts",
-                _ => "sts",
-            };
-            format!("owned {}, at {at}", if dirty { "dirty" } else { "clean" })
-        }
+        PrivateCopy::None => "no copy",
+        PrivateCopy::Shared { .. } => "shared",
+        PrivateCopy::Owned { rts, dirty: false, .. } if rts >= lts.max(sts) => "owned clean, at rts + 1",
+        PrivateCopy::Owned { dirty: false, .. } if lts >= sts => "owned clean, at lts",
+        PrivateCopy::Owned { dirty: false, .. } => "owned clean, at sts",
+        PrivateCopy::Owned { wts, rts, .. } if wts >= lts.max(sts).max(rts) => "owned dirty, at wts again",
+        PrivateCopy::Owned { rts, .. } if rts >= lts.max(sts) => "owned dirty, at rts past wts",
+        PrivateCopy::Owned { .. } if lts >= sts => "owned dirty, at lts past rts",
+        PrivateCopy::Owned { .. } => "owned dirty, at sts past rts",
     }
 }
 

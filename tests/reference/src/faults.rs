@@ -41,7 +41,7 @@ faults! {
     // Named in 01, "Faults I have met".
     OwnerReadLeavesRts "owner-read-leaves-rts" "an owner's read past rts leaves rts"
     CleanLoadLeavesLts "clean-load-leaves-lts" "a load of an owned line not yet dirty leaves lts below wts"
-    StoreAtRts "store-at-rts" "a store commits at rts, where a shared reader may stand"
+    StoreAtRts "store-at-rts" "a store to a line not yet dirty commits at rts, where a shared reader may stand"
     RenewalRevives "renewal-revives" "a renewal makes an evicted copy again"
     TiesByCore "ties-by-core" "commits of equal timestamp are sorted by core"
     // Of the store whose bytes are given in digits (02, "Store bytes without the scratch line").
@@ -57,7 +57,7 @@ faults! {
     MovesNothing "moves-nothing" "no step but a store moves bytes"
     Early20 "early-20" "20 for a load or store that hits while the slot is taken"
     Early22 "early-22" "22 for a renewal whose copy is gone"
-    Early27Store "early-27-store" "27 for a store where rts + 1 is exactly 4,294,967,295"
+    Early27Store "early-27-store" "27 for a store to a line not yet dirty where rts + 1 is exactly 4,294,967,295"
     Early27Advance "early-27-advance" "27 for an advance where lts + by is exactly 4,294,967,295"
     Early27Serve "early-27-serve" "27 for a serve where asked lts + lease is exactly 4,294,967,295"
     Early27Owned "early-27-owned" "27 for a serve on an owned line"
@@ -164,6 +164,17 @@ faults! {
     VictimTakesTurns "victim-takes-turns" "a shared victim gets the largest rts, so that another is next"
     VictimWithoutCopies "victim-without-copies" "a core without copies gets line 0, and not 26"
     VictimFullOnly "victim-full-only" "26 for a victim where the cache is not full"
+    // Repeated stores. A store to a dirty line at max(lts, sts), without rts, is none of them: no run shows it,
+    // since rts of a dirty copy never passes both clocks (`tests/repeated.rs`).
+    DirtyStorePastRts "dirty-store-past-rts" "a store to a dirty line commits past its rts, as one to a line not yet dirty does"
+    DirtyStore27 "dirty-store-27" "27 for a store to a dirty line where rts + 1 passes the greatest timestamp"
+    DirtyStoreBeforeLts "dirty-store-before-lts" "a store to a dirty line commits at max(sts, rts)"
+    DirtyStoreBeforeSts "dirty-store-before-sts" "a store to a dirty line commits at max(lts, rts)"
+    DirtyStoreAtWts "dirty-store-at-wts" "a store to a dirty line commits at the timestamp of the store before it"
+    DirtyKeptByDowngrade "dirty-kept-by-downgrade" "a line that was dirty when it was downgraded is dirty as soon as its core owns it again"
+    DirtyKeptByEviction "dirty-kept-by-eviction" "a line that was dirty when it was evicted, written back or flushed is dirty as soon as its core owns it again"
+    DirtyWhenOwned "dirty-when-owned" "a line is dirty as soon as it is owned"
+    Store27LeftOut "store-27-left-out" "a store to a line not yet dirty commits at the greatest timestamp where rts + 1 passes it, and 27 is due"
     // The driver.
     RefusalAsCommit "refusal-as-commit" "the end line counts a refusal as a commit"
     OtherCoreTs "other-core-ts" "a commit prints the lts of core 0"
@@ -484,11 +495,14 @@ pub struct Faulty {
     grants: u32,
     /// For each core, by how many a fault miscounts its copies.
     miscounted: [u32; MAX_CORES],
+    /// For each core and line, whether a fault makes it dirty when it is owned again.
+    still_dirty: [[bool; MAX_LINES]; MAX_CORES],
 }
 
 impl Faulty {
     pub fn new(machine: Machine, fault: Fault) -> Faulty {
-        Faulty { machine, fault, grants: 0, miscounted: [0; MAX_CORES] }
+        let still_dirty = [[false; MAX_LINES]; MAX_CORES];
+        Faulty { machine, fault, grants: 0, miscounted: [0; MAX_CORES], still_dirty }
     }
 
     /// One step. Nothing comes back if the fault skips it.
@@ -514,7 +528,15 @@ impl Faulty {
         match self.fault {
             Fault::OwnerReadLeavesRts => self.owner_read_leaves_rts(step, before, answer),
             Fault::CleanLoadLeavesLts => self.clean_load_leaves_lts(step, before, answer),
-            Fault::StoreAtRts => self.store_at_rts(step, before, answer),
+            Fault::StoreAtRts
+            | Fault::DirtyStorePastRts
+            | Fault::DirtyStoreBeforeLts
+            | Fault::DirtyStoreBeforeSts
+            | Fault::DirtyStoreAtWts => self.stores_at(step, before, answer),
+            Fault::DirtyStore27 => self.dirty_store_27(step, before, answer),
+            Fault::DirtyKeptByDowngrade | Fault::DirtyKeptByEviction => self.dirty_kept(step, before, answer),
+            Fault::DirtyWhenOwned => self.dirty_when_owned(step, before, answer),
+            Fault::Store27LeftOut => self.store_27_left_out(step, before, answer),
             Fault::RenewalRevives => self.renewal_revives(step, before, answer),
             Fault::AlwaysAsks => self.always_asks(step, before, answer),
             Fault::ServeMovesNothing => self.serve_moves_nothing(step, before, answer, 0),
@@ -709,18 +731,87 @@ impl Faulty {
         Answer::Commit(Commit::Load { core, line, ts, data })
     }
 
-    fn store_at_rts(&mut self, step: &Step, before: &Machine, answer: Answer) -> Answer {
-        let Some((core, line, PrivateCopy::Owned { rts, .. })) = Self::copy_before(step, before) else {
+    /// A store that commits at another timestamp.
+    fn stores_at(&mut self, step: &Step, before: &Machine, answer: Answer) -> Answer {
+        let Some((core, line, PrivateCopy::Owned { wts, rts, dirty })) = Self::copy_before(step, before)
+        else {
             return answer;
         };
         let Answer::Commit(Commit::Store { data, .. }) = answer else {
             return answer;
         };
-        let clocks = before.state.cores[core as usize];
-        let ts = clocks.lts.max(clocks.sts).max(rts);
+        let Core { lts, sts, .. } = before.state.cores[core as usize];
+        let ts = match (self.fault, dirty) {
+            (Fault::StoreAtRts, false) => lts.max(sts).max(rts),
+            (Fault::DirtyStorePastRts, true) => lts.max(sts).max(rts.saturating_add(1)),
+            (Fault::DirtyStoreBeforeLts, true) => sts.max(rts),
+            (Fault::DirtyStoreBeforeSts, true) => lts.max(rts),
+            (Fault::DirtyStoreAtWts, true) => wts,
+            _ => return answer,
+        };
         self.machine.state.cores[core as usize].sts = ts;
         self.machine.set_copy(core, line, PrivateCopy::Owned { wts: ts, rts: ts, dirty: true });
         Answer::Commit(Commit::Store { core, line, ts, data })
+    }
+
+    fn dirty_store_27(&mut self, step: &Step, before: &Machine, answer: Answer) -> Answer {
+        let passes = matches!(
+            Self::copy_before(step, before),
+            Some((_, _, PrivateCopy::Owned { rts: GREATEST, dirty: true, .. }))
+        );
+        let stores = matches!(answer, Answer::Commit(Commit::Store { .. }));
+        self.refuse_if(passes && stores, before, 27, answer)
+    }
+
+    /// The store is made as if the line were dirty.
+    fn store_27_left_out(&mut self, step: &Step, before: &Machine, answer: Answer) -> Answer {
+        let (Step::Store { .. }, Answer::Refused(27)) = (step, answer) else {
+            return answer;
+        };
+        if let Some((core, line, PrivateCopy::Owned { wts, rts, .. })) = Self::copy_before(step, before) {
+            self.machine.set_copy(core, line, PrivateCopy::Owned { wts, rts, dirty: true });
+            return self.machine.step(step);
+        }
+        answer
+    }
+
+    /// A copy that was dirty when it was owned last is dirty when it is owned again.
+    fn dirty_kept(&mut self, step: &Step, before: &Machine, answer: Answer) -> Answer {
+        if let Some((core, line)) = self.keeps_dirty(step, before, answer) {
+            self.still_dirty[core as usize][line as usize] = true;
+        }
+        if let (Some((core, line)), Answer::Own) = (Self::received(step, before), answer) {
+            if std::mem::take(&mut self.still_dirty[core as usize][line as usize]) {
+                return self.dirty_when_owned(step, before, answer);
+            }
+        }
+        answer
+    }
+
+    /// The dirty copy that a step leaves owned no more, if this fault keeps it dirty.
+    fn keeps_dirty(&self, step: &Step, before: &Machine, answer: Answer) -> Option<(u32, u32)> {
+        let (core, line, recall) = match (*step, answer) {
+            (Step::Evict { core, line }, Answer::Evict)
+            | (Step::Writeback { core, line }, Answer::Writeback) => (core, line, Recall::None),
+            (Step::Yield { line }, Answer::Yield) => match before.state.lines[line as usize] {
+                Line { holder: Holder::Owned { core }, recall, .. } => (core, line, recall),
+                _ => return None,
+            },
+            _ => return None,
+        };
+        let dirty = matches!(before.copy(core, line), PrivateCopy::Owned { dirty: true, .. });
+        let downgrades = self.fault == Fault::DirtyKeptByDowngrade;
+        (dirty && downgrades == (recall == Recall::Downgrade)).then_some((core, line))
+    }
+
+    fn dirty_when_owned(&mut self, step: &Step, before: &Machine, answer: Answer) -> Answer {
+        let (Some((core, line)), Answer::Own) = (Self::received(step, before), answer) else {
+            return answer;
+        };
+        if let PrivateCopy::Owned { wts, rts, .. } = self.machine.copy(core, line) {
+            self.machine.set_copy(core, line, PrivateCopy::Owned { wts, rts, dirty: true });
+        }
+        answer
     }
 
     fn renewal_revives(&mut self, step: &Step, before: &Machine, answer: Answer) -> Answer {
@@ -773,7 +864,7 @@ impl Faulty {
         let sum = match (self.fault, step, answer) {
             (Fault::Early27Store, Step::Store { .. }, Answer::Commit(_)) => {
                 match Self::copy_before(step, before) {
-                    Some((_, _, PrivateCopy::Owned { rts, .. })) => rts.checked_add(1),
+                    Some((_, _, PrivateCopy::Owned { rts, dirty: false, .. })) => rts.checked_add(1),
                     _ => None,
                 }
             }

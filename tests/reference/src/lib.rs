@@ -1,6 +1,6 @@
 //! A second implementation of document 01, and of 02's tally, drop and writeback,
-//! store in digits, caches with a size and journals between the two forms, written
-//! from these documents alone.
+//! store in digits, caches with a size, journals between the two forms and repeated
+//! stores, written from these documents alone.
 //!
 //! It exists to be compared with the product: the same journal must give the
 //! same listing, the same tally and the same journal of the other form, byte for

@@ -1,7 +1,8 @@
 //! The machine of document 01: its parts, its steps and its refusals; with drop
 //! and writeback and their refusal 30, of 02, "Evict becomes drop and writeback";
-//! the store in digits of 02, "Store bytes without the scratch line"; and the
-//! capacity with its refusal 31, and victim, of 02, "Caches with a size".
+//! the store in digits of 02, "Store bytes without the scratch line"; the
+//! capacity with its refusal 31, and victim, of 02, "Caches with a size"; and the
+//! store to a dirty line of 02, "Repeated stores without a new timestamp".
 //!
 //! The file follows 01's sections: "Parts of the machine", "Refused because of
 //! the input", "Refused because of the state", "Steps".
@@ -512,10 +513,12 @@ impl Machine {
         }
     }
 
-    /// 27 of a store to an owned line, else 20.
+    /// 27 of a store to an owned line that is not dirty; 20 where a line is not
+    /// owned.
     fn store_refusal(&self, core: u32, line: u32) -> Option<u32> {
         match self.copy(core, line) {
-            PrivateCopy::Owned { rts, .. } => passes_greatest(rts, 1).then_some(27),
+            PrivateCopy::Owned { dirty: true, .. } => None,
+            PrivateCopy::Owned { rts, dirty: false, .. } => passes_greatest(rts, 1).then_some(27),
             _ => (self.core(core).slot != Slot::Empty).then_some(20),
         }
     }
@@ -606,13 +609,14 @@ impl Machine {
         Answer::Commit(Commit::Load { core, line, ts, data })
     }
 
-    /// An owned line is stored to past its lease, its core's loads and stores.
+    /// An owned line is stored to past its lease, or at the lease's end if it is
+    /// dirty, and not before its core's loads and stores.
     fn store(&mut self, core: u32, line: u32, data: Bytes) -> Answer {
-        let PrivateCopy::Owned { rts, .. } = self.copy(core, line) else {
+        let PrivateCopy::Owned { rts, dirty, .. } = self.copy(core, line) else {
             return self.ask(Wish::Store, core, line);
         };
         let clocks = self.core_mut(core);
-        let ts = clocks.lts.max(clocks.sts).max(rts + 1);
+        let ts = clocks.lts.max(clocks.sts).max(if dirty { rts } else { rts + 1 });
         clocks.sts = ts;
         self.set_copy(core, line, PrivateCopy::Owned { wts: ts, rts: ts, dirty: true });
         let place = self.private_place(core, line);

@@ -91,7 +91,7 @@ fn wrong_digits_come_first() {
 
 /// The list of calls of crates/digits: what is called, core, line, which digits.
 const LIST: &str = "S11r V1.. R1.. S11r S11x S11o S11l S11e S11f S11m S21r S21x S12r S12x S01r S01r S01x B11r B11x T11r \
-                    T11x M1.. S11r S11r S11x R0..";
+                    T11x M1.. S11r S11r S11x S10r V1.. R1.. L10. S10r S10x R0..";
 
 /// Digits of a line and one byte more: other digits for another number.
 fn right(n: usize) -> Vec<u8> {
@@ -132,6 +132,7 @@ fn made(machine: &mut Machine, kind: u8, core: u32, line: u32, digits: &[u8]) ->
             answer
         }
         b'M' => machine.call(&Step::Advance { core, by: GREATEST }),
+        b'L' => machine.call(&Step::Load { core, line }),
         b'V' => machine.call(&Step::Serve { core }),
         _ => machine.call(&Step::Receive { core }),
     }

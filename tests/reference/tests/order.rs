@@ -67,6 +67,28 @@ fn ties_are_sorted_by_place() {
     assert_eq!(check(&history, Ties::ByCore), wrong_bytes(2, None));
 }
 
+/// Stores of one timestamp to one line, as repeated stores are: the place decides.
+#[test]
+fn equal_timestamps_in_one_line() {
+    let by_place = |history: &[Made]| check(history, Ties::ByPlace);
+    let (first, second) = (store(1, 0, 0, 5, 7), store(3, 0, 0, 5, 8));
+    assert_eq!(by_place(&[first, second, load(4, 1, 0, 5, 8)]), Ok(()));
+    assert_eq!(by_place(&[first, second, load(4, 1, 0, 5, 7)]), wrong_bytes(4, Some(3)));
+    // A load of that timestamp between the two stands between them, and one before both.
+    assert_eq!(by_place(&[first, load(2, 1, 0, 5, 7), second]), Ok(()));
+    assert_eq!(by_place(&[first, load(2, 1, 0, 5, 8), second]), wrong_bytes(2, Some(1)));
+    assert_eq!(by_place(&[load(0, 1, 0, 5, 0), first, second]), Ok(()));
+    // A later timestamp sees the second, whatever its place.
+    assert_eq!(by_place(&[first, load(2, 1, 0, 6, 7), second]), wrong_bytes(2, Some(3)));
+    // The core itself sees its last store, also from a smaller timestamp.
+    assert_eq!(by_place(&[first, load(2, 0, 0, 1, 7), second, load(4, 0, 0, 1, 8)]), Ok(()));
+    assert_eq!(by_place(&[first, second, load(4, 0, 0, 1, 7)]), wrong_bytes(4, Some(3)));
+    // Stores of two cores.
+    let other = store(2, 1, 0, 5, 9);
+    assert_eq!(by_place(&[first, other, load(4, 2, 0, 5, 9)]), Ok(()));
+    assert_eq!(by_place(&[first, other, second, load(4, 2, 0, 5, 9)]), wrong_bytes(4, Some(3)));
+}
+
 #[test]
 fn other_calls_do_not_commit() {
     let odd = Made { place: 1, ts: 0, call: Step::Take { line: 0 }, loaded: None };

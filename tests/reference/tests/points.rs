@@ -1,5 +1,6 @@
 //! The reference points W1 to W12 of 01, each on a state that holds just the
-//! named values.
+//! named values; and W1 to W4 with a dirty line (02, "Repeated stores without a new
+//! timestamp").
 
 use reference::machine::*;
 
@@ -28,8 +29,8 @@ fn load(machine: &mut Machine) -> Option<u32> {
 }
 
 /// The timestamp of a store's commit with these clocks and this rts.
-fn store(lts: u32, sts: u32, rts: u32) -> u32 {
-    let mut machine = machine(10, lts, sts, owned(0, rts, false));
+fn store(lts: u32, sts: u32, rts: u32, dirty: bool) -> u32 {
+    let mut machine = machine(10, lts, sts, owned(0, rts, dirty));
     match machine.call(&Step::Store { core: 0, line: 0, data: Bytes::new(&[7]) }) {
         Answer::Commit(Commit::Store { core: 0, line: 0, ts, .. }) => {
             assert_eq!(machine.copy(0, 0), owned(ts, ts, true));
@@ -42,11 +43,39 @@ fn store(lts: u32, sts: u32, rts: u32) -> u32 {
 }
 
 #[test]
-fn w1_to_w4_stores() {
-    assert_eq!(store(0, 0, 0), 1);
-    assert_eq!(store(0, 0, 10), 11);
-    assert_eq!(store(20, 15, 10), 20);
-    assert_eq!(store(0, 30, 10), 30);
+fn w1_to_w4_stores_to_a_line_not_yet_dirty() {
+    assert_eq!(store(0, 0, 0, false), 1);
+    assert_eq!(store(0, 0, 10, false), 11);
+    assert_eq!(store(20, 15, 10, false), 20);
+    assert_eq!(store(0, 30, 10, false), 30);
+}
+
+/// No list of calls from a fresh engine leads to the first two states: there, rts of
+/// a dirty copy never passes both clocks (`repeated.rs`). So only here does a store
+/// at max(lts, sts), without rts, show itself.
+#[test]
+fn w1_to_w4_with_a_dirty_line() {
+    assert_eq!(store(0, 0, 0, true), 0);
+    assert_eq!(store(0, 0, 10, true), 10);
+    assert_eq!(store(20, 15, 10, true), 20);
+    assert_eq!(store(0, 30, 10, true), 30);
+}
+
+/// Whichever of the three is the greatest, and whichever are equal.
+#[test]
+fn stores_by_lts_sts_and_rts() {
+    let values = [0, 1, 9, 10, 11, GREATEST - 1, GREATEST];
+    for lts in values {
+        for sts in values {
+            for rts in values {
+                let greatest = |values: [u32; 3]| values.into_iter().max().unwrap();
+                assert_eq!(store(lts, sts, rts, true), greatest([lts, sts, rts]));
+                if rts < GREATEST {
+                    assert_eq!(store(lts, sts, rts, false), greatest([lts, sts, rts + 1]));
+                }
+            }
+        }
+    }
 }
 
 #[test]

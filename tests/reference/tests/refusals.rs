@@ -176,6 +176,33 @@ fn number_27_is_given_only_where_it_belongs() {
 }
 
 #[test]
+fn number_27_of_a_store_is_given_only_for_a_line_not_yet_dirty() {
+    let data = Bytes::new(&[7, 8]);
+    let clocks = [(0, 0), (GREATEST, 0), (0, GREATEST), (GREATEST, GREATEST), (5, GREATEST - 1)];
+    for ((lts, sts), dirty) in clocks.into_iter().flat_map(|clocks| [(clocks, false), (clocks, true)]) {
+        for rts in [0, GREATEST - 1, GREATEST] {
+            let mut machine = machine();
+            // Whatever the slot holds.
+            machine.state.cores[1] = Core { lts, sts, slot: asked(0) };
+            machine.set_copy(1, 1, PrivateCopy::Owned { wts: 0, rts, dirty });
+            let due = rts == GREATEST && !dirty;
+            let number = refusal(&mut machine, Step::Store { core: 1, line: 1, data });
+            assert_eq!(number, due.then_some(27), "lts {lts}, sts {sts}, rts {rts}, dirty {dirty}");
+            if !due {
+                let ts = lts.max(sts).max(if dirty { rts } else { rts + 1 });
+                assert_eq!(machine.copy(1, 1), PrivateCopy::Owned { wts: ts, rts: ts, dirty: true });
+                assert_eq!(machine.state.cores[1], Core { lts, sts: ts, slot: asked(0) });
+                assert_eq!(machine.show(1, 1), [7, 8]);
+            }
+        }
+    }
+    // A shared copy whose lease runs to the greatest timestamp asks.
+    let mut machine = machine();
+    machine.set_copy(1, 1, PrivateCopy::Shared { wts: 0, rts: GREATEST });
+    assert_eq!(machine.call(&Step::Store { core: 1, line: 1, data }), Answer::Ask);
+}
+
+#[test]
 fn a_renewal_never_touches_an_owned_copy() {
     let mut machine = machine();
     let owned = PrivateCopy::Owned { wts: 1, rts: 2, dirty: true };
