@@ -146,8 +146,8 @@ fn earliest_of(dirty: bool, rts: Stamp) -> Sum
     rts.after(1)
 }
 
-// store: commits on an owned copy, past its lease or, where it is dirty, from the lease's end on, or 27
-// where rts + 1 passes the greatest timestamp; else asks, or 20.
+// store: commits on an owned copy, from the end of its lease on where it is dirty, and past it where it is
+// not, or 27 where that passes the greatest timestamp; else asks, or 20.
 pub fn store(c: usize, l: usize, core: Core, copy: Copy, line: ManagerLine) -> Effect
     ensures { λ r. ⌜ ((g : Given) (n i : ℕ) (o : Opening) → r ≡ effectOf (Call.Store g c l) (pieces n core copy line i) o) ⌝ }
 {

@@ -1,6 +1,6 @@
 // Stores in digits by direct calls, at every width: what right digits store, also to a dirty line at the greatest timestamp, each
-// number that right and wrong digits are refused with, and that nothing is stored where a call asks or is refused. What it prints is compared with what the second implementation
-// answers to the same calls.
+// number that right and wrong digits are refused with, and that nothing is stored where a call asks or is refused. What it prints is
+// compared with what the second implementation answers to the same calls.
 //
 // For each width, on an engine of two cores and two lines, it prints the answers to a list of calls, each with digits of its own,
 // and line 1 as core 1 sees it; then how many of the stores with one wrong digit, at each position in turn, were refused with 13;

@@ -159,8 +159,7 @@ loadAsks (CopyOwned d w r) lts = false
 abbrev pub storePasses : Copy → Bool
 storePasses NoCopy = false
 storePasses (CopyShared w r) = false
-storePasses (CopyOwned true w r) = false
-storePasses (CopyOwned false w r) = fails (canAdd r 1)
+storePasses (CopyOwned d w r) = both (fails d) (fails (canAdd r 1))
 
 -- asked lts + lease passes the greatest timestamp (serve of a load on a shared line)
 abbrev pub servePasses : Slot → Manager → Opening → Bool

@@ -1,6 +1,6 @@
 -- The step tables, on the pieces that a step looks at: core c, its copy of line l, the manager's line l.
 -- A row gives the answer, the new pieces, and which line of bytes moves. They are read only where no refusal applies.
-use Prim.Native.Nat.{ℕ, _+_}
+use Prim.Native.Nat.{ℕ}
 use mathlib.Core.Bool.{Bool, true, false}
 use lib.Dec.{eqb}
 use Rattle.protocol.specs.{Pick.pick, Stamps.{plus, atMost, same, later}, Clock.{loaded, storeTime, stored, fenced, advanced}, Machine.Pieces}
@@ -77,17 +77,21 @@ loadTable NoCopy c l p = asking WantLoad l p
 
 -- ---- store
 
--- the earliest that a copy's lease lets a store be, by whether the copy is dirty: rts + 1; 02, Six: "A store to a dirty line commits at
+-- the earliest that a copy's lease lets a store be: rts + 1, of a dirty copy rts. 02, Six: "A store to a dirty line commits at
 -- max(lts, sts, rts); on an owned line not yet dirty, the old formula holds."
 abbrev pub earliest : Bool → Stamp → Stamp
 earliest true r = r
 earliest false r = plus r 1
 
--- "owned: ts = max(lts, sts, rts + 1); sts, wts and rts become ts, bytes replaced, dirty; commit at ts. Else: ask." Of a dirty copy rts for rts + 1
+-- a store that is at t at the earliest: "sts, wts and rts become ts, bytes replaced, dirty; commit at ts"
+abbrev pub storeFrom : Stamp → ℕ → ℕ → Pieces → Effect
+storeFrom t c l p =
+    row (Commit c (storeTime (p .core .clocks) t) (OfStore l)) MoveStore (clocked (p .core) (stored (p .core .clocks) t))
+    (CopyOwned true (storeTime (p .core .clocks) t) (storeTime (p .core .clocks) t)) (p .line)
+
+-- "owned: ts = max(lts, sts, rts + 1); .. Else: ask.", of a dirty copy max(lts, sts, rts)
 unfoldable pub storeTable : Copy → ℕ → ℕ → Pieces → Effect
-storeTable (CopyOwned d w r) c l p =
-    row (Commit c (storeTime (p .core .clocks) (earliest d r)) (OfStore l)) MoveStore (clocked (p .core) (stored (p .core .clocks) (earliest d r)))
-    (CopyOwned true (storeTime (p .core .clocks) (earliest d r)) (storeTime (p .core .clocks) (earliest d r))) (p .line)
+storeTable (CopyOwned d w r) c l p = storeFrom (earliest d r) c l p
 storeTable (CopyShared w r) c l p = asking WantStore l p
 storeTable NoCopy c l p = asking WantStore l p
 

@@ -115,8 +115,8 @@ cell x = record { copy = x }
 
 -- the state with this lease and these pieces, and with room for a copy of each line. Core 2 asks to store to line 1, which is shared, with wts
 -- later than rts. Cores 3 and 4 and lines 4 and 5 lie outside the sizes: core 3 has lts at the greatest timestamp, an answered slot and an owned
--- copy of line 2, not dirty, at the greatest rts; core 4 asked at the greatest timestamp; core 1 has such a copy of line 4 too; line 4 has an owner, and line 5
--- an owner who holds no copy, and a recall
+-- copy of line 2, not dirty, at the greatest rts; core 4 asked at the greatest timestamp; core 1 has such a copy of line 4 too; line 4 has an
+-- owner, and line 5 an owner who holds no copy, and a recall
 abbrev pub stateOf : ℕ → Pieces → State
 stateOf lease p =
     record {

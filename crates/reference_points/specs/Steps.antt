@@ -1,5 +1,6 @@
--- The step tables of 01 and of 02, Two and Six, row by row: beside the reference points, what each step does to the core, its copy, the manager's line and the bytes.
--- What it leaves shows where there is something to leave: a slot in use, a copy held, a recall and a writeback. So does a number that comes early.
+-- The step tables of 01 and of 02, Two and Six, row by row: beside the reference points, what each step does to the core, its copy, the
+-- manager's line and the bytes. What it leaves shows where there is something to leave: a slot in use, a copy held, a recall and a writeback. So
+-- does a number that comes early.
 use Prim.Native.Nat.{ℕ}
 use mathlib.Core.{Path._≡_, List.{List, [], _∷_, _++_, map}}
 use Rattle.protocol.specs.{Stamps.stamp, Machine.{machine, Pieces}, Step.{done, commit, load, store, fence, Outcome, step}, Evict.fitting}
@@ -46,7 +47,7 @@ askRows =
     ∷ asking 12 (Store AsBytes 1 2) WantStore NoCopy NothingHeld (sharedLine 4 9)
     ∷ asking 12 (Store AsBytes 1 2) WantStore NoCopy NothingHeld (busy (ownedLine 1 NoRecall))
     ∷ asking 12 (Store AsBytes 1 2) WantStore (sharedCopy 4 20) (Version (stamp 4)) (busy (sharedLine 4 20))
-    -- 27 speaks of an owned line
+    -- 27 speaks of an owned line not yet dirty
     ∷ asking 12 (Store AsBytes 1 2) WantStore (sharedCopy 4 greatest) (Version (stamp 4)) (sharedLine 4 greatest)
     ∷ []
 

@@ -513,8 +513,8 @@ impl Machine {
         }
     }
 
-    /// 27 of a store to an owned line that is not dirty; 20 where a line is not
-    /// owned.
+    /// 27 of a store to an owned line that is not dirty; 20 of one that must ask
+    /// while the slot is in use.
     fn store_refusal(&self, core: u32, line: u32) -> Option<u32> {
         match self.copy(core, line) {
             PrivateCopy::Owned { dirty: true, .. } => None,

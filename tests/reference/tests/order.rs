@@ -71,22 +71,22 @@ fn ties_are_sorted_by_place() {
 #[test]
 fn equal_timestamps_in_one_line() {
     let by_place = |history: &[Made]| check(history, Ties::ByPlace);
-    let (first, second) = (store(1, 0, 0, 5, 7), store(3, 0, 0, 5, 8));
-    assert_eq!(by_place(&[first, second, load(4, 1, 0, 5, 8)]), Ok(()));
-    assert_eq!(by_place(&[first, second, load(4, 1, 0, 5, 7)]), wrong_bytes(4, Some(3)));
+    let (first, second) = (store(2, 0, 0, 5, 7), store(4, 0, 0, 5, 8));
+    assert_eq!(by_place(&[first, second, load(5, 1, 0, 5, 8)]), Ok(()));
+    assert_eq!(by_place(&[first, second, load(5, 1, 0, 5, 7)]), wrong_bytes(5, Some(4)));
     // A load of that timestamp between the two stands between them, and one before both.
-    assert_eq!(by_place(&[first, load(2, 1, 0, 5, 7), second]), Ok(()));
-    assert_eq!(by_place(&[first, load(2, 1, 0, 5, 8), second]), wrong_bytes(2, Some(1)));
-    assert_eq!(by_place(&[load(0, 1, 0, 5, 0), first, second]), Ok(()));
+    assert_eq!(by_place(&[first, load(3, 1, 0, 5, 7), second]), Ok(()));
+    assert_eq!(by_place(&[first, load(3, 1, 0, 5, 8), second]), wrong_bytes(3, Some(2)));
+    assert_eq!(by_place(&[load(1, 1, 0, 5, 0), first, second]), Ok(()));
     // A later timestamp sees the second, whatever its place.
-    assert_eq!(by_place(&[first, load(2, 1, 0, 6, 7), second]), wrong_bytes(2, Some(3)));
+    assert_eq!(by_place(&[first, load(3, 1, 0, 6, 7), second]), wrong_bytes(3, Some(4)));
     // The core itself sees its last store, also from a smaller timestamp.
-    assert_eq!(by_place(&[first, load(2, 0, 0, 1, 7), second, load(4, 0, 0, 1, 8)]), Ok(()));
-    assert_eq!(by_place(&[first, second, load(4, 0, 0, 1, 7)]), wrong_bytes(4, Some(3)));
+    assert_eq!(by_place(&[first, load(3, 0, 0, 1, 7), second, load(5, 0, 0, 1, 8)]), Ok(()));
+    assert_eq!(by_place(&[first, second, load(5, 0, 0, 1, 7)]), wrong_bytes(5, Some(4)));
     // Stores of two cores.
-    let other = store(2, 1, 0, 5, 9);
-    assert_eq!(by_place(&[first, other, load(4, 2, 0, 5, 9)]), Ok(()));
-    assert_eq!(by_place(&[first, other, second, load(4, 2, 0, 5, 9)]), wrong_bytes(4, Some(3)));
+    let other = store(3, 1, 0, 5, 9);
+    assert_eq!(by_place(&[first, other, load(5, 2, 0, 5, 9)]), Ok(()));
+    assert_eq!(by_place(&[first, other, second, load(5, 2, 0, 5, 9)]), wrong_bytes(5, Some(4)));
 }
 
 #[test]
