@@ -9,7 +9,7 @@ use Rattle.protocol.specs.{Stamps.stamp, Fresh.{freshCore, freshCell, freshLine
 use Rattle.protocol.specs.Machine.{Machine, machine, Pieces}
 use Rattle.protocol.specs.declared.Copy.{Copy, the-variants.{None as NoCopy, Shared as CopyShared, Owned as CopyOwned}}
 use Rattle.protocol.specs.declared.{Want.{Want, the-variants.{Load as WantLoad, Store as WantStore}}, Held.{Held, the-variants.{None as NothingHeld, Version}}}
-use Rattle.protocol.specs.declared.{Grant.{Grant, the-variants.Share as GrantShare}, Slot.{Slot, the-variants.{Asked, Answered}}, Core.Core, Cell.Cell}
+use Rattle.protocol.specs.declared.{Grant.{Grant, the-variants.{Share as GrantShare, Own as GrantOwn}}, Slot.{Slot, the-variants.{Asked, Answered}}, Core.Core, Cell.Cell}
 use Rattle.protocol.specs.declared.{Manager.the-variants.{Shared, Owned}, Recall.{Recall, the-variants.{None as NoRecall, Downgrade, Flush}}}
 use Rattle.protocol.specs.declared.{Writeback.the-variants.{None as NoWriteback, Flight}, ManagerLine.ManagerLine, State.State, Call.Call}
 
@@ -26,12 +26,18 @@ asked a lts h = Asked a 2 (stamp lts) h
 abbrev pub answered : Grant → ℕ → ℕ → Slot
 answered g wts rts = Answered g 2 (stamp wts) (stamp rts)
 
--- a slot in use for another line: line 3 asked for, or answered
+-- a slot in use for another line: line 3 asked for, to load or to store, or answered, with a share or an own
 abbrev pub askedElsewhere : Slot
 askedElsewhere = Asked WantLoad 3 (stamp 1) (Version (stamp 2))
 
+abbrev pub storeAskedElsewhere : Slot
+storeAskedElsewhere = Asked WantStore 3 (stamp 1) NothingHeld
+
 abbrev pub answeredElsewhere : Slot
 answeredElsewhere = Answered GrantShare 3 (stamp 2) (stamp 3)
+
+abbrev pub ownElsewhere : Slot
+ownElsewhere = Answered GrantOwn 3 (stamp 2) (stamp 3)
 
 -- a copy: shared; owned, not dirty; owned, dirty; each with wts and rts
 abbrev pub sharedCopy : ℕ → ℕ → Copy

@@ -13,7 +13,8 @@ use Rattle.protocol.specs.declared.Given.the-variants.{Bytes as AsBytes}
 use Rattle.protocol.specs.declared.Name.{Name}
 use Rattle.protocol.specs.declared.Name.the-variants.{Ask as ask, Recall as recall, Share as share, Renew as renew, Own as own, Drop as dropped, Evict as evict}
 use Rattle.protocol.specs.declared.Name.the-variants.{Writeback as writeback, Advance as advance, Yield as yield, Take as taken}
-use Rattle.reference_points.specs.Rows.{core, asked, answered, askedElsewhere, answeredElsewhere, sharedCopy, cleanCopy, dirtyCopy, pieces, sharedLine}
+use Rattle.reference_points.specs.Rows.{core, asked, answered, askedElsewhere, storeAskedElsewhere, answeredElsewhere, ownElsewhere, sharedCopy, cleanCopy}
+use Rattle.reference_points.specs.Rows.{dirtyCopy, pieces, sharedLine}
 use Rattle.reference_points.specs.Rows.{ownedLine, withRecall, withWriteback, busy, greatest, Row, row, AllHold, Places, places, copyBytes, managerBytes}
 use Rattle.reference_points.specs.Rows.{writebackBytes, answerBytes, unmoved, given, counting, private, shared, stateOf, withCore, withLine}
 
@@ -63,6 +64,9 @@ abbrev pub loadRows : List Row
 loadRows =
     -- "owned, dirty: commit at lts; copy's rts becomes max(rts, lts)"
     loading Empty (ownedLine 1 NoRecall) 15 (dirtyCopy 11 11) 15 (dirtyCopy 11 15)
+    ∷ loading Empty (ownedLine 1 NoRecall) greatest (dirtyCopy 6 8) greatest (dirtyCopy 6 greatest)
+    ∷ loading storeAskedElsewhere (busy (ownedLine 1 NoRecall)) 15 (dirtyCopy 11 13) 15 (dirtyCopy 11 15)
+    ∷ loading answeredElsewhere (ownedLine 1 Flush) 15 (dirtyCopy 11 11) 15 (dirtyCopy 11 15)
     ∷ loading answeredElsewhere (busy (ownedLine 1 NoRecall)) 12 (dirtyCopy 11 13) 12 (dirtyCopy 11 13)
     ∷ loading askedElsewhere (ownedLine 1 Flush) 7 (dirtyCopy 6 greatest) 7 (dirtyCopy 6 greatest)
     -- "owned, not dirty: lts becomes max(lts, wts), commit there; rts becomes max(rts, lts)"
@@ -88,12 +92,24 @@ storeRows =
     ∷ storing askedElsewhere (ownedLine 1 Flush) 7 9 (cleanCopy 6 6) 9
     ∷ storing answeredElsewhere (busy (ownedLine 1 NoRecall)) 12 9 (cleanCopy 6 8) 12
     ∷ storing (answered GrantRenew 4 15) (busy (ownedLine 1 NoRecall)) 7 9 (cleanCopy 6 20) 21
-    -- "A store to a dirty line commits at max(lts, sts, rts)": again at rts, which is the wts or later; at sts; at lts; wts is not looked at
+    -- "A store to a dirty line commits at max(lts, sts, rts)": at rts, which is the wts or later; at sts; at lts; at two of them
     ∷ storing Empty (ownedLine 1 NoRecall) 7 9 (dirtyCopy 11 11) 11
+    ∷ storing Empty (busy (ownedLine 1 NoRecall)) 7 9 (dirtyCopy 6 8) 9
+    ∷ storing Empty (ownedLine 1 Flush) 12 9 (dirtyCopy 6 8) 12
+    ∷ storing Empty (ownedLine 1 NoRecall) 12 9 (dirtyCopy 6 12) 12
+    -- whatever the slot holds
     ∷ storing askedElsewhere (ownedLine 1 Flush) 7 9 (dirtyCopy 11 13) 13
-    ∷ storing answeredElsewhere (busy (ownedLine 1 NoRecall)) 7 9 (dirtyCopy 6 8) 9
-    ∷ storing (answered GrantRenew 4 15) (busy (ownedLine 1 NoRecall)) 12 9 (dirtyCopy 6 8) 12
-    ∷ storing Empty (ownedLine 1 NoRecall) 7 9 (dirtyCopy 20 8) 9
+    ∷ storing storeAskedElsewhere (busy (ownedLine 1 NoRecall)) 7 9 (dirtyCopy 6 13) 13
+    ∷ storing answeredElsewhere (ownedLine 1 NoRecall) 7 9 (dirtyCopy 6 13) 13
+    ∷ storing ownElsewhere (ownedLine 1 Flush) 7 13 (dirtyCopy 13 13) 13
+    ∷ storing (asked WantLoad 7 NothingHeld) (ownedLine 1 NoRecall) 7 9 (dirtyCopy 6 20) 20
+    ∷ storing (answered GrantRenew 4 15) (ownedLine 1 Downgrade) 7 9 (dirtyCopy 6 20) 20
+    -- neither wts nor whose the line is at the manager is looked at
+    ∷ storing Empty (ownedLine 1 NoRecall) 7 8 (dirtyCopy 20 8) 8
+    ∷ storing Empty (ownedLine 1 NoRecall) 7 8 (cleanCopy 20 8) 9
+    ∷ storing Empty (sharedLine 4 9) 7 9 (dirtyCopy 6 13) 13
+    ∷ storing Empty (sharedLine 4 9) 7 9 (cleanCopy 6 13) 14
+    ∷ storing Empty (busy (ownedLine 0 NoRecall)) 7 9 (dirtyCopy 6 13) 13
     -- up to the greatest timestamp: rts + 1 reaches it; lts is there; sts is; of a dirty copy rts
     ∷ storing Empty (ownedLine 1 NoRecall) 7 9 (cleanCopy 6 4294967294) greatest
     ∷ storing Empty (ownedLine 1 NoRecall) greatest 9 (cleanCopy 6 8) greatest
@@ -103,7 +119,10 @@ storeRows =
     ∷ storing askedElsewhere (ownedLine 1 Flush) 7 9 (dirtyCopy 6 4294967294) 4294967294
     -- "Number 27 no longer arises from a store to a dirty line"
     ∷ storing Empty (ownedLine 1 NoRecall) 7 9 (dirtyCopy 6 greatest) greatest
+    ∷ storing Empty (ownedLine 1 NoRecall) greatest 9 (dirtyCopy 6 greatest) greatest
     ∷ storing askedElsewhere (busy (ownedLine 1 NoRecall)) greatest greatest (dirtyCopy greatest greatest) greatest
+    ∷ storing storeAskedElsewhere (ownedLine 1 NoRecall) 7 greatest (dirtyCopy greatest greatest) greatest
+    ∷ storing answeredElsewhere (ownedLine 1 Flush) 7 9 (dirtyCopy 6 greatest) greatest
     ∷ []
 
 -- a fence: the slot, the copy and the manager's line, which stay; lts and sts before it, and its ts
@@ -161,6 +180,7 @@ abbrev pub ownedGoes : Call → Name → List Row
 ownedGoes call d =
     givingUp call d Empty (cleanCopy 3 7) (ownedLine 1 NoRecall) (withWriteback 3 7 (ownedLine 1 NoRecall)) writtenBack
     ∷ givingUp call d askedElsewhere (dirtyCopy 6 8) (ownedLine 1 Flush) (withWriteback 6 8 (ownedLine 1 Flush)) writtenBack
+    ∷ givingUp call d Empty (dirtyCopy 6 6) (ownedLine 1 NoRecall) (withWriteback 6 6 (ownedLine 1 NoRecall)) writtenBack
     ∷ givingUp call d answeredElsewhere (cleanCopy 3 7) (busy (ownedLine 1 NoRecall)) (withWriteback 3 7 (ownedLine 1 Downgrade)) writtenBack
     ∷ []
 
@@ -268,10 +288,13 @@ receiveRows =
 
 -- ---- yield and take
 
--- "the owner's wts, rts and bytes become the writeback": the owner's slot, which stays; the manager's line and the owner's copy before it, and the
--- copy after it
+-- "the owner's wts, rts and bytes become the writeback": the rts of the owner's copy, whose wts is 6; its slot, which stays; the manager's line and
+-- the owner's copy before it, and the copy after it
+abbrev pub yieldingUntil : ℕ → Slot → ManagerLine → Copy → Copy → Row
+yieldingUntil rts s m x y = doing (pieces (core 7 9 s) x m) (Yield 2) yield (pieces (core 7 9 s) y (withWriteback 6 rts m)) writtenBack
+
 abbrev pub yielding : Slot → ManagerLine → Copy → Copy → Row
-yielding s m x y = doing (pieces (core 7 9 s) x m) (Yield 2) yield (pieces (core 7 9 s) y (withWriteback 6 8 m)) writtenBack
+yielding = yieldingUntil 8
 
 -- "manager takes the writeback, becomes shared; recall none, writeback none": the manager's line before it
 abbrev pub taking : ManagerLine → Row
@@ -283,6 +306,7 @@ abbrev pub writebackRows : List Row
 writebackRows =
     -- "Downgrade: its copy becomes shared, not dirty. Flush: none."
     yielding Empty (ownedLine 1 Downgrade) (dirtyCopy 6 8) (sharedCopy 6 8)
+    ∷ yieldingUntil 6 Empty (ownedLine 1 Downgrade) (dirtyCopy 6 6) (sharedCopy 6 6)
     ∷ yielding askedElsewhere (ownedLine 1 Downgrade) (cleanCopy 6 8) (sharedCopy 6 8)
     ∷ yielding answeredElsewhere (ownedLine 1 Flush) (dirtyCopy 6 8) NoCopy
     ∷ yielding Empty (ownedLine 1 Flush) (cleanCopy 6 8) NoCopy

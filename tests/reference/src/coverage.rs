@@ -153,6 +153,9 @@ const REPEATED: &[&str] = &[
     "store: owned clean, rts + 1 is the greatest timestamp",
     "store: owned dirty, rts is the greatest timestamp",
     "store: owned dirty, a recall stands",
+    "store: owned dirty, the slot is asked for a load",
+    "store: owned dirty, the slot is asked for a store",
+    "store: owned dirty, the slot is answered",
     "store: owned again after a downgrade, past another core's lease",
     "store: owned again after an eviction, past another core's lease",
     "store: owned again after a flush, past another core's lease",
@@ -538,7 +541,15 @@ impl Coverage {
         if dirty && before.lines[line as usize].recall != Recall::None {
             self.count("store: owned dirty, a recall stands");
         }
-        let Core { lts, sts, .. } = before.cores[core as usize];
+        let Core { lts, sts, slot } = before.cores[core as usize];
+        match slot {
+            Slot::Asked { wish: Wish::Load, .. } if dirty => {
+                self.count("store: owned dirty, the slot is asked for a load");
+            }
+            Slot::Asked { .. } if dirty => self.count("store: owned dirty, the slot is asked for a store"),
+            Slot::Answered { .. } if dirty => self.count("store: owned dirty, the slot is answered"),
+            _ => {}
+        }
         let lent =
             |other| matches!(copy(before, other, line), PrivateCopy::Shared { rts: end, .. } if end == rts);
         if let Some(by) = lost {

@@ -168,6 +168,8 @@ faults! {
     // since rts of a dirty copy never passes both clocks (`tests/repeated.rs`).
     DirtyStorePastRts "dirty-store-past-rts" "a store to a dirty line commits past its rts, as one to a line not yet dirty does"
     DirtyStore27 "dirty-store-27" "27 for a store to a dirty line where rts + 1 passes the greatest timestamp"
+    SlotStoresPastRts "slot-stores-past-rts" "a store to a dirty line commits past its rts while its core's slot is in use"
+    SlotStore27 "slot-store-27" "27 for a store to a dirty line where rts + 1 passes the greatest timestamp and its core's slot is in use"
     DirtyStoreBeforeLts "dirty-store-before-lts" "a store to a dirty line commits at max(sts, rts)"
     DirtyStoreBeforeSts "dirty-store-before-sts" "a store to a dirty line commits at max(lts, rts)"
     DirtyStoreAtWts "dirty-store-at-wts" "a store to a dirty line commits at the timestamp of the store before it"
@@ -530,10 +532,11 @@ impl Faulty {
             Fault::CleanLoadLeavesLts => self.clean_load_leaves_lts(step, before, answer),
             Fault::StoreAtRts
             | Fault::DirtyStorePastRts
+            | Fault::SlotStoresPastRts
             | Fault::DirtyStoreBeforeLts
             | Fault::DirtyStoreBeforeSts
             | Fault::DirtyStoreAtWts => self.stores_at(step, before, answer),
-            Fault::DirtyStore27 => self.dirty_store_27(step, before, answer),
+            Fault::DirtyStore27 | Fault::SlotStore27 => self.dirty_store_27(step, before, answer),
             Fault::DirtyKeptByDowngrade | Fault::DirtyKeptByEviction => self.dirty_kept(step, before, answer),
             Fault::DirtyWhenOwned => self.dirty_when_owned(step, before, answer),
             Fault::Store27LeftOut => self.store_27_left_out(step, before, answer),
@@ -740,10 +743,13 @@ impl Faulty {
         let Answer::Commit(Commit::Store { data, .. }) = answer else {
             return answer;
         };
-        let Core { lts, sts, .. } = before.state.cores[core as usize];
+        let Core { lts, sts, slot } = before.state.cores[core as usize];
         let ts = match (self.fault, dirty) {
             (Fault::StoreAtRts, false) => lts.max(sts).max(rts),
-            (Fault::DirtyStorePastRts, true) => lts.max(sts).max(rts.saturating_add(1)),
+            (Fault::SlotStoresPastRts, true) if slot == Slot::Empty => return answer,
+            (Fault::DirtyStorePastRts | Fault::SlotStoresPastRts, true) => {
+                lts.max(sts).max(rts.saturating_add(1))
+            }
             (Fault::DirtyStoreBeforeLts, true) => sts.max(rts),
             (Fault::DirtyStoreBeforeSts, true) => lts.max(rts),
             (Fault::DirtyStoreAtWts, true) => wts,
@@ -755,12 +761,14 @@ impl Faulty {
     }
 
     fn dirty_store_27(&mut self, step: &Step, before: &Machine, answer: Answer) -> Answer {
-        let passes = matches!(
-            Self::copy_before(step, before),
-            Some((_, _, PrivateCopy::Owned { rts: GREATEST, dirty: true, .. }))
-        );
+        let Some((core, _, PrivateCopy::Owned { rts: GREATEST, dirty: true, .. })) =
+            Self::copy_before(step, before)
+        else {
+            return answer;
+        };
         let stores = matches!(answer, Answer::Commit(Commit::Store { .. }));
-        self.refuse_if(passes && stores, before, 27, answer)
+        let in_use = before.state.cores[core as usize].slot != Slot::Empty;
+        self.refuse_if(stores && (in_use || self.fault == Fault::DirtyStore27), before, 27, answer)
     }
 
     /// The store is made as if the line were dirty.
