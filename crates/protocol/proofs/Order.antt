@@ -7,3 +7,4 @@ pub mod Invariant
 pub mod Rows
 pub mod Steps
 pub mod Theorem
+pub mod Sequential

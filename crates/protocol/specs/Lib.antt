@@ -18,3 +18,4 @@ pub mod Counts
 pub mod Tally
 pub mod Capacity
 pub mod Order
+pub mod Sequential

@@ -98,7 +98,7 @@ last-cons e n (inr w) = inr (λ s m y q k. ⊎-elim (λ i. n y (rw i at q) (rw i
 abbrev Ordered : {A : Type 0} → (Op A → Op A → Type 0) → Commit A → Commit A → Type 0
 Ordered Keeps a b = a .core ≡ b .core → Earlier a b → Keeps (a .op) (b .op) → Before a b
 
-at-place : {A : Type 0} {a e : Commit A} → a ≡ e → a .place .0 ≡ e .place .0
+pub at-place : {A : Type 0} {a e : Commit A} → a ≡ e → a .place .0 ≡ e .place .0
 at-place i = ap (λ x. x .place .0) i
 
 module _ {A C X : Type 0} (Keeps : Op A → Op A → Type 0) (Reads Writes : C → Commit A → X → Type 0) (z : X) where

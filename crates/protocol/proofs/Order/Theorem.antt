@@ -154,7 +154,7 @@ before-self : {A : Type 0} (a : Commit A) → Before a a → ⊥
 before-self a (inl p) = omega arith
 before-self a (inr p) = omega arith
 
-before-trans : {A : Type 0} (a b c : Commit A) → Before a b → Before b c → Before a c
+pub before-trans : {A : Type 0} (a b c : Commit A) → Before a b → Before b c → Before a c
 before-trans a b c (inl p) (inl q) = inl (omega arith)
 before-trans a b c (inl p) (inr q) = inl (omega arith)
 before-trans a b c (inr p) (inl q) = inl (omega arith)
