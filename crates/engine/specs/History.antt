@@ -1,10 +1,10 @@
--- Demand 3 of the engine's own functions, by what they promise alone: the answer of `open`, zeroed buffers, and calls made one after the other.
--- The commits are read off what the calls returned.
+-- Demand 3 of the engine's own functions, and 02's Seven, by what they promise alone: the answer of `open`, zeroed buffers, and calls made one
+-- after the other. The commits are read off what the calls returned.
 use Prim.Native.Nat.{ℕ, suc}
 use mathlib.Core.{Path._≡_, List.{List, [], _∷_}}
 use lib.ListN.{replicate}
 use Rattle.protocol.specs.{Buffers.{Bytes, part, privateLength, sharedLength}, Machine.{Machine, machine}, Step.{Reply, meaning}}
-use Rattle.protocol.specs.{Run.{Entry, Record, place, Commit, commits}, Order.{Before, TSO, StrictTotal}, declared.Opening.Opening}
+use Rattle.protocol.specs.{Run.{Entry, Record, place, Commit, commits}, Order.OneTsoOrder, Sequential.SequentialIfFenced, declared.Opening.Opening}
 use Rattle.protocol.specs.declared.{Answer.the-variants.Done as Named, Name.the-variants.Open}
 use Rattle.engine.specs.{declared.{Returned.Returned, Opened.Opened}, Calls.{Opens, Performs}}
 
@@ -46,8 +46,16 @@ history es = commits (recordsOf es 1)
 abbrev pub zeroed : Opening → Opened → Machine
 zeroed o r = machine (r .state) (replicate (privateLength o) 0) (replicate (sharedLength o) 0)
 
--- demand 3, for every opening that `open` answered with `Open`, and all calls made on it: their commits have one sorted order, and it obeys TSO
-abbrev pub HistoryTheorem : Type 0
-HistoryTheorem =
+-- a claim about zeros of the width and a list of commits, for every opening that `open` answered with `Open` and all calls made on it
+abbrev pub OfEveryHistory : (Bytes → List (Commit Bytes) → Type 0) → Type 0
+OfEveryHistory Claim =
     (o : Opening) (r : Opened) → Opens o r → r .answer ≡ Named Open → (es : List Made) → MadeFrom (zeroed o r) es
-    → StrictTotal Before (history es) × TSO (replicate (o .width) 0) (history es)
+    → Claim (replicate (o .width) 0) (history es)
+
+-- demand 3: the commits have one sorted order, and it obeys TSO
+abbrev pub HistoryTheorem : Type 0
+HistoryTheorem = OfEveryHistory OneTsoOrder
+
+-- Seven: with a fence between each store and its core's next load, the sorted order is sequentially consistent
+abbrev pub SequentialHistoryTheorem : Type 0
+SequentialHistoryTheorem = OfEveryHistory SequentialIfFenced

@@ -83,9 +83,13 @@ commitsOf o gs = commits (run gs 1 (freshMachine o) .records)
 abbrev pub OpenTheorem : Type 0
 OpenTheorem = (o : Opening) → openRefusal o ≡ 0 → opened o ≡ freshMachine o .state
 
--- demand 3, for every opening that `open` accepts
+-- a claim about zeros of the width and a list of commits, for every opening that `open` accepts and every list of calls on it
+abbrev pub OfEveryRun : (Bytes → List (Commit Bytes) → Type 0) → Type 0
+OfEveryRun Claim = (o : Opening) → openRefusal o ≡ 0 → (gs : List Entry) → Claim (replicate (o .width) 0) (commitsOf o gs)
+
+-- demand 3
 abbrev pub OrderTheorem : Type 0
-OrderTheorem = (o : Opening) → openRefusal o ≡ 0 → (gs : List Entry) → TSO (replicate (o .width) 0) (commitsOf o gs)
+OrderTheorem = OfEveryRun TSO
 
 -- a relation puts the elements of a list into one order
 pub record StrictTotal {A : Type 0} (R : A → A → Type 0) (H : List A) : Type 0 where
@@ -96,6 +100,10 @@ pub record StrictTotal {A : Type 0} (R : A → A → Type 0) (H : List A) : Type
 -- the sort is well defined: of two commits of a run one precedes the other
 abbrev pub SortTheorem : Type 0
 SortTheorem = (o : Opening) (gs : List Entry) → StrictTotal Before (commitsOf o gs)
+
+-- both, of these commits: their sorted order is one, and it obeys TSO
+abbrev pub OneTsoOrder : {A : Type 0} → A → List (Commit A) → Type 0
+OneTsoOrder zero H = StrictTotal Before H × TSO zero H
 
 -- the test `precedes`, which Key::precedes answers, decides whether one key precedes another
 abbrev pub KeyTheorem : Type 0

@@ -7,11 +7,8 @@
 -- `Fenced` is the condition on the list's commits, `Sequential` what their sorted order then obeys, and `SequentialTheorem` the claim.
 -- `FenceTheorem` is the same of any memory model and any log of commits, whatever made it: which pairs of one core's commits may change places
 -- is its parameter.
-use Prim.Native.Nat.{ℕ}
 use mathlib.Core.{Path._≡_, List.List}
-use lib.ListN.{replicate}
-use Rattle.protocol.specs.{Buffers.Bytes, Refusals.openRefusal, Step.{Op, load, store, fence}, Run.{Entry, Commit}}
-use Rattle.protocol.specs.{Order.{In, Before, Earlier, Loads, Stores, MaySee, Obeys, commitsOf}, declared.Opening.Opening}
+use Rattle.protocol.specs.{Step.{Op, load, store, fence}, Run.Commit, Order.{In, Before, Earlier, Loads, Stores, MaySee, Obeys, OfEveryRun}}
 
 -- ---- the condition
 
@@ -61,11 +58,13 @@ Preceding e s = Before s e
 abbrev pub Sequential : {A : Type 0} → A → List (Commit A) → Type 0
 Sequential = Obeys AllKeep Preceding Loads Stores
 
--- Seven, for every opening that `open` accepts
+-- Seven, of these commits
+abbrev pub SequentialIfFenced : {A : Type 0} → A → List (Commit A) → Type 0
+SequentialIfFenced zero H = Fenced StoreThenLoad H → Sequential zero H
+
+-- Seven, for every opening that `open` accepts and every list of calls on it
 abbrev pub SequentialTheorem : Type 0
-SequentialTheorem =
-    (o : Opening) → openRefusal o ≡ 0 → (gs : List Entry)
-    → Fenced StoreThenLoad (commitsOf o gs) → Sequential (replicate (o .width) 0) (commitsOf o gs)
+SequentialTheorem = OfEveryRun SequentialIfFenced
 
 -- ---- any memory model
 
