@@ -5,7 +5,7 @@ use Rattle.reference_points.specs.Commits.{small, narrow, filled, filled
 use Rattle.reference_points.specs.Commits.{Commits, CommitsTheorem}
 use Rattle.reference_points.proofs.Rows.{calling}
 
-first : Commits small exchanges committed
+pub first : Commits small exchanges committed
 unfolding calling run commits
 first = record { replies = refl; committed = refl }
 

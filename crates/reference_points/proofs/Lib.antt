@@ -9,7 +9,9 @@ pub mod Reading
 pub mod Sample
 pub mod SecondForm
 pub mod Decides
+pub mod Deciding
 pub mod Logs
+pub mod Fences
 pub mod Chain
 pub mod Longest
 pub mod Conversions

@@ -1,52 +1,10 @@
--- The logs: whether a log of numbers obeys TSO is decided, and antt computes the decision for each.
+-- The logs: whether each obeys TSO is decided, and antt computes the decision.
 use Prim.Native.Nat.{ℕ}
-use mathlib.Core.{Path.{_≡_, refl, subst, ap, ap₂}, Bool.{true, false}, Logic.{_⊎_, Dec·and, Dec·not}}
-use native.Mathlib.{Omega.arith, Decide.{ℕ-discrete, decLt}}
-use Rattle.protocol.specs.{Step.{Op, load, store, fence}, Run.Commit, Order.{In, Before, Earlier, TsoKeeps, Stores, MaySee, LastWrite, TSO}}
-use Rattle.reference_points.specs.{Commits.aCommit as at, Logs.{Log, obeying, disobeying, TsoTheorem, NotTsoTheorem}}
-use Rattle.reference_points.proofs.{Each.each, Decides.{holds, from-yes, from-no, reworded, dec-or, dec-if, dec-every, dec-some}}
-
--- ---- commits
-
-abbrev kind : Op ℕ → ℕ
-kind (load l x) = 0
-kind (store l x) = 1
-kind fence = 2
-
--- ops of two kinds are not the same
-apart : {a b : Op ℕ} → (kind a ≡ kind b → ⊥) → Dec (a ≡ b)
-apart n = no (λ e. n (ap kind e))
-
-same-numbers : (l m x y : ℕ) → Dec ((l ≡ m) × (x ≡ y))
-same-numbers l m x y = Dec·and (ℕ-discrete l m) (ℕ-discrete x y)
-
-same-op : (a b : Op ℕ) → Dec (a ≡ b)
-same-op (load l x) (load m y) = reworded (λ h. ap₂ load (h .0) (h .1)) (λ e. (cc, cc)) (same-numbers l m x y)
-same-op (load l x) (store m y) = apart (λ e. omega arith)
-same-op (load l x) fence = apart (λ e. omega arith)
-same-op (store l x) (load m y) = apart (λ e. omega arith)
-same-op (store l x) (store m y) = reworded (λ h. ap₂ store (h .0) (h .1)) (λ e. (cc, cc)) (same-numbers l m x y)
-same-op (store l x) fence = apart (λ e. omega arith)
-same-op fence (load m y) = apart (λ e. omega arith)
-same-op fence (store m y) = apart (λ e. omega arith)
-same-op fence fence = yes refl
-
-abbrev SameParts : Commit ℕ → Commit ℕ → Type 0
-SameParts a b = ((a .place .0 ≡ b .place .0) × (a .core ≡ b .core)) × ((a .ts .0 ≡ b .ts .0) × (a .op ≡ b .op))
-
-same-parts : {p q c d t u : ℕ} {x y : Op ℕ} → SameParts (at p c t x) (at q d u y) → at p c t x ≡ at q d u y
-same-parts h = let p = h .0 .0 in let c = h .0 .1 in let t = h .1 .0 in let o = h .1 .1 in cc
-
-same : (a b : Commit ℕ) → Dec (a ≡ b)
-same a b =
-    reworded same-parts (λ e. subst (SameParts a) e ((refl, refl), (refl, refl)))
-    (Dec·and (same-numbers (a .place .0) (b .place .0) (a .core) (b .core)) (Dec·and (ℕ-discrete (a .ts .0) (b .ts .0)) (same-op (a .op) (b .op))))
-
-before : (a b : Commit ℕ) → Dec (Before a b)
-before a b =
-    dec-or (decLt (a .ts .0) (b .ts .0)) (Dec·and (ℕ-discrete (a .ts .0) (b .ts .0)) (decLt (a .place .0) (b .place .0)))
-
--- ---- order
+use mathlib.Core.{Path.refl, Bool.{true, false}, Logic.Dec·and}
+use native.Mathlib.Decide.{ℕ-discrete, decLt}
+use Rattle.protocol.specs.{Step.{Op, load, store, fence}, Run.Commit, Order.{TsoKeeps, MaySee, TSO}}
+use Rattle.reference_points.specs.Logs.{Log, obeying, disobeying, TsoTheorem, NotTsoTheorem}
+use Rattle.reference_points.proofs.{Each.each, Decides.{holds, from-yes, from-no, dec-or}, Deciding.{before, obeys, deciding}}
 
 keeps : (a b : Op ℕ) → Dec (TsoKeeps a b)
 keeps (load l x) b = yes tt
@@ -55,57 +13,16 @@ keeps (store l x) (load m y) = no (λ h. h)
 keeps (store l x) (store m y) = yes tt
 keeps (store l x) fence = yes tt
 
-ordered : (a b : Commit ℕ) → Dec (a .core ≡ b .core → Earlier a b → TsoKeeps (a .op) (b .op) → Before a b)
-ordered a b =
-    dec-if (ℕ-discrete (a .core) (b .core)) (dec-if (decLt (a .place .0) (b .place .0)) (dec-if (keeps (a .op) (b .op)) (before a b)))
-
--- ---- reads
-
 sees : (e s : Commit ℕ) → Dec (MaySee e s)
 sees e s = dec-or (before s e) (Dec·and (ℕ-discrete (s .core) (e .core)) (decLt (s .place .0) (e .place .0)))
 
--- a claim of a commit that stores to line l
-of-store : (l : ℕ) (o : Op ℕ) {Q : Type 0} → Dec Q → Dec ((y : ℕ) → o ≡ store l y → Q)
-of-store l (load m z) d = yes (λ y e. absurd (let z : _≡_ {A = ℕ} 0 1 = cc in omega arith))
-of-store l (store m z) d = reworded (λ f y e. f (cc)) (λ g e. g z (ap (λ (k : ℕ). store k z) e)) (dec-if (ℕ-discrete m l) d)
-of-store l fence d = yes (λ y e. absurd (let z : _≡_ {A = ℕ} 0 1 = cc in omega arith))
-
--- the store s is the last one to line l that the load e may see
-last : (h : Log) (e : Commit ℕ) (l : ℕ) (s : Commit ℕ) → Dec ((s′ : Commit ℕ) → In s′ h → (y : ℕ) → Stores l s′ y → MaySee e s′ → (s′ ≡ s) ⊎ Before s′ s)
-last h e l s = dec-every (λ s′. of-store l (s′ .op) (dec-if (sees e s′) (dec-or (same s′ s) (before s′ s)))) h
-
--- what the load e of line l reads: the value of the last store that it may see, or 0 where it may see none
-read : (h : Log) (e : Commit ℕ) (l x : ℕ) → Dec (LastWrite h (Stores l) (MaySee e) 0 x)
-read h e l x =
-    dec-or
-    (reworded (λ t. (t .0, t .1, t .2 .0, t .2 .1 .0, t .2 .1 .1)) (λ t. (t .0, t .1, (t .2, (t .3, t .4))))
-    (dec-some (λ s. Dec·and (same-op (s .op) (store l x)) (Dec·and (sees e s) (last h e l s))) h))
-    (Dec·and (dec-every (λ s. of-store l (s .op) (Dec·not (sees e s))) h) (ℕ-discrete x 0))
-
-reading : (h : Log) (e : Commit ℕ) (o : Op ℕ) → Dec ((l x : ℕ) → o ≡ load l x → LastWrite h (Stores l) (MaySee e) 0 x)
-reading h e (load m z) =
-    reworded (λ w l x q. subst (λ (a : ℕ). LastWrite h (Stores l) (MaySee e) 0 a) (cc) (subst (λ (a : ℕ). LastWrite h (Stores a) (MaySee e) 0 z) (cc) w))
-    (λ g. g m z refl) (read h e m z)
-reading h e (store m z) = yes (λ l x q. absurd (let z : _≡_ {A = ℕ} 0 1 = cc in omega arith))
-reading h e fence = yes (λ l x q. absurd (let z : _≡_ {A = ℕ} 0 1 = cc in omega arith))
-
--- ---- the logs
-
 tso : (h : Log) → Dec (TSO 0 h)
-tso h =
-    reworded (λ t. record { order = λ a b i j. t .0 a i b j; reads = t .1 }) (λ o. (λ a i b j. o .order a b i j, o .reads))
-    (Dec·and (dec-every (λ a. dec-every (ordered a) h) h) (dec-every (λ e. reading h e (e .op)) h))
-
--- the definitions that the decision computes by
-deciding : Unit {0}
-unfolding Dec·and Dec·not ℕ-discrete decLt holds reworded dec-or dec-if dec-every dec-some apart same-numbers same-op same before keeps ordered sees of-store
-    last read reading tso
-deciding = tt
+tso = obeys keeps sees
 
 pub tso-theorem : TsoTheorem
-unfolding deciding
+unfolding deciding keeps sees tso
 tso-theorem = each (λ h. holds (tso h)) (λ h. true) (λ h. from-yes (tso h)) obeying refl
 
 pub not-tso-theorem : NotTsoTheorem
-unfolding deciding
+unfolding deciding keeps sees tso
 not-tso-theorem = each (λ h. holds (tso h)) (λ h. false) (λ h. from-no (tso h)) disobeying refl

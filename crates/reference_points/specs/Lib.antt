@@ -13,5 +13,6 @@ pub mod Capacity
 pub mod Sample
 pub mod SecondForm
 pub mod Logs
+pub mod Fences
 pub mod Chain
 pub mod Conversions
