@@ -6,7 +6,7 @@
 --
 -- `Fenced` is the condition on the list's commits, `Sequential` what their sorted order then obeys, and `SequentialTheorem` the claim.
 -- `FenceTheorem` is the same of any memory model and any log of commits, whatever made it: which pairs of one core's commits may change places
--- is its parameter.
+-- is its parameter. `StrictestTheorem` is its converse: nothing that is sequentially consistent disobeys such a model.
 use mathlib.Core.{Path._≡_, List.List}
 use Rattle.protocol.specs.{Step.{Op, load, store, fence}, Run.Commit, Order.{In, Before, Earlier, Loads, Stores, MaySee, Obeys, OfEveryRun}}
 
@@ -82,3 +82,9 @@ abbrev pub FenceTheorem : Type 1
 FenceTheorem =
     (A C X : Type 0) (Keeps Swaps : Op A → Op A → Type 0) (Reads Writes : C → Commit A → X → Type 0) (zero : X) (H : List (Commit A))
     → FencesHold Keeps Swaps → Obeys Keeps MaySee Reads Writes zero H → Fenced Swaps H → Obeys AllKeep Preceding Reads Writes zero H
+
+-- the other way round, sequential consistency is the strictest of these models: a log that is sequentially consistent obeys any of them
+abbrev pub StrictestTheorem : Type 1
+StrictestTheorem =
+    (A C X : Type 0) (Keeps : Op A → Op A → Type 0) (Reads Writes : C → Commit A → X → Type 0) (zero : X) (H : List (Commit A))
+    → Obeys AllKeep Preceding Reads Writes zero H → Obeys Keeps MaySee Reads Writes zero H

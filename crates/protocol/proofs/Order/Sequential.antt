@@ -5,7 +5,7 @@ use mathlib.Core.{Path.{_≡_, refl, sym, _∙_, ap}, Logic.{_⊎_, inl, inr, �
 use native.Mathlib.{Omega.arith, Decide.{decLt, ℕ-discrete}}
 use Rattle.protocol.specs.{Buffers.Bytes, Step.{Op, load, store, fence}, Run.Commit}
 use Rattle.protocol.specs.Order.{In, here, there, Before, Earlier, TsoKeeps, Loads, Stores, MaySee, LastWrite, Obeys}
-use Rattle.protocol.specs.Sequential.{StoreThenLoad, Later, Next, FenceBetween, Fenced, AllKeep, Preceding, FencesHold, FenceTheorem, SequentialTheorem}
+use Rattle.protocol.specs.Sequential.{StoreThenLoad, Later, Next, FenceBetween, Fenced, AllKeep, Preceding, FencesHold, FenceTheorem, SequentialTheorem, StrictestTheorem}
 use Rattle.protocol.proofs.Order.{Log.{in-nil, in-cons, at-place}, Theorem.{before-trans, order-theorem}}
 
 -- ---- the next commit that may change places
@@ -65,6 +65,15 @@ module _ {A : Type 0} {Swaps : Op A → Op A → Type 0} (told : (a b : Op A) �
 
 -- ---- the order
 
+-- all commits of a core stand as they were made
+abbrev AsMade : {A : Type 0} → List (Commit A) → Type 0
+AsMade {A} H = (a b : Commit A) → In a H → In b H → a .core ≡ b .core → Earlier a b → Before a b
+
+-- what a read may see then precedes it: its own core's earlier writes do
+seen : {A : Type 0} {H : List (Commit A)} → AsMade H → (e s : Commit A) → In e H → In s H → MaySee e s → Preceding e s
+seen made e s i j (inl p) = p
+seen made e s i j (inr p) = made s e j i (p .0) (p .1)
+
 module _ {A C X : Type 0} (Keeps Swaps : Op A → Op A → Type 0) (Reads Writes : C → Commit A → X → Type 0) (zero : X) (H : List (Commit A))
     (F : FencesHold Keeps Swaps) (O : Obeys Keeps MaySee Reads Writes zero H) (fenced : Fenced Swaps H) where
   -- any two commits of one core that may change places have a fence of it between them, not the next alone
@@ -78,35 +87,50 @@ module _ {A C X : Type 0} (Keeps Swaps : Op A → Op A → Type 0) (Reads Writes
           wider (f, m, v) = (f, m, record { core = v .core; fence = v .fence; after = v .after; before = omega (arith, w .near, v .before) })
 
   -- what stands on both sides of a fence of its core keeps its order
-  through : (a f b : Commit A) → In a H → In f H → In b H → b .core ≡ a .core → FenceBetween a b f → Before a b
+  through : (a f b : Commit A) → In a H → In f H → In b H → a .core ≡ b .core → FenceBetween a b f → Before a b
   through a f b i m j c w =
       before-trans a f b (O .order a f i m (sym (w .core)) (w .after) (rw (w .fence) (F .before (a .op))))
-      (O .order f b m j (w .core ∙ sym c) (w .before) (rw (w .fence) (F .after (b .op))))
+      (O .order f b m j (w .core ∙ c) (w .before) (rw (w .fence) (F .after (b .op))))
 
-  in-order : (a b : Commit A) → In a H → In b H → a .core ≡ b .core → Earlier a b → Before a b
-  in-order a b i j c h = go (F .told (a .op) (b .op))
+  as-made : AsMade H
+  as-made a b i j c h = go (F .told (a .op) (b .op))
     where
       go : Dec (Swaps (a .op) (b .op)) → Before a b
       go (no n) = O .order a b i j c h (F .kept (a .op) (b .op) n)
       go (yes s) = crossing (parted a b i j (record { core = sym c; after = h; swaps = s }))
         where
           crossing : (f : Commit A) × In f H × FenceBetween a b f → Before a b
-          crossing (f, m, w) = through a f b i m j (sym c) w
+          crossing (f, m, w) = through a f b i m j c w
 
-  -- what a read may see stands before it
-  seen : (e s : Commit A) → In e H → In s H → MaySee e s → Preceding e s
-  seen e s i j (inl p) = p
-  seen e s i j (inr p) = in-order s e j i (p .0) (p .1)
+  last-preceding : (e : Commit A) → In e H → (i : C) {x : X} → LastWrite H (Writes i) (MaySee e) zero x → LastWrite H (Writes i) (Preceding e) zero x
+  last-preceding e m i (inl (s, n, w, v, most)) = inl (s, n, w, seen as-made e s m n v, λ t k y u p. most t k y u (inl p))
+  last-preceding e m i (inr (none, z)) = inr (λ s n y w p. none s n y w (inl p), z)
 
-  last-seen : (e : Commit A) → In e H → (i : C) {x : X} → LastWrite H (Writes i) (MaySee e) zero x → LastWrite H (Writes i) (Preceding e) zero x
-  last-seen e m i (inl (s, n, w, v, most)) = inl (s, n, w, seen e s m n v, λ t k y u p. most t k y u (inl p))
-  last-seen e m i (inr (none, z)) = inr (λ s n y w p. none s n y w (inl p), z)
-
-  sequential : Obeys AllKeep Preceding Reads Writes zero H
-  sequential = record { order = λ a b i j c h k. in-order a b i j c h; reads = λ e m i x r. last-seen e m i (O .reads e m i x r) }
+  fences-order : Obeys AllKeep Preceding Reads Writes zero H
+  fences-order = record { order = λ a b i j c h k. as-made a b i j c h; reads = λ e m i x r. last-preceding e m i (O .reads e m i x r) }
 
 pub fence-theorem : FenceTheorem
-fence-theorem A C X Keeps Swaps Reads Writes zero H F O fenced = sequential Keeps Swaps Reads Writes zero H F O fenced
+fence-theorem A C X Keeps Swaps Reads Writes zero H F O fenced = fences-order Keeps Swaps Reads Writes zero H F O fenced
+
+-- ---- the converse
+
+-- all pairs keep their order, a store and then a load too
+all-keep : {A : Type 0} (a b : Op A) → AllKeep a b
+all-keep (load l x) b = tt
+all-keep fence b = tt
+all-keep (store l x) (load m y) = tt
+all-keep (store l x) (store m y) = tt
+all-keep (store l x) fence = tt
+
+pub strictest-theorem : StrictestTheorem
+strictest-theorem A C X Keeps Reads Writes zero H S = record { order = λ a b i j c h k. made a b i j c h; reads = λ e m i x r. last e m i (S .reads e m i x r) }
+  where
+    made : AsMade H
+    made a b i j c h = S .order a b i j c h (all-keep (a .op) (b .op))
+
+    last : (e : Commit A) → In e H → (i : C) {x : X} → LastWrite H (Writes i) (Preceding e) zero x → LastWrite H (Writes i) (MaySee e) zero x
+    last e m i (inl (s, n, w, v, most)) = inl (s, n, w, inl v, λ t k y u p. most t k y u (seen made e t m k p))
+    last e m i (inr (none, z)) = inr (λ s n y w p. none s n y w (seen made e s m n p), z)
 
 -- ---- TSO
 
