@@ -16,8 +16,10 @@ use std::collections::BTreeMap;
 use crate::journal::{self, kind_name, unknown_kind, Form, MAX_JOURNAL, MAX_LINE};
 use crate::listing::done_name;
 use crate::machine::*;
+use crate::order::{self, Made, Ties};
 use crate::rows::Rows;
 use crate::run::{Record, Run};
+use crate::sequential::{between, next_loads};
 use crate::tally::Tallied;
 
 const ANSWERS: &[&str] = &[
@@ -303,6 +305,8 @@ const FORM_2: &[&str] = &[
     "fabric=2: take: no recall",
     "fabric=2: take: downgrade",
     "fabric=2: take: flush",
+    "fabric=2: fences: one between a store and the next load",
+    "fabric=2: fences: none, the next load stands before the store",
     "fabric=2: read to its end",
     "fabric=2: ended by 7: opening",
     "fabric=2: ended by 10: opening",
@@ -339,9 +343,27 @@ const TALLIES: &[&str] = &[
     "tally: counts before a line that ends the run",
 ];
 
+/// 02, "Fences give sequential consistency": what fences there are around a store and
+/// the next load of its core, of that core where nothing else is said, and how the
+/// two stand in the sorted order.
+const FENCES: &[&str] = &[
+    "fences: one between a store and the next load",
+    "fences: one between several stores and the next load",
+    "fences: one while the next load's request is under way",
+    "fences: store, fence and next load at one timestamp",
+    "fences: only another core's between a store and the next load",
+    "fences: only one before the store",
+    "fences: only one between two stores",
+    "fences: only one after the next load",
+    "fences: none, the next load stands before the store",
+    "fences: none, the next load stands after the store",
+    "fences: none, the next load reads the store, which stands later",
+    "fences: a store without a next load",
+];
+
 /// Every row that generated journals must meet.
 pub fn rows() -> Vec<&'static str> {
-    [ANSWERS, STEPS, CACHES, REPEATED, REFUSALS, JOURNALS, FORM_2, TALLIES].concat()
+    [ANSWERS, STEPS, CACHES, REPEATED, REFUSALS, JOURNALS, FORM_2, TALLIES, FENCES].concat()
 }
 
 /// How often each row was met.
@@ -429,7 +451,68 @@ impl Coverage {
         }
         self.count_end(journal, run.form(), &records);
         self.count_tally(&records, run.machine());
+        self.count_fences(&records);
         records
+    }
+
+    /// What fences there are around each store and the next load of its core.
+    fn count_fences(&mut self, records: &[Record]) {
+        let made = order::commits(records);
+        let mut stores = made.iter().filter(|commit| commit.is_store()).count();
+        for (store, load) in next_loads(&made) {
+            let of_core: Vec<_> = made.iter().filter(|commit| commit.same_core(store)).collect();
+            match of_core.iter().find(|commit| commit.is_fence() && between(store, commit, load)) {
+                Some(fence) => self.count_fence(records, &of_core, [store, fence, load]),
+                None => self.count_no_fence(&made, &of_core, [store, load]),
+            }
+            stores -= 1;
+        }
+        if stores > 0 {
+            self.count("fences: a store without a next load");
+        }
+    }
+
+    /// Of a fence between a store and the next load of its core, all among the commits
+    /// of that core: what else is there, and how the three stand.
+    fn count_fence(&mut self, records: &[Record], of_core: &[&Made], [store, fence, load]: [&Made; 3]) {
+        self.count("fences: one between a store and the next load");
+        if before(of_core, store).next().is_some_and(Made::is_store) {
+            self.count("fences: one between several stores and the next load");
+        }
+        let asks = |record: &Record| record.step == Some(load.call) && record.answer == Answer::Ask;
+        if records[store.place as usize..fence.place as usize].iter().any(asks) {
+            self.count("fences: one while the next load's request is under way");
+        }
+        if store.ts == fence.ts && fence.ts == load.ts {
+            self.count("fences: store, fence and next load at one timestamp");
+        }
+    }
+
+    /// Where there is no fence of the core between a store and the next load: what
+    /// fences there are, and how the two stand.
+    fn count_no_fence(&mut self, made: &[Made], of_core: &[&Made], [store, load]: [&Made; 2]) {
+        if made.iter().any(|commit| commit.is_fence() && between(store, commit, load)) {
+            self.count("fences: only another core's between a store and the next load");
+        }
+        if before(of_core, store).any(Made::is_fence) {
+            self.count("fences: only one before the store");
+        }
+        let mut earlier = before(of_core, store);
+        if earlier.next().is_some_and(Made::is_fence) && earlier.next().is_some_and(Made::is_store) {
+            self.count("fences: only one between two stores");
+        }
+        if of_core.iter().any(|commit| commit.is_fence() && commit.place > load.place) {
+            self.count("fences: only one after the next load");
+        }
+        if order::precedes(store, load, Ties::ByPlace) {
+            self.count("fences: none, the next load stands after the store");
+            return;
+        }
+        self.count("fences: none, the next load stands before the store");
+        let reads = |line, data| load.call.line() == Some(line) && load.loaded == Some(data);
+        if matches!(store.call, Step::Store { line, data, .. } if reads(line, data)) {
+            self.count("fences: none, the next load reads the store, which stands later");
+        }
     }
 
     /// What capacity a journal of the second form opens.
@@ -900,6 +983,11 @@ impl Coverage {
             _ => {}
         }
     }
+}
+
+/// The commits before one of them, the last first.
+fn before<'a>(made: &'a [&Made], commit: &'a Made) -> impl Iterator<Item = &'a Made> {
+    made.iter().rev().copied().skip_while(|other| other.place >= commit.place)
 }
 
 /// Why a step line has no form of a journal's grammar.

@@ -177,6 +177,17 @@ faults! {
     DirtyKeptByEviction "dirty-kept-by-eviction" "a line that was dirty when it was evicted, written back or flushed is dirty as soon as its core owns it again"
     DirtyWhenOwned "dirty-when-owned" "a line is dirty as soon as it is owned"
     Store27LeftOut "store-27-left-out" "a store to a line not yet dirty commits at the greatest timestamp where rts + 1 passes it, and 27 is due"
+    // Fences. One that also moves sts is none of them: no later step shows it, since lts is not below sts then.
+    FenceOfEveryCore "fence-of-every-core" "a fence brings the lts of every core up to its timestamp"
+    FenceToSts "fence-to-sts" "a fence brings lts to sts also where lts is greater"
+    SlotFenceLeavesLts "slot-fence-leaves-lts" "a fence leaves lts while its core's slot is in use"
+    SlotFence20 "slot-fence-20" "20 for a fence while its core's slot is in use"
+    FenceMovesRequest "fence-moves-request" "a fence also moves the lts with which its core has asked"
+    FenceCleans "fence-cleans" "a fence leaves its core's owned lines not dirty"
+    FenceDropsShared "fence-drops-shared" "a fence gives up its core's shared copies"
+    StoreFences "store-fences" "a store brings lts up to its timestamp, as a fence after it does"
+    LoadFences "load-fences" "a load first brings lts up to sts, as a fence before it does"
+    AdvanceFences "advance-fences" "an advance also brings lts up to sts, as a fence does"
     // The driver.
     RefusalAsCommit "refusal-as-commit" "the end line counts a refusal as a commit"
     OtherCoreTs "other-core-ts" "a commit prints the lts of core 0"
@@ -540,6 +551,15 @@ impl Faulty {
             Fault::DirtyKeptByDowngrade | Fault::DirtyKeptByEviction => self.dirty_kept(step, before, answer),
             Fault::DirtyWhenOwned => self.dirty_when_owned(step, before, answer),
             Fault::Store27LeftOut => self.store_27_left_out(step, before, answer),
+            Fault::FenceOfEveryCore
+            | Fault::FenceToSts
+            | Fault::SlotFenceLeavesLts
+            | Fault::SlotFence20
+            | Fault::FenceMovesRequest
+            | Fault::FenceCleans
+            | Fault::FenceDropsShared => self.other_fence(step, before, answer),
+            Fault::StoreFences | Fault::AdvanceFences => self.fences_after(step, answer),
+            Fault::LoadFences => self.load_fences(step, before, answer),
             Fault::RenewalRevives => self.renewal_revives(step, before, answer),
             Fault::AlwaysAsks => self.always_asks(step, before, answer),
             Fault::ServeMovesNothing => self.serve_moves_nothing(step, before, answer, 0),
@@ -820,6 +840,68 @@ impl Faulty {
             self.machine.set_copy(core, line, PrivateCopy::Owned { wts, rts, dirty: true });
         }
         answer
+    }
+
+    /// A fence that does less than it should, or more.
+    fn other_fence(&mut self, step: &Step, before: &Machine, answer: Answer) -> Answer {
+        let (Step::Fence { core }, Answer::Commit(Commit::Fence { ts, .. })) = (*step, answer) else {
+            return answer;
+        };
+        let Core { sts, slot, .. } = before.state.cores[core as usize];
+        let State { cores, copies, .. } = &mut self.machine.state;
+        let copies = copies[core as usize].iter_mut();
+        match self.fault {
+            Fault::FenceOfEveryCore => cores.iter_mut().for_each(|core| core.lts = core.lts.max(ts)),
+            Fault::FenceToSts => {
+                cores[core as usize].lts = sts;
+                return Answer::Commit(Commit::Fence { core, ts: sts });
+            }
+            Fault::SlotFenceLeavesLts if slot != Slot::Empty => self.machine = before.clone(),
+            Fault::SlotFence20 => return self.refuse_if(slot != Slot::Empty, before, 20, answer),
+            Fault::FenceMovesRequest => {
+                if let Slot::Asked { lts, .. } = &mut cores[core as usize].slot {
+                    *lts = ts;
+                }
+            }
+            Fault::FenceCleans => copies.for_each(|copy| {
+                if let PrivateCopy::Owned { dirty, .. } = copy {
+                    *dirty = false;
+                }
+            }),
+            Fault::FenceDropsShared => copies.for_each(|copy| {
+                if let PrivateCopy::Shared { .. } = copy {
+                    *copy = PrivateCopy::None;
+                }
+            }),
+            _ => {}
+        }
+        answer
+    }
+
+    /// A fence, which prints nothing, follows a store or an advance.
+    fn fences_after(&mut self, step: &Step, answer: Answer) -> Answer {
+        let follows = match self.fault {
+            Fault::StoreFences => matches!(answer, Answer::Commit(Commit::Store { .. })),
+            _ => answer == Answer::Advance,
+        };
+        if let (true, Some(core)) = (follows, step.core()) {
+            self.machine.step(&Step::Fence { core });
+        }
+        answer
+    }
+
+    /// A fence, which prints nothing, comes before a load that is not refused.
+    fn load_fences(&mut self, step: &Step, before: &Machine, answer: Answer) -> Answer {
+        let Step::Load { core, .. } = *step else {
+            return answer;
+        };
+        if matches!(answer, Answer::Refused(_)) {
+            return answer;
+        }
+        self.machine = before.clone();
+        self.machine.step(&Step::Fence { core });
+        let answer = self.machine.step(step);
+        self.refuse_if(answer == Answer::Refused(20), before, 20, answer)
     }
 
     fn renewal_revives(&mut self, step: &Step, before: &Machine, answer: Answer) -> Answer {

@@ -4,10 +4,11 @@
 //! steps that matter where the machine stands: pending requests go on, leases
 //! run out by one, renewals find their copy gone, recalls meet writebacks in
 //! flight, full caches make room. Some steps are wild, and some journals are
-//! damaged afterwards.
+//! damaged afterwards. In others each core makes a fence between a store and its
+//! next load.
 
 use crate::damage;
-use crate::journal::{write_opening, write_step, Form, MAX_JOURNAL};
+use crate::journal::{self, write_opening, write_step, Form, MAX_JOURNAL};
 use crate::machine::*;
 use crate::random::Random;
 
@@ -66,19 +67,54 @@ fn at_limit(random: &mut Random, form: Form) -> Vec<u8> {
     text
 }
 
+/// The journal with fences of a seed: between a committed store and the next
+/// committed load of its core, that core commits a fence (02, "Fences give sequential
+/// consistency").
+pub fn fenced_journal(seed: u64) -> Vec<u8> {
+    let mut random = Random::new(seed);
+    let form = random.pick(&Form::ALL);
+    let length = Length::Steps(random.between(20, 250));
+    Traffic::with_fences(&mut random, form).journal(length)
+}
+
+/// A journal with its fences left out.
+pub fn without_fences(journal: &[u8]) -> Vec<u8> {
+    change_fences(journal, |_| None)
+}
+
+/// A journal in which each fence is made by the core after its own.
+pub fn with_fences_of_others(journal: &[u8]) -> Vec<u8> {
+    let first = journal.split(|&byte| byte == b'\n').next().unwrap_or(&[]);
+    let cores = journal::opening(first).map_or(1, |(_, sizes)| sizes.cores);
+    change_fences(journal, |core| Some((core % cores + 1) % cores))
+}
+
+/// A journal whose fences are made by other cores, or by none.
+fn change_fences(journal: &[u8], other: impl Fn(u32) -> Option<u32>) -> Vec<u8> {
+    let lines = journal.split_inclusive(|&byte| byte == b'\n');
+    let changed = lines.map(|line| {
+        let core = line.strip_prefix(b"op=fence core=").and_then(|core| std::str::from_utf8(core).ok());
+        match core.and_then(|core| core.trim_end().parse().ok()) {
+            None => line.to_vec(),
+            Some(core) => {
+                other(core).map_or(Vec::new(), |core| format!("op=fence core={core}\n").into_bytes())
+            }
+        }
+    });
+    changed.collect::<Vec<_>>().concat()
+}
+
 /// A list of calls of a seed, on an engine of these sizes, of any capacity. It
 /// mixes evict, drop and writeback, which no journal can.
 pub fn calls(seed: u64, count: usize) -> (Sizes, Vec<Step>) {
     let mut random = Random::new(seed);
-    let mut traffic = Traffic::new(&mut random, Form::Two);
-    traffic.mixed = true;
-    let steps = (0..count).map(|_| {
-        let step = traffic.mostly_fruitful_step();
-        traffic.play(&step);
-        step
-    });
-    let steps = steps.collect();
-    (traffic.sizes(), steps)
+    Traffic::new(&mut random, Form::Two).calls(count)
+}
+
+/// Such a list with the fences of `fenced_journal`.
+pub fn fenced_calls(seed: u64, count: usize) -> (Sizes, Vec<Step>) {
+    let mut random = Random::new(seed);
+    Traffic::with_fences(&mut random, Form::Two).calls(count)
 }
 
 /// How long a journal is to be.
@@ -120,7 +156,12 @@ fn sizes(random: &mut Random, form: Form) -> Sizes {
         2 => random.pick(&[1, MAX_LEASE]),
         _ => random.between(2, 20),
     };
-    let cap = match form {
+    let cap = capacity(random, form, lines);
+    Sizes { cores, lines, width, lease, cap }
+}
+
+fn capacity(random: &mut Random, form: Form, lines: u32) -> u32 {
+    match form {
         Form::One => lines,
         Form::Two => match random.below(10) {
             0..=2 => 1,
@@ -128,7 +169,14 @@ fn sizes(random: &mut Random, form: Form) -> Sizes {
             6 | 7 => lines,
             _ => random.between(1, lines),
         },
-    };
+    }
+}
+
+/// Sizes of a small engine with short leases, where each store matters to others.
+fn small_sizes(random: &mut Random, form: Form) -> Sizes {
+    let (cores, lines, width) = (random.between(2, 4), random.between(1, 4), random.between(1, 2));
+    let lease = random.pick(&[1, 2, 3, 5, 10, 20]);
+    let cap = capacity(random, form, lines);
     Sizes { cores, lines, width, lease, cap }
 }
 
@@ -176,6 +224,17 @@ struct Without {
     misfits: bool,
 }
 
+/// The fences that are due in traffic with fences.
+struct Fences {
+    /// Whether one mostly follows a store at once.
+    at_once: bool,
+    /// The chance in a hundred that one comes in the place of another step of its
+    /// core. In any case it comes in the place of a load that would commit.
+    early: u32,
+    /// Which cores have stored since their last fence.
+    due: [bool; MAX_CORES],
+}
+
 /// A source of steps that belong together.
 pub struct Traffic<'a> {
     random: &'a mut Random,
@@ -183,11 +242,13 @@ pub struct Traffic<'a> {
     /// Whether it has the evictions of both forms.
     mixed: bool,
     without: Without,
+    /// Set where each core makes a fence between a store and its next load.
+    fences: Option<Fences>,
     mood: Mood,
     machine: Machine,
     /// What each core wants to do until it commits.
     wishes: [Option<Step>; MAX_CORES],
-    /// What a full cache would best do after the last step.
+    /// What would best follow the last step.
     remedy: Option<Step>,
 }
 
@@ -207,6 +268,7 @@ impl<'a> Traffic<'a> {
             form,
             mixed: false,
             without,
+            fences: None,
             mood,
             machine,
             wishes: [None; MAX_CORES],
@@ -226,6 +288,27 @@ impl<'a> Traffic<'a> {
         }
         self.without = Without { victims, misfits };
         self
+    }
+
+    /// Traffic of all cores on all lines of a small engine, in which each core makes a
+    /// fence between a store and its next load: right after the store or the last of
+    /// several, right before the load, or somewhere between, also while the load's
+    /// request is under way.
+    pub fn with_fences(random: &'a mut Random, form: Form) -> Traffic<'a> {
+        let sizes = small_sizes(random, form);
+        let mut traffic = Traffic::of_sizes(random, form, sizes);
+        traffic.mood.cores = (0..sizes.cores).collect();
+        traffic.mood.lines = (0..sizes.lines).collect();
+        traffic.mood.weights = traffic.random.pick(&[
+            [50, 30, 0, 5, 15],
+            [40, 50, 2, 3, 5],
+            [40, 30, 5, 15, 10],
+            [50, 40, 0, 5, 5],
+        ]);
+        let at_once = traffic.random.percent(30);
+        let early = traffic.random.pick(&[0, 0, 5, 20, 50]);
+        traffic.fences = Some(Fences { at_once, early, due: [false; MAX_CORES] });
+        traffic
     }
 
     /// Only reasonable traffic, of all cores on all lines: no wild steps and low
@@ -275,6 +358,18 @@ impl<'a> Traffic<'a> {
         text
     }
 
+    /// A whole list of calls with the evictions of both forms, and the engine's sizes.
+    fn calls(mut self, count: usize) -> (Sizes, Vec<Step>) {
+        self.mixed = true;
+        let mut steps = Vec::new();
+        for _ in 0..count {
+            let step = self.mostly_fruitful_step();
+            self.play(&step);
+            steps.push(step);
+        }
+        (self.sizes(), steps)
+    }
+
     /// By how many bytes the first line of the other form is longer.
     fn growth_of_opening(&self) -> isize {
         let Sizes { lines, cap, .. } = self.sizes();
@@ -304,10 +399,32 @@ impl<'a> Traffic<'a> {
     /// Plays a step and forgets a wish that has come true.
     fn play(&mut self, step: &Step) {
         let answer = self.machine.step(step);
-        if let (Answer::Commit(_), Some(core)) = (answer, step.core()) {
-            self.wishes[core as usize] = None;
+        if let (Answer::Commit(commit), Some(core)) = (answer, step.core()) {
+            let core = core as usize;
+            // A fence that was due came in the place of another step.
+            if self.fences.is_none() || !matches!(commit, Commit::Fence { .. }) {
+                self.wishes[core] = None;
+            }
+            if let Some(fences) = &mut self.fences {
+                match commit {
+                    Commit::Load { .. } => {}
+                    Commit::Store { .. } => fences.due[core] = true,
+                    Commit::Fence { .. } => fences.due[core] = false,
+                }
+            }
         }
-        self.remedy = self.remedy(step, answer);
+        self.remedy = self.remedy(step, answer).or_else(|| self.fence_or_load(step, answer));
+    }
+
+    /// What may follow at once in traffic with fences: a store's fence, and after a
+    /// fence what its core wants to do.
+    fn fence_or_load(&self, step: &Step, answer: Answer) -> Option<Step> {
+        let fences = self.fences.as_ref()?;
+        match (*step, answer) {
+            (Step::Store { core, .. }, Answer::Commit(_)) if fences.at_once => Some(Step::Fence { core }),
+            (Step::Fence { core }, Answer::Commit(_)) => self.wishes[core as usize],
+            _ => None,
+        }
     }
 
     /// What leads a full cache on after a step: after 31 its victim, after that the
@@ -367,7 +484,29 @@ impl<'a> Traffic<'a> {
             }
             step = self.kept_step();
         }
-        step
+        self.after_fence(step)
+    }
+
+    /// The step, or a fence in its place: of a load that would commit where its core's
+    /// fence is due, and sometimes of another step of that core.
+    fn after_fence(&mut self, step: Step) -> Step {
+        let (Some(fences), Some(core)) = (&self.fences, step.core()) else {
+            return step;
+        };
+        if !fences.due.get(core as usize).is_some_and(|due| *due) {
+            return step;
+        }
+        let commits = match step {
+            Step::Load { core, line } => {
+                self.machine.refusal(&step).is_none() && !self.machine.load_must_ask(core, line)
+            }
+            _ => false,
+        };
+        if commits || self.random.percent(fences.early) {
+            Step::Fence { core }
+        } else {
+            step
+        }
     }
 
     /// The next step, or another in its place where the traffic does without it.

@@ -505,7 +505,7 @@ impl Machine {
     }
 
     /// A load asks if there is no copy, or a shared one whose lease is over.
-    fn load_must_ask(&self, core: u32, line: u32) -> bool {
+    pub fn load_must_ask(&self, core: u32, line: u32) -> bool {
         match self.copy(core, line) {
             PrivateCopy::None => true,
             PrivateCopy::Shared { rts, .. } => self.core(core).lts > rts,

@@ -1,10 +1,12 @@
-//! Demand 3, checked by its definition (01, "The sorted order"): the commits of
-//! a run, sorted by timestamp and then by place, follow the rules of TSO.
+//! What a memory model says of the commits of a run, sorted by timestamp and then
+//! by place, checked by its definition (01, "The sorted order").
 //!
 //! - Two commits of one core stand in the order in which they were made, unless
-//!   the earlier is a store and the later a load.
+//!   the model lets the later one pass the earlier.
 //! - A load's bytes are those of the last store to its line among the stores
-//!   that precede it and those that its core made earlier; zeros if none.
+//!   that precede it and those that the model shows it besides; zeros if none.
+//!
+//! Demand 3 is this with the model TSO. `sequential.rs` has another one.
 
 use crate::machine::{Answer, Bytes, Commit, Step};
 use crate::run::Record;
@@ -25,12 +27,20 @@ impl Made {
         self.call.core()
     }
 
-    fn is_load(&self) -> bool {
+    pub fn same_core(&self, other: &Made) -> bool {
+        self.core() == other.core()
+    }
+
+    pub fn is_load(&self) -> bool {
         matches!(self.call, Step::Load { .. })
     }
 
-    fn is_store(&self) -> bool {
+    pub fn is_store(&self) -> bool {
         matches!(self.call, Step::Store { .. })
+    }
+
+    pub fn is_fence(&self) -> bool {
+        matches!(self.call, Step::Fence { .. })
     }
 }
 
@@ -42,7 +52,28 @@ pub enum Ties {
     ByCore,
 }
 
-/// Where demand 3 fails.
+/// A memory model.
+pub struct Model {
+    /// Whether, of two commits of one core, the later (given second) may stand
+    /// before the earlier.
+    pub may_pass: fn(&Made, &Made) -> bool,
+    /// Whether a load (given second) sees a store that does not precede it.
+    pub sees_besides: fn(&Made, &Made) -> bool,
+}
+
+/// Demand 3: a load may pass a store, and a load sees the stores that its core made
+/// earlier.
+pub const TSO: Model = Model {
+    may_pass: |earlier, later| earlier.is_store() && later.is_load(),
+    sees_besides: made_by_its_core,
+};
+
+/// Whether a store was made earlier by a load's core.
+fn made_by_its_core(store: &Made, load: &Made) -> bool {
+    store.same_core(load) && store.place < load.place
+}
+
+/// Where a model's rules fail.
 #[derive(Clone, Copy, PartialEq, Eq, Debug)]
 pub enum Trouble {
     /// A call that is no load, store or fence committed.
@@ -70,7 +101,7 @@ fn made(record: &Record) -> Option<Made> {
 }
 
 /// Whether one commit precedes another.
-fn precedes(one: &Made, other: &Made, ties: Ties) -> bool {
+pub fn precedes(one: &Made, other: &Made, ties: Ties) -> bool {
     match ties {
         Ties::ByPlace => (one.ts, one.place) < (other.ts, other.place),
         Ties::ByCore => (one.ts, one.core(), one.place) < (other.ts, other.core(), other.place),
@@ -79,27 +110,30 @@ fn precedes(one: &Made, other: &Made, ties: Ties) -> bool {
 
 /// Checks demand 3 over all commits of a run, given in the order of their places.
 pub fn check(made: &[Made], ties: Ties) -> Result<(), Trouble> {
+    check_model(made, &TSO, ties)
+}
+
+/// Checks the rules of a model over all commits of a run, given in the order of
+/// their places.
+pub fn check_model(made: &[Made], model: &Model, ties: Ties) -> Result<(), Trouble> {
     check_kinds(made)?;
-    check_program_order(made, ties)?;
-    check_bytes(made, ties)
+    check_program_order(made, model, ties)?;
+    check_bytes(made, model, ties)
 }
 
 /// Commits come from load, store and fence only.
 fn check_kinds(made: &[Made]) -> Result<(), Trouble> {
-    let may_commit =
-        |call: &Step| matches!(call, Step::Load { .. } | Step::Store { .. } | Step::Fence { .. });
-    match made.iter().find(|commit| !may_commit(&commit.call)) {
+    match made.iter().find(|commit| !(commit.is_load() || commit.is_store() || commit.is_fence())) {
         Some(commit) => Err(Trouble::WrongKind { place: commit.place }),
         None => Ok(()),
     }
 }
 
-fn check_program_order(made: &[Made], ties: Ties) -> Result<(), Trouble> {
+fn check_program_order(made: &[Made], model: &Model, ties: Ties) -> Result<(), Trouble> {
     for (at, earlier) in made.iter().enumerate() {
         for later in &made[at + 1..] {
-            let same_core = earlier.core() == later.core();
-            let may_pass = earlier.is_store() && later.is_load();
-            if same_core && !may_pass && !precedes(earlier, later, ties) {
+            let must_stand = earlier.same_core(later) && !(model.may_pass)(earlier, later);
+            if must_stand && !precedes(earlier, later, ties) {
                 return Err(Trouble::OutOfOrder { earlier: earlier.place, later: later.place });
             }
         }
@@ -107,9 +141,10 @@ fn check_program_order(made: &[Made], ties: Ties) -> Result<(), Trouble> {
     Ok(())
 }
 
-fn check_bytes(made: &[Made], ties: Ties) -> Result<(), Trouble> {
+/// The rule about the bytes of loads, by itself.
+pub fn check_bytes(made: &[Made], model: &Model, ties: Ties) -> Result<(), Trouble> {
     for load in made.iter().filter(|commit| commit.is_load()) {
-        let store = last_store(made, load, ties);
+        let store = last_store(made, load, model, ties);
         if !bytes_agree(load, store) {
             return Err(Trouble::WrongBytes { load: load.place, store: store.map(|s| s.place) });
         }
@@ -118,11 +153,11 @@ fn check_bytes(made: &[Made], ties: Ties) -> Result<(), Trouble> {
 }
 
 /// The last store to the load's line among those that precede the load and
-/// those that its core made earlier.
-fn last_store<'a>(made: &'a [Made], load: &Made, ties: Ties) -> Option<&'a Made> {
+/// those that it sees besides.
+fn last_store<'a>(made: &'a [Made], load: &Made, model: &Model, ties: Ties) -> Option<&'a Made> {
     let mut last: Option<&Made> = None;
     for store in made.iter().filter(|commit| commit.is_store()) {
-        let seen = precedes(store, load, ties) || (store.core() == load.core() && store.place < load.place);
+        let seen = precedes(store, load, ties) || (model.sees_besides)(store, load);
         let later = match last {
             Some(last) => precedes(last, store, ties),
             None => true,

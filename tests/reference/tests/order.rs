@@ -1,27 +1,11 @@
 //! The check of demand 3 must fail on histories that break it.
 
-use reference::machine::{Bytes, Step};
+#[path = "common/history.rs"]
+mod history;
+
+use history::{fence, load, out_of_order, store, wrong_bytes};
+use reference::machine::Step;
 use reference::order::{check, Made, Ties, Trouble};
-
-fn load(place: u32, core: u32, line: u32, ts: u32, data: u8) -> Made {
-    Made { place, ts, call: Step::Load { core, line }, loaded: Some(Bytes::new(&[data])) }
-}
-
-fn store(place: u32, core: u32, line: u32, ts: u32, data: u8) -> Made {
-    Made { place, ts, call: Step::Store { core, line, data: Bytes::new(&[data]) }, loaded: None }
-}
-
-fn fence(place: u32, core: u32, ts: u32) -> Made {
-    Made { place, ts, call: Step::Fence { core }, loaded: None }
-}
-
-fn out_of_order(earlier: u32, later: u32) -> Result<(), Trouble> {
-    Err(Trouble::OutOfOrder { earlier, later })
-}
-
-fn wrong_bytes(load: u32, store: Option<u32>) -> Result<(), Trouble> {
-    Err(Trouble::WrongBytes { load, store })
-}
 
 #[test]
 fn an_empty_history_is_orderly() {

@@ -4,8 +4,9 @@
 //!
 //! Each kept journal must give its kept listing and its kept tally, in the
 //! reference and, if they are given, in the programs, which have to end in time
-//! and with exit status 0; demand 3 must hold on the reference's commits, its
-//! tally must add up, and no core of it may hold more copies than the capacity.
+//! and with exit status 0; demand 3 must hold on the reference's commits, and
+//! sequential consistency where they obey the hypothesis of 02's fences; its tally
+//! must add up, and no core of it may hold more copies than the capacity.
 
 use std::path::Path;
 use std::process::ExitCode;
@@ -13,9 +14,10 @@ use std::process::ExitCode;
 use reference::faults::Fault;
 use reference::kept::{self, Kept};
 use reference::listing::listing;
-use reference::order::{self, Ties};
+use reference::order::{self, Made, Ties};
 use reference::program::{self, Printed};
 use reference::run::{overfull, Run};
+use reference::sequential;
 use reference::tally::Tallied;
 use reference::text::first_difference;
 
@@ -48,7 +50,14 @@ fn main() -> ExitCode {
         let kept = all.iter().map(|kept| (kept.name.clone(), Printed::out(printed(kept).to_vec())));
         failed += program::failures(program, folder, kept, patience);
     }
-    println!("kept: {} journals, {failed} failures", all.len());
+    let commits: Vec<_> = all.iter().map(commits).collect();
+    let fenced: Vec<_> = commits.iter().filter(|made| sequential::fenced(made)).collect();
+    println!(
+        "kept: {} journals, {failed} failures; {} obey the hypothesis of sequential consistency ({} need a fence)",
+        all.len(),
+        fenced.len(),
+        fenced.iter().filter(|made| sequential::asks_for_fences(made)).count()
+    );
     if failed == 0 && !all.is_empty() {
         ExitCode::SUCCESS
     } else {
@@ -74,9 +83,17 @@ fn troubles(kept: &Kept) -> Vec<String> {
     if let Some((place, core)) = overfull(&kept.journal, Fault::None) {
         troubles.push(format!("core {core} holds more copies than cap after place {place}"));
     }
-    let records: Vec<_> = Run::new(&kept.journal).collect();
-    if let Err(trouble) = order::check(&order::commits(&records), Ties::ByPlace) {
+    let made = commits(kept);
+    if let Err(trouble) = order::check(&made, Ties::ByPlace) {
         troubles.push(format!("demand 3 fails: {trouble:?}"));
     }
+    if let (true, Err(trouble)) = (sequential::fenced(&made), sequential::check(&made)) {
+        troubles.push(format!("its fences do not give sequential consistency: {trouble:?}"));
+    }
     troubles
+}
+
+/// The commits of a kept journal in the reference.
+fn commits(kept: &Kept) -> Vec<Made> {
+    order::commits(&Run::new(&kept.journal).collect::<Vec<_>>())
 }
