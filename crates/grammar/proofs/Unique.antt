@@ -70,10 +70,10 @@ spellings-injective (value number ∷ p) (n ∷ ns) (m ∷ ms) bs cs h g k e =
     let a : decimal n ≡ decimal m = cc in
     let t : spellings p ns bs ≡ spellings p ms cs = cc in
     let r = spellings-injective p ns ms bs cs (h .1) (g .1) (k .1) t in
-    (ap₂ (λ (x : ℕ) (l : List ℕ). x ∷ l) (decimal-injective n m (g .0) (k .0) a) (r .0), r .1)
+    (ap₂ (λ (x : ℕ) (l : List ℕ). x ∷ l) (decimal-injective n m a) (r .0), r .1)
 spellings-injective (value pairs ∷ p) ns ms bs cs h g k e =
     let a : hex bs ≡ hex cs = cc in
-    (g .0 ∙ sym (k .0), hex-injective bs cs (g .2) (k .2) a)
+    (g .0 ∙ sym (k .0), hex-injective bs cs a)
 
 -- ---- one row at most has a line
 

@@ -2,6 +2,7 @@
 pub mod OneReading
 pub mod OneListing
 pub mod Whole
+pub mod Lines
 pub mod Printed
 pub mod Writing
 pub mod StartOne

@@ -39,7 +39,7 @@ opens-same {j} {hs = hs} {d = d} x y =
 not-both : {j : Bytes} {o : Sizes} {gs : List Entry} {e : Ending} {n : ℕ} → Opens j o gs e → NotOpened j n → ⊥
 not-both x n = opened-not (x .first) (x .accepted) n
 
-listing-same : {j t u : Bytes} → Listing j t → Listing j u → t ≡ u
+pub listing-same : {j t u : Bytes} → Listing j t → Listing j u → t ≡ u
 listing-same (opens {o = o} {gs = gs} {e = e} x) (opens {o = o'} y) =
     let s = opens-same x y in
     ap (λ (z : Sizes). whole z gs e) (s .0) ∙ ap₂ (λ (l : List Entry) (c : Ending). whole o' l c) (s .1) (s .2)

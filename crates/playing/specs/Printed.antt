@@ -1,22 +1,46 @@
--- The commits that a journal's listing prints, and their sorted order: demand 3, and 02's Seven, of listings.
-use mathlib.Core.{List.{List, _++_}}
+-- The commits that a listing prints, read off its text, and their sorted order: demand 3, and 02's Seven, of a journal's listing.
+--
+-- `Prints` reads a text line by line. `OnePrintedTheorem` claims that it finds one list of commits at most, and `PrintedTheorem` that in the
+-- listing of a journal it finds the commits of the journal's run.
+use Prim.Native.Nat.{ℕ}
+use mathlib.Core.{Path._≡_, List.{List, [], _∷_, _++_}}
 use lib.ListN.{replicate}
-use Rattle.protocol.specs.{Buffers.Bytes, Machine.freshMachine, Step.openReply, Run.{Entry, place, Commit}, Counts.nothingMet, declared.Opening.Opening as Sizes}
-use Rattle.protocol.specs.{Order.{commitsOf, OneTsoOrder}, Sequential.SequentialIfFenced}
-use Rattle.listing.specs.Record.{recordText}
+use Rattle.protocol.specs.{Buffers.Bytes, Run.{Entry, Commit}, Order.{commitsOf, OneTsoOrder}, Sequential.SequentialIfFenced}
+use Rattle.protocol.specs.declared.{Opening.Opening as Sizes, Counts.Counts, Name.Name, Given.the-variants.Bytes as InBytes}
+use Rattle.listing.specs.Record.{doneText, refusedText, commitText, endText}
 use Rattle.driver.specs.Listing.{Ending}
-use Rattle.playing.specs.Listing.{listingFrom, Opens}
+use Rattle.playing.specs.Listing.{Opens, Listing}
 
--- the listing of a journal whose first line opens an engine, zeros of its width, and the commits that it prints: those of the records that its
--- lines are the text of
-pub data Prints (journal : Bytes) : Bytes → Bytes → List (Commit Bytes) → Type 0 where
-  prints :
-      {o : Sizes} {gs : List Entry} {e : Ending} → Opens journal o gs e
-      → Prints journal (recordText (place 0) (openReply o) ++ listingFrom (freshMachine o) nothingMet gs e) (replicate (o .width) 0) (commitsOf o gs)
+-- the line of a commit, as `n=4 commit=store core=0 line=0 ts=1 data=07`
+abbrev pub commitLine : Commit Bytes → Bytes
+commitLine e = commitText InBytes (e .place .0) (e .core) (e .ts .0) (e .op)
 
--- a claim about zeros of the width and a list of commits, for every journal that opens an engine, and what its listing prints
+-- a line of a listing that is no commit's
+pub data OtherLine : Bytes → Type 0 where
+  aDone : (n : ℕ) (d : Name) → OtherLine (doneText n d)
+  aRefusal : (n r : ℕ) → OtherLine (refusedText n r)
+  anEnd : (k : Counts) → OtherLine (endText k)
+
+-- the commits that a text prints, in the order of its lines
+pub data Prints : Bytes → List (Commit Bytes) → Type 0 where
+  noLine : Prints [] []
+  aCommit : {e : Commit Bytes} {t : Bytes} {H : List (Commit Bytes)} → Prints t H → Prints (commitLine e ++ t) (e ∷ H)
+  another : {line t : Bytes} {H : List (Commit Bytes)} → OtherLine line → Prints t H → Prints (line ++ t) H
+
+-- a text prints one list of commits at most
+abbrev pub OnePrintedTheorem : Type 0
+OnePrintedTheorem = (t : Bytes) (H J : List (Commit Bytes)) → Prints t H → Prints t J → H ≡ J
+
+-- the listing of a journal that opens an engine prints the commits of its run
+abbrev pub PrintedTheorem : Type 0
+PrintedTheorem =
+    (journal text : Bytes) (o : Sizes) (gs : List Entry) (e : Ending) → Opens journal o gs e → Listing journal text → Prints text (commitsOf o gs)
+
+-- a claim about zeros of the width and a list of commits, for every journal that opens an engine and the commits that its listing prints
 abbrev pub OfEveryListing : (Bytes → List (Commit Bytes) → Type 0) → Type 0
-OfEveryListing Claim = (journal text zero : Bytes) (H : List (Commit Bytes)) → Prints journal text zero H → Claim zero H
+OfEveryListing Claim =
+    (journal text : Bytes) (o : Sizes) (gs : List Entry) (e : Ending) → Opens journal o gs e → Listing journal text
+    → (H : List (Commit Bytes)) → Prints text H → Claim (replicate (o .width) 0) H
 
 -- demand 3: the commits that a listing prints have one sorted order, and it obeys TSO
 abbrev pub ListingOrderTheorem : Type 0

@@ -8,6 +8,7 @@ pub mod Copies
 pub mod Moves
 pub mod Refusals
 pub mod Cases
+pub mod Own
 pub mod Evict
 pub mod Digits
 pub mod Written

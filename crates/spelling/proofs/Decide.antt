@@ -45,7 +45,7 @@ unfolding at-most same-list
 number-told v = told-as (λ x. (value 0 v, x .0, x .1)) is (told-both (at-most (value 0 v) greatest) (same-list v (decimal (value 0 v))))
   where
     is : IsNumber v → (value 0 v ≤ greatest) × (v ≡ decimal (value 0 v))
-    is (n, h, e) = let u : value 0 v ≡ n = ap (value 0) e ∙ value-decimal n h in rw u (h, e)
+    is (n, h, e) = let u : value 0 v ≡ n = ap (value 0) e ∙ value-decimal n in rw u (h, e)
 
 unfoldable pub data-told : (v : List ℕ) → Told (IsData v)
 unfolding at-most all-bytes same-list

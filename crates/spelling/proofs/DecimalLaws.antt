@@ -5,7 +5,7 @@ use native.Mathlib.{Numerals.add-one, Omega.arith, Nat.{le-trans, pow-suc}}
 use lib.{ListN.{length, getD, take, drop, length-append, List·getD-append}, Dec.lit<, Seq.{split-at, getD-take, take-all, take-suc}}
 use borrow.Author.Tests.{lt-ltb, le-ltb}
 use Rattle.spelling.specs.{Bytes.All, Decimal.{decimalUpTo, decimal, greatest}}
-use Rattle.spelling.proofs.Lists.{le-or-lt, all-append, all-at}
+use Rattle.spelling.proofs.Lists.{le-or-lt, High, all-append, all-at}
 
 -- n has at most k + 1 digits
 abbrev Below : ℕ → ℕ → Type 0
@@ -80,14 +80,31 @@ unfolding value
 value-grows a [] = omega arith
 value-grows a (b ∷ q) = le-trans (omega arith) (value-grows (a * 10 + (b - 48)) q)
 
-pub value-decimal : (n : ℕ) → n ≤ greatest → value 0 (decimal n) ≡ n
+value-up-to : (k n : ℕ) → value 0 (decimalUpTo k n) ≡ n
 unfolding value
-value-decimal n h =
-    decimal-by (λ n l. value 0 l ≡ n) (λ d h. omega arith) (λ n l h e. rw (value-append 0 l ((48 + n % 10) ∷ []), e) (omega arith)) n (omega arith)
+value-up-to zero n = unfold decimalUpTo in omega arith
+value-up-to (suc k) n =
+    ⊎-elim (λ h. rw (large k n h, value-append 0 (decimalUpTo k (n / 10)) ((48 + n % 10) ∷ []), value-up-to k (n / 10)) (omega arith))
+    (λ h. rw (small (suc k) n h) (omega arith)) (le-or-lt 10 n)
 
--- two numbers are not spelt alike
-pub decimal-injective : (m n : ℕ) → m ≤ greatest → n ≤ greatest → decimal m ≡ decimal n → m ≡ n
-decimal-injective m n hm hn e = sym (value-decimal m hm) ∙ ap (value 0) e ∙ value-decimal n hn
+pub value-decimal : (n : ℕ) → value 0 (decimal n) ≡ n
+unfolding decimal
+value-decimal n = value-up-to 19 n
+
+-- two numbers are not spelt alike, however great they are
+pub decimal-injective : (m n : ℕ) → decimal m ≡ decimal n → m ≡ n
+decimal-injective m n e = sym (value-decimal m) ∙ ap (value 0) e ∙ value-decimal n
+
+high-up-to : (k n : ℕ) → All High (decimalUpTo k n)
+high-up-to zero n = unfold decimalUpTo in (omega arith, tt)
+high-up-to (suc k) n =
+    ⊎-elim (λ h. rw (large k n h) (all-append High (decimalUpTo k (n / 10)) _ (high-up-to k (n / 10)) (omega arith, tt)))
+    (λ h. rw (small (suc k) n h) (omega arith, tt)) (le-or-lt 10 n)
+
+-- no byte of a number is below the digit 0
+pub decimal-high : (n : ℕ) → All High (decimal n)
+unfolding decimal
+decimal-high n = high-up-to 19 n
 
 abbrev pub Digit : ℕ → Type 0
 Digit b = (48 ≤ b) × (b ≤ 57)
@@ -130,9 +147,9 @@ not-lead s i n h e h1 hi t =
 pub not-over : (s : List ℕ) (i v n : ℕ) → n ≤ greatest → s ≡ decimal n → i < length s → v ≤ greatest → take i s ≡ decimal v → v * 10 + (getD s i 0 - 48) ≤ n
 unfolding value
 not-over s i v n h e hi hv t =
-    let whole-value : value 0 s ≡ n = ap (value 0) e ∙ value-decimal n h in
+    let whole-value : value 0 s ≡ n = ap (value 0) e ∙ value-decimal n in
     let parts : value 0 s ≡ value (value 0 (take i s) * 10 + (getD s i 0 - 48)) (drop (suc i) s) = ap (value 0) (split-at s i 0 hi) ∙ value-append 0 (take i s) _ in
-    let front : value 0 (take i s) ≡ v = ap (value 0) t ∙ value-decimal v hv in
+    let front : value 0 (take i s) ≡ v = ap (value 0) t ∙ value-decimal v in
     omega (arith, value-grows (value 0 (take i s) * 10 + (getD s i 0 - 48)) (drop (suc i) s))
 
 pub first-digit : (s : List ℕ) → 0 < length s → Digit (getD s 0 0) → take 1 s ≡ decimal (getD s 0 0 - 48)

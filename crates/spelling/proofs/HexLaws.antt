@@ -1,11 +1,11 @@
 -- Laws of the hex spelling. Assumes nothing.
 use Prim.Native.Nat.{ℕ, zero, suc, _+_, _*_, _/_, _%_, _≤_, _<_, _-_}
-use mathlib.Core.{Path.{_≡_, refl, sym, _∙_, ap}, List.{List, [], _∷_}, Logic.{_⊎_, inl, inr, ⊎-elim}}
+use mathlib.Core.{Path.{_≡_, refl, sym, _∙_, ap, ap₂}, List.{List, [], _∷_}, Logic.{_⊎_, inl, inr, ⊎-elim}}
 use native.Mathlib.Omega.{arith}
 use lib.ListN.{length, getD}
 use borrow.Author.Tests.{lt-ltb, le-ltb}
 use Rattle.spelling.specs.{Bytes.{All, Byte}, Hex.{digit, nibble, hex, unhex, Spells, IsData, HexDigit}}
-use Rattle.spelling.proofs.Lists.{le-or-lt, all-at}
+use Rattle.spelling.proofs.Lists.{le-or-lt, High, all-at}
 
 nibble-below : (b : ℕ) → nibble b < 16
 nibble-below b = omega arith
@@ -112,6 +112,31 @@ unhex-hex (b ∷ bs) a =
 pub data-spelt : (v : List ℕ) → IsData v → Spells v (unhex v)
 data-spelt v (bs, s) = let e : unhex v ≡ bs = ap unhex (s .same) ∙ unhex-hex bs (s .bytes) in rw e s
 
--- two lists of bytes are not spelt alike
-pub hex-injective : (bs cs : List ℕ) → All Byte bs → All Byte cs → hex bs ≡ hex cs → bs ≡ cs
-hex-injective bs cs a b e = sym (unhex-hex bs a) ∙ ap unhex e ∙ unhex-hex cs b
+digit-injective : (c d : ℕ) → digit c ≡ digit d → c ≡ d
+digit-injective c d e = go (le-or-lt 10 c) (le-or-lt 10 d)
+  where
+    go : (10 ≤ c) ⊎ (c < 10) → (10 ≤ d) ⊎ (d < 10) → c ≡ d
+    go (inl h) (inl k) = let i : 87 + c ≡ 87 + d = rw (le-ltb c 10 h, le-ltb d 10 k) at e in omega arith
+    go (inl h) (inr k) = let i : 87 + c ≡ 48 + d = rw (le-ltb c 10 h, lt-ltb d 10 k) at e in omega arith
+    go (inr h) (inl k) = let i : 48 + c ≡ 87 + d = rw (lt-ltb c 10 h, le-ltb d 10 k) at e in omega arith
+    go (inr h) (inr k) = let i : 48 + c ≡ 48 + d = rw (lt-ltb c 10 h, lt-ltb d 10 k) at e in omega arith
+
+-- two lists are not spelt alike, of bytes or of any numbers
+pub hex-injective : (bs cs : List ℕ) → hex bs ≡ hex cs → bs ≡ cs
+unfolding hex
+hex-injective [] [] e = refl
+hex-injective [] (c ∷ cs) e = absurd (let z : _≡_ {A = ℕ} 0 1 = cc in omega arith)
+hex-injective (b ∷ bs) [] e = absurd (let z : _≡_ {A = ℕ} 0 1 = cc in omega arith)
+hex-injective (b ∷ bs) (c ∷ cs) e =
+    let q : b / 16 ≡ c / 16 = digit-injective (b / 16) (c / 16) (cc) in
+    let r : b % 16 ≡ c % 16 = digit-injective (b % 16) (c % 16) (cc) in
+    ap₂ (λ (n : ℕ) (l : List ℕ). n ∷ l) (omega arith) (hex-injective bs cs (cc))
+
+digit-high : (d : ℕ) → High (digit d)
+digit-high d = ⊎-elim (λ k. rw (le-ltb d 10 k) (omega arith)) (λ k. rw (lt-ltb d 10 k) (omega arith)) (le-or-lt 10 d)
+
+-- no byte of data is below the digit 0
+pub hex-high : (bs : List ℕ) → All High (hex bs)
+unfolding hex
+hex-high [] = tt
+hex-high (b ∷ bs) = (digit-high (b / 16), (digit-high (b % 16), hex-high bs))

@@ -4,5 +4,6 @@ pub mod DecimalLaws
 pub mod HexLaws
 pub mod Decide
 pub mod Split
+pub mod Texts
 pub mod OverLaws
 pub mod Theorems

@@ -14,6 +14,10 @@ by-test false f g = inr (g refl)
 unfoldable pub le-or-lt : (a b : ℕ) → (a ≤ b) ⊎ (b < a)
 le-or-lt a b = by-test (leb a b) (leb-true a b) (leb-false a b)
 
+-- b is no less than the digit 0
+abbrev pub High : ℕ → Type 0
+High b = 48 ≤ b
+
 pub all-append : (P : ℕ → Type 0) (p q : List ℕ) → All P p → All P q → All P (p ++ q)
 all-append P [] q a b = b
 all-append P (x ∷ p) q a b = (a .0, all-append P p q (a .1) b)

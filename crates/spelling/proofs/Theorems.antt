@@ -10,7 +10,7 @@ use Rattle.spelling.proofs.{Decide.number-told, DecimalLaws.decimal-inj
 -- ---- numbers
 
 number-same : (v : List ℕ) (q r : Number) → NumberOf v q → NumberOf v r → q ≡ r
-number-same v (Value n) (Value m) x y = ap Value (decimal-injective n m (omega (arith, x .0)) (omega (arith, y .0)) (sym (x .1) ∙ y .1))
+number-same v (Value n) (Value m) x y = ap Value (decimal-injective n m (sym (x .1) ∙ y .1))
 number-same v (Value n) Wrong x y = absurd (y (n, omega (arith, x .0), x .1))
 number-same v Wrong (Value m) x y = absurd (x (m, omega (arith, y .0), y .1))
 number-same v Wrong Wrong x y = refl

@@ -6,7 +6,7 @@ use lib.{Dec.eqb, ListN.length}
 use borrow.Author.Tests.{eq-eqb}
 use Rattle.protocol.specs.{Given.bytesGiven, Stamps.later, Clock.storeTime, Buffers.{Bytes, There, copyBytes, managerBytes, writebackBytes, answerBytes}}
 use Rattle.protocol.specs.{Machine.{Machine, Pieces, piecesAt, coreAt, copyAt, lineAt, applied}, Copies.isOwned}
-use Rattle.protocol.specs.{Step.{Op, load, store, fence, Reply, refused, done, commit, meaning, Outcome, accepted, step}, Run.{place, Commit, commitAt}}
+use Rattle.protocol.specs.{Step.{Op, load, store, fence, Reply, refused, done, commit, meaning, Outcome, accepted, step}, Run.{place, Commit}}
 use Rattle.protocol.specs.Order.{TsoKeeps, Loads, Stores}
 use Rattle.protocol.specs.Tables.{row, slotted, heldOf, loadOwned, earliest, storeTable, fenceTable, advanceTable, evictTable, leasedTo, serveLoad, serveAsked}
 use Rattle.protocol.specs.Tables.{receiveRenew, receiveGrant, yielded, yieldTable, takeTable, victimTable, writtenBack}
@@ -38,12 +38,11 @@ use Rattle.protocol.proofs.Order.Invariant.{Leaves, line-applied}
 abbrev pub commitBy : ℕ → ℕ → Stamp → Op Bytes → Commit Bytes
 commitBy p c t o = record { place = place p; core = c; ts = t; op = o }
 
--- a call's answer and the machine after it keep the invariant; a commit is the call's own, and extends the log
-abbrev pub Good : Value → ℕ → List (Commit Bytes) → Call → Bytes → Reply → Machine → Type 0
-Good z p H call given (refused n) m = Inv z H m
-Good z p H call given (done d) m = Inv z H m
-Good z p H call given (commit c t o) m =
-    (commitAt (place p) call given t o ≡ commitBy p c t o ∷ []) × Extends TsoKeeps Loads Stores z (commitBy p c t o) H × Inv z (commitBy p c t o ∷ H) m
+-- a call's answer and the machine after it keep the invariant, and a commit extends the log
+abbrev pub Good : Value → ℕ → List (Commit Bytes) → Reply → Machine → Type 0
+Good z p H (refused n) m = Inv z H m
+Good z p H (done d) m = Inv z H m
+Good z p H (commit c t o) m = Extends TsoKeeps Loads Stores z (commitBy p c t o) H × Inv z (commitBy p c t o ∷ H) m
 
 -- ---- a slot and a copy
 
@@ -118,7 +117,7 @@ module _ (z : Value) (p : ℕ) {H : List (Commit Bytes)} (given : Bytes) {m : Ma
 
   -- the row is good: its answer and the machine after it
   abbrev GoodRow : Call → Effect → Type 0
-  GoodRow call d = Good z p H call given (accepted m call given c l d .reply) (accepted m call given c l d .machine)
+  GoodRow call d = Good z p H (accepted m call given c l d .reply) (accepted m call given c l d .machine)
 
   -- ---- before the row: what is at the spots, and the slot beside the copy
   at : (S : Spot) → SpotOf z l H g S (look m l S)
@@ -206,9 +205,8 @@ module _ (z : Value) (p : ℕ) {H : List (Commit Bytes)} (given : Bytes) {m : Ma
   loads : {g′ : Newest LineCell Value} {d : Effect} → Fitting d → (t : Stamp) → k .clocks .lts .0 ≤ t .0
       → ((i : LineCell) → Reading z (Writes l i) c (t .0) H (cells bytes i)) → SlotStep m c l d → Beside l (d .core .slot) (d .copy)
       → Onward (k .clocks) (d .core .clocks) → t .0 ≤ d .core .clocks .lts .0 → t .0 ≤ g′ .r
-      → LineInv z l H (look (next d) l) g′ → Good z p H (Load c l) given (commit c t (load l bytes)) (next d)
+      → LineInv z l H (look (next d) l) g′ → Good z p H (commit c t (load l bytes)) (next d)
   loads fit t h s st pr a ck w this = (
-    refl,
     record {
       inOrder = all-map (λ x i j e. kept-load (x .op) (x .ts .0) (t .0) l bytes (k .clocks) h (i j) e) (I .clocks c);
       sees = seen;
@@ -309,7 +307,6 @@ module _ (z : Value) (p : ℕ) {H : List (Commit Bytes)} (given : Bytes) {m : Ma
       (goes fit (v .0) (λ n. n refl) (atCopy c) (later r t .0) (g .leased) h (omega arith) (omega (arith, ok .lr, v .0 .isR, h))
       (λ ok′ stay. (stay atManager refl, stay atWriteback refl, (here, same-marks false (later r t .0) v), stay (atSlot c) refl)))
   row-good (writes {d = b} {w = w} {r = r} e h) fit = (
-    refl,
     record {
       inOrder = all-map (λ a i j y. kept-all (a .op) (a .ts .0) (t .0) (k .clocks) (store-after-loads c l w r ps b) (store-after-stores c l w r ps b) (i j)) (I .clocks c);
       sees = λ l′ y i. absurd (let n : _≡_ {A = ℕ} 0 1 = cc in omega arith);
@@ -350,7 +347,6 @@ module _ (z : Value) (p : ℕ) {H : List (Commit Bytes)} (given : Bytes) {m : Ma
       stay Y n i =
           write-past z (Writes l) (On l) ok x (cells given) (marks c true) all h₁ h₂ Y (look m l Y) (λ e. n (sym (v .isSpot) ∙ e)) i (at Y)
   row-good fences fit = (
-    refl,
     record {
       inOrder = all-map (λ x i j e. kept-all (x .op) (x .ts .0) (t .0) (k .clocks) (omega arith) (omega arith) (i j)) (I .clocks c);
       sees = λ l′ x e. absurd (let n : _≡_ {A = ℕ} 0 1 = cc in omega arith);
@@ -446,10 +442,10 @@ module _ (z : Value) (p : ℕ) {H : List (Commit Bytes)} (given : Bytes) {m : Ma
       keeps fit (inl (refl, tt)) pair (omega arith) (as-was fit (at atManager, at atWriteback, at (atCopy c), at (atSlot c)))
 
 pub step-good : (z : Value) (p : ℕ) {H : List (Commit Bytes)} {m : Machine} → Inv z H m → (call : Call) (given : Bytes)
-    → Good z p H call (bytesGiven call given) (step m call given .reply) (step m call given .machine)
+    → Good z p H (step m call given .reply) (step m call given .machine)
 step-good z p {H} {m} I call given = go (case-of m call given)
   where
-    go : {r : Outcome} → Case m call given r → Good z p H call (bytesGiven call given) (r .reply) (r .machine)
+    go : {r : Outcome} → Case m call given r → Good z p H (r .reply) (r .machine)
     go (refuses n) = I
     go (makes n q w) =
         let f = machine-fit m (n .machineOk) in

@@ -10,7 +10,7 @@ use Rattle.protocol.specs.{About.{about, namedCore, namedLine}, Given.by
 use Rattle.protocol.specs.Run.{Entry, Record, place, run, Commit, actCommit, commitOf, commits}
 use Rattle.protocol.specs.Order.{In, here, there, Before, Earlier, TsoKeeps, Loads, Stores, LastWrite, Obeys, OpenTheorem, OrderTheorem, SortTheorem}
 use Rattle.protocol.specs.{Order.KeyTheorem, declared.{Opening.Opening, Act.{Act, the-variants.{Transfer, Load, Store, Fence, Advance}}}}
-use Rattle.protocol.proofs.{Tests.never, Bytes.{row-le, zeros, zeros-part}, Extents.inside, Refusals.opening-fit}
+use Rattle.protocol.proofs.{Own.{Own, step-own}, Tests.never, Bytes.{row-le, zeros, zeros-part}, Extents.inside, Refusals.opening-fit}
 use Rattle.protocol.proofs.{Written.{arrays-fresh, core-fresh, line-fresh, copy-fresh}, Reached.{onto, reached, from-onto, to-onto}}
 use Rattle.protocol.proofs.Order.Log.{All, none, more, all-map, all-at, in-nil, fresh, Lawful, start, log-obeys, step as log-step}
 use Rattle.protocol.proofs.Order.Versions.{Spot, atManager, atWriteback, atCopy, atSlot, Newest, version, here as at-here}
@@ -25,12 +25,12 @@ record Along (z : Value) (p : ℕ) (H : List (Commit Bytes)) (m : Machine) : Typ
   old : All (λ a. a .place .0 < p) H
 
 along-step : {z : Value} {p : ℕ} {m m′ : Machine} {H : List (Commit Bytes)} (g : Entry) (r : Reply) → Along z p H m
-    → Good z p H (g .call) (bytesGiven (g .call) (g .given)) r m′ → Along z (suc p) (commitOf (place p) g r ++ H) m′
-along-step g (refused n) R G = record { inv = G; lawful = R .lawful; old = all-map (λ a h. omega arith) (R .old) }
-along-step g (done d) R G = record { inv = G; lawful = R .lawful; old = all-map (λ a h. omega arith) (R .old) }
-along-step {z} {p} {m′ = m′} {H} g (commit c t o) R G = subst (λ (cs : List (Commit Bytes)). Along z (suc p) (cs ++ H) m′) (sym (G .0)) (record {
-  inv = G .2;
-  lawful = log-step (R .old) (G .1) (R .lawful);
+    → Own (place p) (g .call) (bytesGiven (g .call) (g .given)) r → Good z p H r m′ → Along z (suc p) (commitOf (place p) g r ++ H) m′
+along-step g (refused n) R w G = record { inv = G; lawful = R .lawful; old = all-map (λ a h. omega arith) (R .old) }
+along-step g (done d) R w G = record { inv = G; lawful = R .lawful; old = all-map (λ a h. omega arith) (R .old) }
+along-step {z} {p} {m′ = m′} {H} g (commit c t o) R w G = subst (λ (cs : List (Commit Bytes)). Along z (suc p) (cs ++ H) m′) (sym w) (record {
+  inv = G .1;
+  lawful = log-step (R .old) (G .0) (R .lawful);
   old = more {e = commitBy p c t o} (omega arith) (all-map (λ a h. omega arith) (R .old));
 })
 
@@ -92,7 +92,8 @@ order-theorem o accepted gs =
 
     log : (p : ℕ) × Along z p (commits (onto records [])) (run gs 1 (freshMachine o) .last)
     log =
-        reached (λ p rs m. Along z p (commits rs) m) (λ p rs m g R. along-step g (step m (g .call) (g .given) .reply) R (step-good z p (R .inv) (g .call) (g .given)))
+        reached (λ p rs m. Along z p (commits rs) m)
+        (λ p rs m g R. along-step g (step m (g .call) (g .given) .reply) R (step-own (place p) m (g .call) (g .given)) (step-good z p (R .inv) (g .call) (g .given)))
         gs 1 [] (freshMachine o) (record { inv = inv-fresh o (opening-fit o accepted); lawful = start; old = none })
 
 -- ---- the sorted order is one
