@@ -1,7 +1,7 @@
 -- Reading back: a journal that is spelt from an opening and steps which its form can have reads as them; and the steps of a journal, in the other
 -- form, are steps which that form can have.
 use Prim.Native.Nat.{ℕ, zero, suc, _+_, _-_, _≤_, _<_}
-use mathlib.Core.{Path.{_≡_, refl, sym, _∙_, ap, subst}, Bool.{Bool, true, false}, List.{List, [], _∷_, _++_, append-nil}, Logic.{inl, inr}}
+use mathlib.Core.{Path.{_≡_, refl, sym, _∙_, ap, subst}, Bool.{Bool, true, false}, List.{List, [], _∷_, _++_, append-nil}}
 use native.Mathlib.Omega.{arith}
 use lib.{Dec.{ltb, eqb, lit≤, lit<}, ListN.{length, getD, drop, length-append, length-drop}, Seq.{drop-drop, drop-append-add}}
 use borrow.Author.Tests.{ltb-true, ltb-false, eqb-true}
@@ -9,8 +9,8 @@ use Rattle.protocol.specs.{Pick.{pick, both, fails}, Limits.openingFits, Buffer
 use Rattle.protocol.specs.{Run.{Entry, Record, place, run}, declared.{Opening.Opening as Sizes, State.State}}
 use Rattle.protocol.specs.declared.Call.{Call, the-variants.{Load, Store, Fence, Evict, Drop, Writeback, Advance, Serve, Receive, Yield, Take, Victim}}
 use Rattle.protocol.proofs.{Tests.{never, both-true}, Refusals.{not-true, passed}, Extents.inside}
-use Rattle.spelling.specs.{Bytes.{All, Without}, Decimal.{decimal, greatest}, Hex.{hex, unhex, HexDigit}}
-use Rattle.spelling.proofs.{Lists.all-append, DecimalLaws.{Digit, decimal-digits, decimal-short}, HexLaws.hex-digits}
+use Rattle.spelling.specs.{Bytes.Without, Decimal.{decimal, greatest}, Hex.{hex, unhex}}
+use Rattle.spelling.proofs.{Lists.all-append, DecimalLaws.decimal-short, Texts.{decimal-without, hex-without}}
 use Rattle.grammar.specs.Form.{Part, fixed, value, number, pairs, lay, Given, spellings, spell}
 use Rattle.grammar.specs.{Table.{opens, calls, rowsOf, rowAt}, Line.{LineOf, spelt}, declared.Line.the-variants.{Opening as OpeningLine, Step as StepLine}}
 use Rattle.grammar.proofs.{Fit.Shaped, Forms.row-shape, Rows.{every, every-at}}
@@ -36,19 +36,6 @@ mostOf (fixed b ∷ p) = 1 + mostOf p
 mostOf (value number ∷ p) = 20 + mostOf p
 mostOf (value pairs ∷ p) = mostOf p
 
--- what holds of each byte, by what is known of it
-all-map : (P Q : ℕ → Type 0) → ((b : ℕ) → P b → Q b) → (l : List ℕ) → All P l → All Q l
-all-map P Q f [] a = tt
-all-map P Q f (b ∷ l) a = (f b (a .0), all-map P Q f l (a .1))
-
--- a digit is no newline
-digit-clean : (b : ℕ) → Digit b → b ≡ 10 → ⊥
-digit-clean b h e = omega arith
-
-hex-clean : (b : ℕ) → HexDigit b → b ≡ 10 → ⊥
-hex-clean b (inl h) e = omega arith
-hex-clean b (inr h) e = omega arith
-
 -- a line has no newline in it
 spell-clean : (p : List Part) → Shaped p → oneLine p ≡ true → (ns bs : List ℕ) → Given p ns bs → Without 10 (spell p ns bs)
 unfolding Given spellings lay oneLine
@@ -57,9 +44,8 @@ spell-clean (fixed b ∷ p) h e ns bs g =
     let t = both-true (ltb 10 b) (oneLine p) e in ((λ z. omega (arith, ltb-true 10 b (t .0))), spell-clean p h (t .1) ns bs g)
 spell-clean (value number ∷ p) h e [] bs g = absurd g
 spell-clean (value number ∷ p) h e (n ∷ ns) bs g =
-    all-append (λ b. b ≡ 10 → ⊥) (decimal n) _ (all-map Digit (λ b. b ≡ 10 → ⊥) digit-clean (decimal n) (decimal-digits n (g .0)))
-    (spell-clean p (h .1) e ns bs (g .1))
-spell-clean (value pairs ∷ p) h e ns bs g = rw (h, append-nil) (all-map HexDigit (λ b. b ≡ 10 → ⊥) hex-clean (hex bs) (hex-digits bs (g .2)))
+    all-append (λ b. b ≡ 10 → ⊥) (decimal n) _ (decimal-without 10 (lit< tt) n) (spell-clean p (h .1) e ns bs (g .1))
+spell-clean (value pairs ∷ p) h e ns bs g = rw (h, append-nil) (hex-without 10 (lit< tt) bs)
 
 -- the length of a line
 spell-short : (p : List Part) → Shaped p → (ns bs : List ℕ) → Given p ns bs → length (spell p ns bs) ≤ mostOf p + length (hex bs)

@@ -1,10 +1,10 @@
 -- A line has one answer. Assumes nothing.
 use Prim.Native.Nat.{ℕ, _≤_, _<_, _-_}
-use mathlib.Core.{Path.{_≡_, refl, sym, _∙_, ap, ap₂, subst}, List.{List, [], _∷_}, Logic.{inl, inr}}
+use mathlib.Core.{Path.{_≡_, refl, sym, _∙_, ap, ap₂, subst}, List.{List, [], _∷_}}
 use native.Mathlib.Omega.{arith}
-use lib.ListN.{length, getD}
-use Rattle.spelling.specs.{Bytes.{All, Byte, upTo}, Decimal.{decimal, greatest}, Hex.{hex, HexDigit}}
-use Rattle.spelling.proofs.{DecimalLaws.{Digit, decimal-digits, decimal-injective}, HexLaws.{hex-digits, hex-injective}}
+use lib.{Dec.lit<, ListN.{length, getD}}
+use Rattle.spelling.specs.{Bytes.{All, Byte, upTo}, Decimal.{decimal, greatest}, Hex.hex}
+use Rattle.spelling.proofs.{DecimalLaws.decimal-injective, HexLaws.hex-injective, Texts.{decimal-without, hex-without}}
 use Rattle.grammar.specs.Form.{Part, fixed, value, Value, number, pairs, Each, NoBlank, Has, RightNumber, RightData, Given, spellings, spell}
 use Rattle.grammar.specs.{Table.{Row, rowAt}, Line.{said, Matches, NumbersRight, DataRight, LineOf, tooLong, noForm, wrongNumber, wrongData, spelt}}
 use Rattle.grammar.specs.declared.Line.{Line, the-variants.Refused}
@@ -39,19 +39,11 @@ each-spelt P N D (value number ∷ p) [] bs h g = absurd g
 each-spelt P N D (value number ∷ p) (n ∷ ns) bs h g = (N n (g .0), each-spelt P N D p ns bs (h .1) (g .1))
 each-spelt P N D (value pairs ∷ p) ns bs h g = (D bs (g .1) (g .2), rw h tt)
 
-no-blank : (Q : ℕ → Type 0) → (Q 32 → ⊥) → (l : List ℕ) → All Q l → NoBlank l
-no-blank Q n [] a = tt
-no-blank Q n (b ∷ l) a = ((λ e. n (subst Q e (a .0))), no-blank Q n l (a .1))
-
-blank-no-hex : HexDigit 32 → ⊥
-blank-no-hex (inl h) = omega arith
-blank-no-hex (inr h) = omega arith
-
 pub spelt-has : (p : List Part) (ns bs : List ℕ) → Shaped p → Given p ns bs → Has (spell p ns bs) p (spellings p ns bs)
 spelt-has p ns bs h g =
     record {
       laid = refl;
-      fit = each-spelt (λ q v. NoBlank v) (λ n l. no-blank Digit (λ d. omega arith) (decimal n) (decimal-digits n l)) (λ cs l a. no-blank HexDigit blank-no-hex (hex cs) (hex-digits cs a)) p ns bs h g;
+      fit = each-spelt (λ q v. NoBlank v) (λ n l. decimal-without 32 (lit< tt) n) (λ cs l a. hex-without 32 (lit< tt) cs) p ns bs h g;
     }
 
 spelt-numbers : (p : List Part) (ns bs : List ℕ) → Shaped p → Given p ns bs → Each RightNumber p (spellings p ns bs)

@@ -5,8 +5,9 @@
 -- none."
 --
 -- `Fenced` is the condition on the list's commits, `Sequential` what their sorted order then obeys, and `SequentialTheorem` the claim.
--- `FenceTheorem` is the same of any memory model and any log of commits, whatever made it: which pairs of one core's commits may change places
--- is its parameter. `StrictestTheorem` is its converse: nothing that is sequentially consistent disobeys such a model.
+-- `FenceTheorem` is the same of any log of commits, whatever made it, and of any memory model in which fences hold (`FencesHold`): which pairs of
+-- one core's commits need a fence between them is its parameter. `StrictestTheorem` is the other way round: what is sequentially consistent
+-- obeys every such model.
 use mathlib.Core.{Path._≡_, List.List}
 use Rattle.protocol.specs.{Step.{Op, load, store, fence}, Run.Commit, Order.{In, Before, Earlier, Loads, Stores, MaySee, Obeys, OfEveryRun}}
 
@@ -20,8 +21,8 @@ StoreThenLoad (store l x) (load m y) = Unit {0}
 StoreThenLoad (store l x) (store m y) = ⊥
 StoreThenLoad (store l x) fence = ⊥
 
--- b is of a's core, made after a, and may change places with it: under TSO a is a store, and b a later load of its core.
--- `Swaps x y`: of two commits of one core that did x and then y, the second may stand first
+-- b is of a's core, made after a, and the two need a fence between them: under TSO a is a store, and b a later load of its core.
+-- `Swaps x y`: two commits of one core that did x and then y need a fence between them. The pairs that may change places are among these
 pub record Later {A : Type 0} (Swaps : Op A → Op A → Type 0) (a b : Commit A) : Type 0 where
   pub core : b .core ≡ a .core
   pub after : Earlier a b
@@ -66,24 +67,24 @@ SequentialIfFenced zero H = Fenced StoreThenLoad H → Sequential zero H
 abbrev pub SequentialTheorem : Type 0
 SequentialTheorem = OfEveryRun SequentialIfFenced
 
--- ---- any memory model
+-- ---- other memory models
 
--- what a memory model has to have for fences to hold its pairs: two commits of one core that may not change places keep their order, and which
--- pairs may can be told; a fence keeps its order with whatever its core commits before it, and after it
+-- fences hold in a memory model: which pairs of one core's commits need one can be told, all others keep their order, and a fence keeps its order
+-- with whatever its core commits before it, and after it
 pub record FencesHold {A : Type 0} (Keeps Swaps : Op A → Op A → Type 0) : Type 0 where
   pub told : (a b : Op A) → Dec (Swaps a b)
   pub kept : (a b : Op A) → (Swaps a b → ⊥) → Keeps a b
   pub before : (a : Op A) → Keeps a fence
   pub after : (b : Op A) → Keeps fence b
 
--- a log that obeys such a model, and has a fence between each commit and its core's next that may change places with it, is sequentially
--- consistent, whatever a cell of memory is
+-- a log that obeys such a model, and has a fence between each commit and its core's next that needs one, is sequentially consistent, whatever a
+-- cell of memory is
 abbrev pub FenceTheorem : Type 1
 FenceTheorem =
     (A C X : Type 0) (Keeps Swaps : Op A → Op A → Type 0) (Reads Writes : C → Commit A → X → Type 0) (zero : X) (H : List (Commit A))
     → FencesHold Keeps Swaps → Obeys Keeps MaySee Reads Writes zero H → Fenced Swaps H → Obeys AllKeep Preceding Reads Writes zero H
 
--- the other way round, sequential consistency is the strictest of these models: a log that is sequentially consistent obeys any of them
+-- the other way round, sequential consistency is the strictest of them: a log that is sequentially consistent obeys every such model
 abbrev pub StrictestTheorem : Type 1
 StrictestTheorem =
     (A C X : Type 0) (Keeps : Op A → Op A → Type 0) (Reads Writes : C → Commit A → X → Type 0) (zero : X) (H : List (Commit A))

@@ -1,7 +1,7 @@
 -- Small logs that have the fences of 02's Seven and small logs that lack one, and small logs that are sequentially consistent and that are not: one
 -- for each clause of Sequential (crates/protocol/specs/Sequential.antt). The logs are written as those of Logs.
 use mathlib.Core.{List.{List, [], _∷_, map}}
-use Rattle.protocol.specs.{Step.{Op, load, store, fence}, Order.{Loads, Stores, Obeys, commitsOf}, Sequential.{StoreThenLoad, Fenced, Preceding, Sequential}}
+use Rattle.protocol.specs.{Step.{load, store, fence}, Order.{Loads, Stores, Obeys, commitsOf}, Sequential.{StoreThenLoad, Fenced, Preceding, Sequential}}
 use Rattle.reference_points.specs.{Rows.Each, Commits.{aCommit as at, small, exchanges, entryOf}, Logs.{Log, swapped}}
 
 -- ---- the fences
@@ -18,7 +18,7 @@ fenced =
     -- a store that its core loads nothing after needs none; nor does a load before the store, nor a load by another core
     ∷ (at 1 0 0 (load 1 0) ∷ at 2 0 1 (store 0 1) ∷ at 3 0 2 (store 1 1) ∷ [])
     ∷ (at 1 0 5 (store 0 1) ∷ at 2 1 0 (load 0 0) ∷ [])
-    -- the place decides, and not the timestamp: a log of this kind obeys no memory model, but has its fence
+    -- between in the list, whatever the timestamps are: this log does not obey TSO, and has its fence
     ∷ (at 1 0 5 (store 0 1) ∷ at 2 0 1 fence ∷ at 3 0 3 (load 1 0) ∷ [])
     ∷ []
 

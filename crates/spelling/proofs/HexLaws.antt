@@ -1,6 +1,6 @@
 -- Laws of the hex spelling. Assumes nothing.
 use Prim.Native.Nat.{ℕ, zero, suc, _+_, _*_, _/_, _%_, _≤_, _<_, _-_}
-use mathlib.Core.{Path.{_≡_, refl, sym, _∙_, ap, ap₂}, List.{List, [], _∷_}, Logic.{_⊎_, inl, inr, ⊎-elim}}
+use mathlib.Core.{Path.{_≡_, refl, _∙_, ap, ap₂}, List.{List, [], _∷_}, Logic.{_⊎_, inl, inr, ⊎-elim}}
 use native.Mathlib.Omega.{arith}
 use lib.ListN.{length, getD}
 use borrow.Author.Tests.{lt-ltb, le-ltb}

@@ -351,10 +351,10 @@ const FENCES: &[&str] = &[
     "fences: one between several stores and the next load",
     "fences: one while the next load's request is under way",
     "fences: store, fence and next load at one timestamp",
-    "fences: only another core's between a store and the next load",
-    "fences: only one before the store",
-    "fences: only one between two stores",
-    "fences: only one after the next load",
+    "fences: another core's between a store and the next load, none of its own",
+    "fences: one before the store, none between",
+    "fences: one between two stores, none after the second",
+    "fences: one after the next load, none between",
     "fences: none, the next load stands before the store",
     "fences: none, the next load stands after the store",
     "fences: none, the next load reads the store, which stands later",
@@ -492,17 +492,17 @@ impl Coverage {
     /// fences there are, and how the two stand.
     fn count_no_fence(&mut self, made: &[Made], of_core: &[&Made], [store, load]: [&Made; 2]) {
         if made.iter().any(|commit| commit.is_fence() && between(store, commit, load)) {
-            self.count("fences: only another core's between a store and the next load");
+            self.count("fences: another core's between a store and the next load, none of its own");
         }
         if before(of_core, store).any(Made::is_fence) {
-            self.count("fences: only one before the store");
+            self.count("fences: one before the store, none between");
         }
         let mut earlier = before(of_core, store);
         if earlier.next().is_some_and(Made::is_fence) && earlier.next().is_some_and(Made::is_store) {
-            self.count("fences: only one between two stores");
+            self.count("fences: one between two stores, none after the second");
         }
         if of_core.iter().any(|commit| commit.is_fence() && commit.place > load.place) {
-            self.count("fences: only one after the next load");
+            self.count("fences: one after the next load, none between");
         }
         if order::precedes(store, load, Ties::ByPlace) {
             self.count("fences: none, the next load stands after the store");

@@ -160,6 +160,7 @@ fn sizes(random: &mut Random, form: Form) -> Sizes {
     Sizes { cores, lines, width, lease, cap }
 }
 
+/// How many copies a core may hold: as many as lines in the first form, mostly few in the second.
 fn capacity(random: &mut Random, form: Form, lines: u32) -> u32 {
     match form {
         Form::One => lines,

@@ -42,14 +42,9 @@ pub fn asks_for_fences(made: &[Made]) -> bool {
 
 /// Each store that has a next load of its core, with that load.
 pub fn next_loads(made: &[Made]) -> impl Iterator<Item = (&Made, &Made)> {
-    next_of_core(made, Made::is_load)
-}
-
-/// Each store with the next commit of its core that is of a kind, if there is one.
-fn next_of_core(made: &[Made], of_kind: fn(&Made) -> bool) -> impl Iterator<Item = (&Made, &Made)> {
     let stores = made.iter().enumerate().filter(|(_, commit)| commit.is_store());
     stores.filter_map(move |(at, store)| {
-        let next = made[at + 1..].iter().find(|later| of_kind(later) && later.same_core(store))?;
+        let next = made[at + 1..].iter().find(|later| later.is_load() && later.same_core(store))?;
         Some((store, next))
     })
 }

@@ -1,14 +1,14 @@
--- A log that obeys a memory model, and has a fence wherever two commits of one core may change places, is sequentially consistent. No machine
--- here, but for the last line: the commits of a run are such a log.
-use Prim.Native.Nat.{ℕ, _≤_, _<_}
-use mathlib.Core.{Path.{_≡_, refl, sym, _∙_, ap}, Logic.{_⊎_, inl, inr, ⊎-elim}, List.{List, [], _∷_}}
+-- A log that obeys a memory model, and has its fences, is sequentially consistent. No machine here, but for the last line: the commits of a run
+-- are such a log.
+use Prim.Native.Nat.{ℕ, _≤_}
+use mathlib.Core.{Path.{_≡_, refl, sym, _∙_}, Logic.{_⊎_, inl, inr, ⊎-elim}, List.{List, [], _∷_}}
 use native.Mathlib.{Omega.arith, Decide.{decLt, ℕ-discrete}}
 use Rattle.protocol.specs.{Buffers.Bytes, Step.{Op, load, store, fence}, Run.Commit}
 use Rattle.protocol.specs.Order.{In, here, there, Before, Earlier, TsoKeeps, Loads, Stores, MaySee, LastWrite, Obeys}
-use Rattle.protocol.specs.Sequential.{StoreThenLoad, Later, Next, FenceBetween, Fenced, AllKeep, Preceding, FencesHold, FenceTheorem, SequentialTheorem, StrictestTheorem}
+use Rattle.protocol.specs.Sequential.{StoreThenLoad, Later, FenceBetween, Fenced, AllKeep, Preceding, FencesHold, FenceTheorem, SequentialTheorem, StrictestTheorem}
 use Rattle.protocol.proofs.Order.{Log.{in-nil, in-cons, at-place}, Theorem.{before-trans, order-theorem}}
 
--- ---- the next commit that may change places
+-- ---- the next commit that needs a fence
 
 module _ {A : Type 0} {Swaps : Op A → Op A → Type 0} (told : (a b : Op A) → Dec (Swaps a b)) (a : Commit A) where
   is-later : (b : Commit A) → Dec (Later Swaps a b)
@@ -20,7 +20,7 @@ module _ {A : Type 0} {Swaps : Op A → Op A → Type 0} (told : (a b : Op A) �
       go (yes c) (no n) s = no (λ k. n (k .after))
       go (no n) h s = no (λ k. n (k .core))
 
-  -- of b and the list's commits, the first that may change places with a
+  -- of b and the list's commits, the first that needs a fence after a
   record First (H : List (Commit A)) (b n : Commit A) : Type 0 where
     from : (n ≡ b) ⊎ In n H
     later : Later Swaps a n
@@ -69,14 +69,18 @@ module _ {A : Type 0} {Swaps : Op A → Op A → Type 0} (told : (a b : Op A) �
 abbrev AsMade : {A : Type 0} → List (Commit A) → Type 0
 AsMade {A} H = (a b : Commit A) → In a H → In b H → a .core ≡ b .core → Earlier a b → Before a b
 
+-- what is seen in a sequentially consistent order stands before
+preceding : {A : Type 0} (e s : Commit A) → _≡_ {A = Type 0} (Preceding e s) (Before s e)
+preceding e s = refl
+
 -- what a read may see then precedes it: its own core's earlier writes do
 seen : {A : Type 0} {H : List (Commit A)} → AsMade H → (e s : Commit A) → In e H → In s H → MaySee e s → Preceding e s
-seen made e s i j (inl p) = p
-seen made e s i j (inr p) = made s e j i (p .0) (p .1)
+seen made e s i j (inl p) = rw (preceding e s) p
+seen made e s i j (inr p) = rw (preceding e s) (made s e j i (p .0) (p .1))
 
 module _ {A C X : Type 0} (Keeps Swaps : Op A → Op A → Type 0) (Reads Writes : C → Commit A → X → Type 0) (zero : X) (H : List (Commit A))
     (F : FencesHold Keeps Swaps) (O : Obeys Keeps MaySee Reads Writes zero H) (fenced : Fenced Swaps H) where
-  -- any two commits of one core that may change places have a fence of it between them, not the next alone
+  -- any two commits of one core that need a fence have one of that core between them, not the next alone
   parted : (a b : Commit A) → In a H → In b H → Later Swaps a b → (f : Commit A) × In f H × FenceBetween a b f
   parted a b i j k = go (first-later (F .told) a H b k)
     where
@@ -84,7 +88,7 @@ module _ {A C X : Type 0} (Keeps Swaps : Op A → Op A → Type 0) (Reads Writes
       go (n, w) = wider (fenced a n i (⊎-elim (λ q. rw q j) (λ m. m) (w .from)) (record { later = w .later; first = w .first }))
         where
           wider : (f : Commit A) × In f H × FenceBetween a n f → (f : Commit A) × In f H × FenceBetween a b f
-          wider (f, m, v) = (f, m, record { core = v .core; fence = v .fence; after = v .after; before = omega (arith, w .near, v .before) })
+          wider (f, m, v) = (f, m, record { core = v .core; fence = v .fence; after = omega (arith, w .near, v .after); before = omega (arith, w .near, v .before) })
 
   -- what stands on both sides of a fence of its core keeps its order
   through : (a f b : Commit A) → In a H → In f H → In b H → a .core ≡ b .core → FenceBetween a b f → Before a b
@@ -112,21 +116,21 @@ module _ {A C X : Type 0} (Keeps Swaps : Op A → Op A → Type 0) (Reads Writes
 pub fence-theorem : FenceTheorem
 fence-theorem A C X Keeps Swaps Reads Writes zero H F O fenced = fences-order Keeps Swaps Reads Writes zero H F O fenced
 
--- ---- the converse
+-- ---- the other way round
 
--- all pairs keep their order, a store and then a load too
-all-keep : {A : Type 0} (a b : Op A) → AllKeep a b
-all-keep (load l x) b = tt
-all-keep fence b = tt
-all-keep (store l x) (load m y) = tt
-all-keep (store l x) (store m y) = tt
-all-keep (store l x) fence = tt
+-- all pairs keep their order: a store and then a load, and any other
+all-keep : {A : Type 0} (a b : Op A) → _≡_ {A = Type 0} (AllKeep a b) (Unit {0})
+all-keep (store l x) (load m y) = refl
+all-keep (store l x) (store m y) = refl
+all-keep (store l x) fence = refl
+all-keep (load l x) b = refl
+all-keep fence b = refl
 
 pub strictest-theorem : StrictestTheorem
 strictest-theorem A C X Keeps Reads Writes zero H S = record { order = λ a b i j c h k. made a b i j c h; reads = λ e m i x r. last e m i (S .reads e m i x r) }
   where
     made : AsMade H
-    made a b i j c h = S .order a b i j c h (all-keep (a .op) (b .op))
+    made a b i j c h = S .order a b i j c h (rw (all-keep (a .op) (b .op)) tt)
 
     last : (e : Commit A) → In e H → (i : C) {x : X} → LastWrite H (Writes i) (Preceding e) zero x → LastWrite H (Writes i) (MaySee e) zero x
     last e m i (inl (s, n, w, v, most)) = inl (s, n, w, inl v, λ t k y u p. most t k y u (seen made e t m k p))
@@ -134,21 +138,25 @@ strictest-theorem A C X Keeps Reads Writes zero H S = record { order = λ a b i 
 
 -- ---- TSO
 
--- a fence holds a store and the load after it
+-- a store and then a load need a fence, whatever their lines are
+store-load : {A : Type 0} (l m : ℕ) (x y : A) → _≡_ {A = Type 0} (StoreThenLoad (store l x) (load m y)) (Unit {0})
+store-load l m x y = refl
+
+-- fences hold in TSO
 tso-fences : {A : Type 0} → FencesHold {A = A} TsoKeeps StoreThenLoad
 tso-fences {A} = record { told = told; kept = kept; before = before; after = λ b. tt }
   where
     told : (a b : Op A) → Dec (StoreThenLoad a b)
     told (load l x) b = no (λ p. p)
     told fence b = no (λ p. p)
-    told (store l x) (load m y) = yes tt
+    told (store l x) (load m y) = yes (rw (store-load l m x y) tt)
     told (store l x) (store m y) = no (λ p. p)
     told (store l x) fence = no (λ p. p)
 
     kept : (a b : Op A) → (StoreThenLoad a b → ⊥) → TsoKeeps a b
     kept (load l x) b n = tt
     kept fence b n = tt
-    kept (store l x) (load m y) n = n tt
+    kept (store l x) (load m y) n = n (rw (store-load l m x y) tt)
     kept (store l x) (store m y) n = tt
     kept (store l x) fence n = tt
 

@@ -1,6 +1,6 @@
 -- Every call, with any numbers and any bytes, keeps the invariant, and what it commits extends the log: one function over the rows of the tables.
 use Prim.Native.Nat.{ℕ, _≤_, _<_}
-use mathlib.Core.{Path.{_≡_, refl, sym, _∙_, ap}, Logic.{_⊎_, inl, inr}, Bool.{Bool, true, false}, List.{List, [], _∷_}}
+use mathlib.Core.{Path.{_≡_, refl, sym, _∙_, ap}, Logic.{_⊎_, inl, inr}, Bool.{Bool, true, false}, List.{List, _∷_}}
 use native.Mathlib.Omega.{arith}
 use lib.{Dec.eqb, ListN.length}
 use borrow.Author.Tests.{eq-eqb}
@@ -14,7 +14,7 @@ use Rattle.protocol.specs.declared.{Stamp.Stamp, Clocks.Clocks, Copy.{Co
 use Rattle.protocol.specs.declared.{Want.{Want, the-variants.{Load as WantLoad, Store as WantStore}}, Held.{Held, the-variants.Version}}
 use Rattle.protocol.specs.declared.{Grant.{Grant, the-variants.{Share as GrantShare, Renew as GrantRenew, Own as GrantOwn}}, Core.Core}
 use Rattle.protocol.specs.declared.{Manager.{Manager, the-variants.Shared}, Recall.{Recall, the-variants.{None as NoRecall, Downgrade, Flush}}}
-use Rattle.protocol.specs.declared.{Writeback.{Writeback, the-variants.Flight}, Opening.Opening, Call.{Call, the-variants.Load}}
+use Rattle.protocol.specs.declared.{Writeback.{Writeback, the-variants.Flight}, Opening.Opening, Call.Call}
 use Rattle.protocol.specs.declared.{Answer.{Answer, the-variants.Done}, Effect.Effect}
 use Rattle.protocol.specs.declared.Move.{Move, the-variants.{Receive as MoveReceive, Writeback as MoveWriteback}}
 use Rattle.protocol.specs.declared.{Slot.the-variants.{Empty, Asked, Answered}, Name.the-variants.{Own, Yield as Yielded}}
