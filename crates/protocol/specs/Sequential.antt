@@ -9,11 +9,11 @@
 -- one core's commits need a fence between them is its parameter. `StrictestTheorem` is the other way round: what is sequentially consistent
 -- obeys every such model.
 use mathlib.Core.{Path._≡_, List.List}
-use Rattle.protocol.specs.{Step.{Op, load, store, fence}, Run.Commit, Order.{In, Before, Earlier, Loads, Stores, MaySee, Obeys, OfEveryRun}}
+use Rattle.protocol.specs.{Step.{Op, load, store, fence}, Run.Commit, Order.{In, Before, Earlier, TsoKeeps, Loads, Stores, MaySee, Obeys, OfEveryRun}}
 
 -- ---- the condition
 
--- which pairs of one core's commits may change places under TSO: a store and then a load
+-- the pairs of one core's commits that need a fence under TSO, since they may change places: a store and then a load
 abbrev pub StoreThenLoad : {A : Type 0} → Op A → Op A → Type 0
 StoreThenLoad (load l x) b = ⊥
 StoreThenLoad fence b = ⊥
@@ -76,6 +76,10 @@ pub record FencesHold {A : Type 0} (Keeps Swaps : Op A → Op A → Type 0) : Ty
   pub kept : (a b : Op A) → (Swaps a b → ⊥) → Keeps a b
   pub before : (a : Op A) → Keeps a fence
   pub after : (b : Op A) → Keeps fence b
+
+-- fences hold in TSO
+abbrev pub TsoFencesTheorem : Type 1
+TsoFencesTheorem = (A : Type 0) → FencesHold {A = A} TsoKeeps StoreThenLoad
 
 -- a log that obeys such a model, and has a fence between each commit and its core's next that needs one, is sequentially consistent, whatever a
 -- cell of memory is

@@ -12,6 +12,8 @@ pub mod Decides
 pub mod Deciding
 pub mod Logs
 pub mod Fences
+pub mod Seven
 pub mod Chain
+pub mod Used
 pub mod Longest
 pub mod Conversions

@@ -18,8 +18,15 @@ fenced =
     -- a store that its core loads nothing after needs none; nor does a load before the store, nor a load by another core
     ∷ (at 1 0 0 (load 1 0) ∷ at 2 0 1 (store 0 1) ∷ at 3 0 2 (store 1 1) ∷ [])
     ∷ (at 1 0 5 (store 0 1) ∷ at 2 1 0 (load 0 0) ∷ [])
-    -- between in the list, whatever the timestamps are: this log does not obey TSO, and has its fence
+    ∷ (at 1 0 1 (store 0 1) ∷ at 2 1 0 (load 1 0) ∷ [])
+    -- nor do loads, fences and stores one after the other
+    ∷ (at 1 0 0 (load 0 0) ∷ at 2 0 0 (load 0 0) ∷ at 3 0 0 fence ∷ at 4 0 0 fence ∷ at 5 0 1 (store 0 1) ∷ at 6 0 1 (store 0 2) ∷ [])
+    -- between in the list, whatever the timestamps are: these logs do not obey TSO, and have their fences
     ∷ (at 1 0 5 (store 0 1) ∷ at 2 0 1 fence ∷ at 3 0 3 (load 1 0) ∷ [])
+    ∷ (at 3 0 5 (store 1 1) ∷ at 7 0 9 fence ∷ at 8 0 2 fence ∷ at 12 0 1 (load 1 1) ∷ [])
+    -- three cores, with other cores' commits between a store, its fence and the next load, and places that others' refused calls took
+    ∷ (at 2 2 0 fence ∷ at 4 0 5 (store 0 1) ∷ at 5 1 6 (store 0 2) ∷ at 6 2 6 (store 63 3) ∷ at 7 0 6 fence ∷ at 9 1 7 fence ∷ at 10 1 7 (load 63 3)
+    ∷ at 11 1 8 (store 1 4) ∷ at 12 0 8 (load 1 4) ∷ at 14 1 9 fence ∷ at 15 1 9 (load 0 2) ∷ at 16 2 9 fence ∷ at 20 2 4294967295 (load 1 4) ∷ [])
     ∷ []
 
 abbrev pub unfenced : List Log
@@ -68,16 +75,32 @@ notSequential =
     swapped (store 0 1) (load 1 0)
     ∷ swapped (store 0 1) (load 0 0)
     ∷ swapped (store 0 1) (load 0 1)
+    ∷ swapped (store 0 1) (store 0 2)
     ∷ swapped (store 0 1) (store 1 2)
+    ∷ swapped (store 0 1) fence
+    ∷ swapped (load 0 0) (load 0 0)
     ∷ swapped (load 0 0) (load 1 0)
-    ∷ swapped (load 0 0) (store 0 1)
+    ∷ swapped (load 0 1) (store 0 1)
+    ∷ swapped (load 0 0) (store 1 1)
+    ∷ swapped (load 0 0) fence
     ∷ swapped fence (load 0 0)
+    ∷ swapped fence (store 0 1)
+    ∷ swapped fence fence
+    ∷ (at 1 0 1 fence ∷ at 2 1 5 (load 0 0) ∷ at 3 0 1 fence ∷ at 4 1 3 (load 0 0) ∷ [])
     -- store buffering without fences: both loads read 0
     ∷ (at 1 0 5 (store 0 1) ∷ at 2 1 5 (store 1 1) ∷ at 3 0 0 (load 1 0) ∷ at 4 1 0 (load 0 0) ∷ [])
-    -- reads: a stale read; a read of a store that stands later; another value than zeros where there is no store; ties by place
+    -- reads: a stale read, by another core, by the first of two loads, by the second, and after three stores at one timestamp
     ∷ (at 1 0 1 (store 0 1) ∷ at 2 0 2 (store 0 2) ∷ at 3 1 3 (load 0 1) ∷ [])
+    ∷ (at 1 0 1 (store 1 1) ∷ at 2 1 2 (store 1 2) ∷ at 3 0 3 (load 1 1) ∷ at 4 0 3 (load 1 2) ∷ [])
+    ∷ (at 1 0 1 (store 1 1) ∷ at 2 1 2 (store 1 2) ∷ at 3 0 3 (load 1 2) ∷ at 4 0 3 (load 1 1) ∷ [])
+    ∷ (at 1 0 1 (store 0 1) ∷ at 2 1 1 (store 0 2) ∷ at 3 2 1 (store 0 3) ∷ at 4 2 1 fence ∷ at 5 1 1 fence ∷ at 6 0 1 fence ∷ at 7 0 1 (load 0 1) ∷ [])
+    -- a read of a store that stands later; zeros where a store stands before, made earlier or later, by its core or another; another value than zeros
+    -- where there is none; ties by place
     ∷ (at 1 0 5 (store 0 1) ∷ at 2 1 3 (load 0 1) ∷ [])
+    ∷ (at 1 0 1 (store 1 1) ∷ at 2 0 2 (load 1 0) ∷ [])
+    ∷ (at 1 0 2 (load 0 0) ∷ at 2 1 1 (store 0 1) ∷ [])
     ∷ (at 1 0 1 (load 0 1) ∷ [])
+    ∷ (at 1 0 0 (load 1 1) ∷ [])
     ∷ (at 1 1 3 (store 0 1) ∷ at 2 0 3 (load 0 0) ∷ [])
     ∷ []
 

@@ -14,5 +14,7 @@ pub mod Sample
 pub mod SecondForm
 pub mod Logs
 pub mod Fences
+pub mod Seven
 pub mod Chain
+pub mod Used
 pub mod Conversions

@@ -24,6 +24,7 @@ disobeying =
     ∷ swapped (load 0 0) (load 0 0)
     ∷ swapped (load 0 0) (load 1 0)
     ∷ swapped (load 0 0) (store 0 1)
+    ∷ swapped (load 0 1) (store 0 1)
     ∷ swapped (load 0 0) (store 1 1)
     ∷ swapped (load 0 0) fence
     ∷ swapped fence (load 0 0)

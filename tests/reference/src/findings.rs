@@ -117,6 +117,12 @@ impl Findings {
         for (name, trouble) in &self.failed {
             troubles.push(format!("{name}: its fences do not give sequential consistency: {trouble:?}"));
         }
+        if self.fenced_need == 0 {
+            troubles.push("no journal made with fences needs one".into());
+        }
+        if self.others_need == 0 {
+            troubles.push("no other journal obeys the hypothesis and needs a fence".into());
+        }
         if self.not_sequential == 0 {
             troubles.push("no journal shows that it is not sequential without its fences".into());
         }

@@ -5,7 +5,7 @@ use mathlib.Core.{Path.{_≡_, refl, sym, _∙_}, Logic.{_⊎_, inl, inr, ⊎-el
 use native.Mathlib.{Omega.arith, Decide.{decLt, ℕ-discrete}}
 use Rattle.protocol.specs.{Buffers.Bytes, Step.{Op, load, store, fence}, Run.Commit}
 use Rattle.protocol.specs.Order.{In, here, there, Before, Earlier, TsoKeeps, Loads, Stores, MaySee, LastWrite, Obeys}
-use Rattle.protocol.specs.Sequential.{StoreThenLoad, Later, FenceBetween, Fenced, AllKeep, Preceding, FencesHold, FenceTheorem, SequentialTheorem, StrictestTheorem}
+use Rattle.protocol.specs.Sequential.{StoreThenLoad, Later, FenceBetween, Fenced, AllKeep, Preceding, FencesHold, TsoFencesTheorem, FenceTheorem, SequentialTheorem, StrictestTheorem}
 use Rattle.protocol.proofs.Order.{Log.{in-nil, in-cons, at-place}, Theorem.{before-trans, order-theorem}}
 
 -- ---- the next commit that needs a fence
@@ -142,9 +142,8 @@ strictest-theorem A C X Keeps Reads Writes zero H S = record { order = λ a b i 
 store-load : {A : Type 0} (l m : ℕ) (x y : A) → _≡_ {A = Type 0} (StoreThenLoad (store l x) (load m y)) (Unit {0})
 store-load l m x y = refl
 
--- fences hold in TSO
-tso-fences : {A : Type 0} → FencesHold {A = A} TsoKeeps StoreThenLoad
-tso-fences {A} = record { told = told; kept = kept; before = before; after = λ b. tt }
+pub tso-fences-theorem : TsoFencesTheorem
+tso-fences-theorem A = record { told = told; kept = kept; before = before; after = λ b. tt }
   where
     told : (a b : Op A) → Dec (StoreThenLoad a b)
     told (load l x) b = no (λ p. p)
@@ -166,4 +165,4 @@ tso-fences {A} = record { told = told; kept = kept; before = before; after = λ 
     before (store l x) = tt
 
 pub sequential-theorem : SequentialTheorem
-sequential-theorem o accepted gs fenced = fence-theorem Bytes ℕ Bytes TsoKeeps StoreThenLoad Loads Stores _ _ tso-fences (order-theorem o accepted gs) fenced
+sequential-theorem o accepted gs fenced = fence-theorem Bytes ℕ Bytes TsoKeeps StoreThenLoad Loads Stores _ _ (tso-fences-theorem Bytes) (order-theorem o accepted gs) fenced
