@@ -5,6 +5,7 @@
 // capacity the lines, and the buffers are zeros. Whether the calls are made by `engine::step` or by their
 // names is no argument but a constant: the compiler puts `step` in line where a program calls it at one
 // place only.
+#![tactic(auto)]
 use engine::Returned;
 use libc::{STDERR_FILENO, STDOUT_FILENO};
 use protocol::{Answer, Call, Given, Opening, State};

@@ -5,6 +5,7 @@
 // buffers of these. As its step is made, a line is written in the other form: one whose kind changes keeps all
 // that is behind its kind. The result is written to a buffer of its own, and copied into the lent one when all
 // checks are passed, so that a refusal leaves that one as it was.
+#![tactic(auto)]
 mod writing;
 
 ghost use Rattle.std.specs.Prelude.{◌≡◌, ◌+◌};
@@ -17,14 +18,14 @@ use protocol::{Cell, Opening, State};
 use spelling::Put;
 
 // The form that a journal is converted to: `fabric=1` or `fabric=2`.
-#[derive(Drop)]
+#[derive(Clone, Copy)]
 pub enum To {
     First,
     Second,
 }
 
 // What converting a journal answers.
-#[derive(Drop)]
+#[derive(Clone, Copy)]
 pub enum Converted {
     // The length of the result, which is at the start of the buffer.
     Length(usize),
@@ -33,7 +34,7 @@ pub enum Converted {
 }
 
 // What becomes of a line: its kind stays, is another in `fabric=2` (from evict), or is evict in `fabric=1`.
-#[derive(Drop)]
+#[derive(Clone, Copy)]
 enum Change {
     Same,
     To,

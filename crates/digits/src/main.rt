@@ -10,6 +10,7 @@
 // The kinds are S a store in digits, B the same on a state with a lease of 0, T the same with a private buffer that is a byte short,
 // M advance by the greatest number, L load, V serve and R receive. The digits are r those of a line, x the same with a wrong one first,
 // o one digit less, l one more, f a byte less, m a byte more, and e none.
+#![tactic(auto)]
 ghost use Rattle.std.specs.Prelude.{◌≤◌};
 
 use engine::Returned;

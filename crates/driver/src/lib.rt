@@ -4,6 +4,7 @@
 // the whole piece of work and changes it in place, by the same tables and byte moves that the engine's
 // calls use, and looks the state and the buffers over once (refusals 1 and 2). It fills a lent buffer with
 // whole lines and returns the checkpoint that it got to.
+#![tactic(auto)]
 mod one_line;
 
 ghost use Rattle.std.specs.Prelude.{◌≡◌};
@@ -15,7 +16,7 @@ use spelling::Put;
 use tables::Look;
 
 // A run between two lines: the offset in the journal, its form, what was met so far, and the state.
-#[derive(Drop)]
+#[derive(Clone, Copy)]
 pub struct Checkpoint {
     pub at: usize,
     pub form: u32,
@@ -24,7 +25,7 @@ pub struct Checkpoint {
 }
 
 // Whether the listing is out whole, goes on, or can't be had.
-#[derive(Drop)]
+#[derive(Clone, Copy)]
 pub enum Progress {
     // The listing's last line is written.
     Finished,
@@ -39,7 +40,7 @@ pub enum Progress {
 
 // How far a call came: `written` bytes of the buffer, from its start, and the run's checkpoint, whose counts leave out
 // the line that ended the run.
-#[derive(Drop)]
+#[derive(Clone, Copy)]
 pub struct Played {
     pub progress: Progress,
     pub written: usize,
@@ -47,7 +48,7 @@ pub struct Played {
 }
 
 // How a journal ends: with its input, or at a line that is refused with a number of 10 to 14.
-#[derive(Drop)]
+#[derive(Clone, Copy)]
 enum Last {
     End,
     Refused(u32),
@@ -55,7 +56,7 @@ enum Last {
 
 // What is due at an offset of a journal: a step with the first of 1 to 6 that applies or 0, where the
 // digits given to it lie and the offset of the next line; or the journal's end.
-#[derive(Drop)]
+#[derive(Clone, Copy)]
 enum Due {
     Step {
         call: Call,

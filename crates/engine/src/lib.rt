@@ -5,6 +5,7 @@
 // `opened`, `step`, `shown` or `part` of crate `protocol`; of a part that is returned, where it points too.
 // Callers write `d = load(d.state, ..)`, which saves a copy of the state against one by way of a local.
 // `step` saves another copy against those functions.
+#![tactic(auto)]
 ghost use mathlib.Core.{Path.◌≡◌, List.[]};
 ghost use Rattle.protocol.specs.Machine.{pieces};
 ghost use Rattle.engine.specs.{Pieces.OnPieces, Calls.{Makes, Opens, Shows, PartOf}};
@@ -14,7 +15,7 @@ use tables::Look;
 
 // What a call makes of the pieces that it looks at: one core, its copy of one line, the manager's
 // line. `start` and `count` are those of `Returned`.
-#[derive(Drop)]
+#[derive(Clone, Copy)]
 struct NewPieces {
     answer: Answer,
     start: usize,
@@ -27,7 +28,7 @@ struct NewPieces {
 // What a call gives: its answer, the state, and where the bytes of a load's or a store's commit lie
 // in the private buffer as the call leaves it: `count` of them from `start`, 0 and 0 beside any
 // other answer.
-#[derive(Drop)]
+#[derive(Clone, Copy)]
 pub struct Returned {
     pub answer: Answer,
     pub start: usize,
@@ -267,7 +268,7 @@ pub fn take(s: State, private: &mut [u8], shared: &mut [u8], line: usize) -> Ret
 }
 
 // What opening an engine gives.
-#[derive(Drop)]
+#[derive(Clone, Copy)]
 pub struct Opened {
     pub answer: Answer,
     pub state: State,

@@ -5,6 +5,7 @@
 // and, for a step, `call_of`; and in specs/Table.antt; with the counts in both. The rows that a journal of some form has are one part
 // of the table, from one row up to another. Texts are named where they are compared, and not in a table of texts, since a
 // constant array is made anew at each use.
+#![tactic(auto)]
 ghost use mathlib.Core.{Path.◌≡◌, Bool.cond};
 ghost use Rattle.std.specs.Prelude.{◌≤◌, ◌<◌, ◌-◌};
 ghost use lib.{Dec.eqb, ListN.{length, take, drop}};
@@ -16,7 +17,7 @@ use protocol::{Call, Given, Opening};
 use spelling::Number;
 
 // What a line says: it opens an engine, it is a step, or it is refused with the scope's number 10 to 13.
-#[derive(Drop)]
+#[derive(Clone, Copy)]
 pub enum Line {
     // The first line: the journal's form (1 for `fabric=1`, 2 for `fabric=2`), and the opening sizes, lease and capacity.
     Opening {
@@ -57,7 +58,7 @@ const ROWS_BY_TAG: [u8; 32] = *b"~a~~mn~~~~~i~~~ejkdcfl~~h~~~bg~~";
 
 // What was read of a line by a form: 0 or the refusal, the numbers so far and how many, and where the data start (the line's
 // end, if there are none).
-#[derive(Drop)]
+#[derive(Clone, Copy)]
 struct Values {
     fault: u32,
     count: usize,
@@ -253,7 +254,7 @@ fn to_row(form: u32) -> usize
 }
 
 // The row whose form a line has, and what was read by it.
-#[derive(Drop)]
+#[derive(Clone, Copy)]
 struct Found {
     row: usize,
     values: Values,

@@ -1,6 +1,7 @@
 // What a host simulator calls from C: lines and whole journals, bytes in, bytes out. include/fabric.h declares the functions.
 //
 // Each one hands its bytes on, to what the programs call too, and says the answer in a number.
+#![tactic(auto)]
 ghost use Rattle.std.specs.Prelude.{◌≡◌};
 ghost use Rattle.whole.specs.Whole.{Checks};
 ghost use Rattle.convert.specs.declared.To.TheVariants.{First, Second};

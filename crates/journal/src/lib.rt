@@ -4,6 +4,7 @@
 // is there. A `Reader` holds the journal with the offset and the form; `next` returns what is there and the reader after
 // it together, and nobody else can set its offset, so no byte is passed over. A refusal, or the end, leaves the reader where it is:
 // asking again gives the same answer.
+#![tactic(auto)]
 ghost use Rattle.std.specs.Prelude.{◌≡◌};
 ghost use Rattle.journal.specs.Journal.{NextOf, offset_after, form_after, ReadOf, StepOf};
 
@@ -11,7 +12,7 @@ use grammar::Line;
 use protocol::{Call, Opening};
 
 // What is at an offset of a journal. `next` is the offset of the line after it.
-#[derive(Drop)]
+#[derive(Clone, Copy)]
 pub enum Next {
     // The first line: the journal's form, and the opening sizes, lease and capacity.
     Opening {
@@ -90,7 +91,7 @@ fn form_after(form: u32, n: Next) -> u32
 }
 
 // One reading: what is at an offset, and the offset and the form after it.
-#[derive(Drop)]
+#[derive(Clone, Copy)]
 struct Read {
     at: usize,
     form: u32,
@@ -110,7 +111,7 @@ fn read_at(journal: &[u8], at: usize, form: u32) -> Read
 }
 
 // A journal, an offset in it where a line starts, and the journal's form: 0 until its first line was read.
-#[derive(Drop)]
+#[derive(Clone, Copy)]
 pub struct Reader<'a> {
     journal: &'a [u8],
     at: usize,
@@ -118,7 +119,7 @@ pub struct Reader<'a> {
 }
 
 // What a reader returns: what was where it was, and the reader after it.
-#[derive(Drop)]
+#[derive(Clone, Copy)]
 pub struct Step<'a> {
     pub reader: Reader<'a>,
     pub next: Next,

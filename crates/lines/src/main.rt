@@ -1,6 +1,7 @@
 // How far a journal reads: the journal of standard input is read, line by line, to its end or to the first line that is refused.
 // One line is printed: how many lines were read, and the number of the refusal if there is one. It is an example of a walk with
 // the reader; unlike `steps` it takes a read that fails for the end of the input.
+#![tactic(auto)]
 ghost use Rattle.std.specs.Prelude.{◌≡◌};
 ghost use Rattle.journal.specs.Journal.{goes_on};
 ghost use Rattle.lines.specs.Count.{CountsLines};
@@ -9,7 +10,7 @@ use journal::{Next, Reader};
 use libc::{STDIN_FILENO, STDOUT_FILENO};
 
 // How many lines were read, and what is after them: the end, or a refusal.
-#[derive(Drop)]
+#[derive(Clone, Copy)]
 struct LineCount {
     lines: usize,
     last: Next,

@@ -3,6 +3,7 @@
 // A text that does not fit leaves the buffer as it was, so its length must be known before its first byte is put. A number's
 // digits come last digit first; so a line is built back to front in a local buffer, which is then put as one text. A commit's
 // data are put behind it, straight into the lent buffer.
+#![tactic(auto)]
 ghost use Rattle.std.specs.Prelude.{◌++◌, ◌+◌, ◌≤◌, length, ◌≡◌};
 ghost use Rattle.protocol.specs.Step.{valued, meaning};
 ghost use Rattle.spelling.specs.{Text.text, Over.PutAt};

@@ -7,30 +7,30 @@ use borrow.Author.Tests.{leb-true, le-leb, lt-leb, eqb-false, ne_eqb}
 use Rattle.spelling.specs.{Bytes.All, Hex.{unhex, Spells, IsData, HexDigit}}
 use Rattle.spelling.proofs.HexLaws.{spelt, spells_length, hex_digits, unhex_hex, unhex_length}
 use Rattle.protocol.specs.{Pick.{pick, both, fails, every, first}, Buffers.Bytes, Given.{bytes_as, count_as}, Machine.Machine}
-use Rattle.protocol.specs.Refusals.{is_digit_lem, digit_rules, call_rules, call_refusal, state_rules, state_refusal, refusal}
+use Rattle.protocol.specs.Refusals.{is_digit, digit_rules, call_rules, call_refusal, state_rules, state_refusal, refusal}
 use Rattle.protocol.specs.{Tables.table_of, Step.{refused, accepted, step}, Digits.DigitsTheorem}
 use Rattle.protocol.specs.declared.{Call.TheVariants.Store, Given.{Given, TheVariants.{Bytes as AsBytes, Digits as AsDigits}}}
 use Rattle.protocol.proofs.{Tests.both_true, Refusals.{not-true, passed}}
 
 -- ---- the test of digits
 
-is_digit_lem : (b : ℕ) → is_digit_lem b ≡ true → HexDigit b
+is_digit_lem : (b : ℕ) → is_digit b ≡ true → HexDigit b
 is_digit_lem b e = go (both (leb 48 b) (leb b 57)) refl e
   where
     go : (t : Bool) → both (leb 48 b) (leb b 57) ≡ t → pick t true (both (leb 97 b) (leb b 102)) ≡ true → HexDigit b
     go true q h = let x = both_true (leb 48 b) (leb b 57) q in inl (leb-true _ _ x.0, leb-true _ _ x.1)
     go false q h = let x = both_true (leb 97 b) (leb b 102) h in inr (leb-true _ _ x.0, leb-true _ _ x.1)
 
-digit_is : (b : ℕ) → HexDigit b → is_digit_lem b ≡ true
+digit_is : (b : ℕ) → HexDigit b → is_digit b ≡ true
 digit_is b (inl h) = rw (le-leb 48 b h.0, le-leb b 57 h.1)
 digit_is b (inr h) = rw (le-leb 48 b (omega arith), lt-leb b 57 (omega arith), le-leb 97 b h.0, le-leb b 102 h.1)
 
-all_digits : (ds : Bytes) → every is_digit_lem ds ≡ true → All HexDigit ds
+all_digits : (ds : Bytes) → every is_digit ds ≡ true → All HexDigit ds
 unfolding every
 all_digits [] e = tt
-all_digits (d ∷ ds) e = let x = both_true (is_digit_lem d) (every is_digit_lem ds) e in (is_digit_lem d x.0, all_digits ds x.1)
+all_digits (d ∷ ds) e = let x = both_true (is_digit d) (every is_digit ds) e in (is_digit_lem d x.0, all_digits ds x.1)
 
-digits_all : (ds : Bytes) → All HexDigit ds → every is_digit_lem ds ≡ true
+digits_all : (ds : Bytes) → All HexDigit ds → every is_digit ds ≡ true
 unfolding every
 digits_all [] a = refl
 digits_all (d ∷ ds) a = rw (digit_is d a.0) (digits_all ds a.1)
@@ -43,8 +43,8 @@ unfolding digit_rules
 right_digits ds e =
     let a = passed (eqb (length ds) 0) 13 _ (omega arith) e in
     let b = passed (eqb (length ds % 2) 1) 13 _ (omega arith) a.1 in
-    let c = passed (fails (every is_digit_lem ds)) 13 [] (omega arith) b.1 in
-    spelt ds (all_digits ds (not-true (every is_digit_lem ds) c.0)) (omega (arith, eqb-false (length ds % 2) 1 b.0)) (omega (arith, eqb-false (length ds) 0 a.0))
+    let c = passed (fails (every is_digit ds)) 13 [] (omega arith) b.1 in
+    spelt ds (all_digits ds (not-true (every is_digit ds) c.0)) (omega (arith, eqb-false (length ds % 2) 1 b.0)) (omega (arith, eqb-false (length ds) 0 a.0))
 
 -- and what spells bytes is not 13
 pub digits_right : (ds bs : Bytes) → Spells ds bs → first (digit_rules ds) ≡ 0
@@ -66,7 +66,7 @@ thirteen false false false = inl refl
 pub digits_wrong : (ds : Bytes) → (IsData ds → ⊥) → first (digit_rules ds) ≡ 13
 unfolding digit_rules first
 digits_wrong ds n =
-    ⊎_elim (λ e. absurd (n (unhex ds, right_digits ds e))) (λ e. e) (thirteen (eqb (length ds) 0) (eqb (length ds % 2) 1) (fails (every is_digit_lem ds)))
+    ⊎_elim (λ e. absurd (n (unhex ds, right_digits ds e))) (λ e. e) (thirteen (eqb (length ds) 0) (eqb (length ds % 2) 1) (fails (every is_digit ds)))
 
 -- ---- what is given
 

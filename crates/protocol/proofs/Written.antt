@@ -3,7 +3,7 @@ use Prim.Native.Nat.{ℕ, zero, suc, ◌+◌, ◌*◌, ◌<◌}
 use mathlib.Core.Path.{◌≡◌, refl, ◌∙◌, ap}
 use native.Mathlib.Omega.{arith}
 use lib.{ListN.{length, get_or, length-set, replicate, length-replicate}, Seq.{get_or-set_same, get_or-set_other}}
-use Rattle.protocol.specs.{Fresh.{fresh_core, fresh_cell, fresh_line, fresh_state}, Buffers.There, Machine.{core_at_lem, copy_at, line_at, written}}
+use Rattle.protocol.specs.{Fresh.{fresh_core, fresh_cell, fresh_line, fresh_state}, Buffers.There, Machine.{core_at, copy_at, line_at, written}}
 use Rattle.protocol.specs.declared.{Cell.Cell, Opening.Opening, State.State, Effect.Effect, Copy.TheVariants.None as NoCopy}
 use Rattle.protocol.proofs.Bytes.{grid_row, grid_column}
 
@@ -16,10 +16,10 @@ pub record Arrays (s : State) : Type 0 where
 -- ---- after an effect d on core c and line l
 
 module _ {s : State} (a : Arrays s) {c l : ℕ} (q : There s.opening c l) (d : Effect) where
-  pub core_at_lem : core_at_lem (written s c l d) c ≡ d.core
+  pub core_at_lem : core_at (written s c l d) c ≡ d.core
   core_at_lem = get_or-set_same s.core c d.core fresh_core (omega (arith, a.n_core, q.cores, q.core))
 
-  pub core_off : (c' : ℕ) → (c' ≡ c → ⊥) → core_at_lem (written s c l d) c' ≡ core_at_lem s c'
+  pub core_off : (c' : ℕ) → (c' ≡ c → ⊥) → core_at (written s c l d) c' ≡ core_at s c'
   core_off c' n = get_or-set_other s.core c c' d.core fresh_core n
 
   pub line_at_lem : line_at (written s c l d) l ≡ d.line
@@ -58,7 +58,7 @@ module _ (o : Opening) where
   pub arrays_fresh : Arrays (fresh_state o)
   arrays_fresh = record { n_core = length-replicate 16 fresh_core; n_cell = length-replicate 1024 fresh_cell; n_line = length-replicate 64 fresh_line }
 
-  pub core_fresh : (c : ℕ) → core_at_lem (fresh_state o) c ≡ fresh_core
+  pub core_fresh : (c : ℕ) → core_at (fresh_state o) c ≡ fresh_core
   core_fresh c = get_d_replicate 16 c fresh_core
 
   pub line_fresh : (l : ℕ) → line_at (fresh_state o) l ≡ fresh_line

@@ -4,6 +4,7 @@
 // What each step does to these parts is written in specs/, in the words of the scope document; this
 // crate's code is what every other crate shares: comparing timestamps, stepping a core's clocks,
 // and the fixed values that a fresh engine starts from. No function here has a `requires`.
+#![tactic(auto)]
 ghost use mathlib.Core.{Path.◌≡◌, List.[]};
 ghost use Rattle.protocol.specs.Stamps.{greatest, at_most, earlier, same, made_earlier, later, after, precedes};
 ghost use Rattle.protocol.specs.{Clock.{loaded, stored, fenced, advanced}, Fresh.{fresh_core, fresh_cell, fresh_line, fresh_state, smallest}};
@@ -11,22 +12,22 @@ ghost use Rattle.protocol.specs.{Limits.{within, opening_fits}, About.{concerns,
 ghost use Rattle.protocol.specs.{Pick.pick, Counts.{is_serve, name_class, commit_class, class_of}};
 
 // A logical timestamp. It is compared only with another timestamp.
-#[derive(Drop)]
+#[derive(Clone, Copy)]
 pub struct Stamp(pub u32);
 
 // A call's position in the list of calls, from 1. It is compared only with another place.
-#[derive(Drop)]
+#[derive(Clone, Copy)]
 pub struct Place(pub u64);
 
 // A timestamp so much later: still one, or past the greatest (refusal 27).
-#[derive(Drop)]
+#[derive(Clone, Copy)]
 pub enum Sum {
     At(Stamp),
     Passes,
 }
 
 // What commits are sorted by: the timestamp, and the place among equal timestamps.
-#[derive(Drop)]
+#[derive(Clone, Copy)]
 pub struct Key(pub Stamp, pub Place);
 
 impl Stamp {
@@ -105,7 +106,7 @@ impl Key {
 }
 
 // A core's pair of clocks: the timestamp of its last load or fence, and of its last store.
-#[derive(Drop)]
+#[derive(Clone, Copy)]
 pub struct Clocks {
     pub lts: Stamp,
     pub sts: Stamp,
@@ -149,7 +150,7 @@ impl Clocks {
 // A core's private copy of a line: wts is the timestamp of the store that made it, rts the end of
 // its lease, dirty whether this core has stored to it since it became owned. dirty is first, in
 // the room beside the variant's tag: a copy then takes 12 bytes, not 16.
-#[derive(Drop)]
+#[derive(Clone, Copy)]
 pub enum Copy {
     None,
     Shared { wts: Stamp, rts: Stamp },
@@ -157,21 +158,21 @@ pub enum Copy {
 }
 
 // What a request asks for.
-#[derive(Drop)]
+#[derive(Clone, Copy)]
 pub enum Want {
     Load,
     Store,
 }
 
 // The version of the shared copy that a core held when it asked.
-#[derive(Drop)]
+#[derive(Clone, Copy)]
 pub enum Held {
     None,
     Version(Stamp),
 }
 
 // What the manager grants.
-#[derive(Drop)]
+#[derive(Clone, Copy)]
 pub enum Grant {
     Share,
     Renew,
@@ -179,7 +180,7 @@ pub enum Grant {
 }
 
 // A core's request slot.
-#[derive(Drop)]
+#[derive(Clone, Copy)]
 pub enum Slot {
     Empty,
     Asked {
@@ -196,7 +197,7 @@ pub enum Slot {
     },
 }
 
-#[derive(Drop)]
+#[derive(Clone, Copy)]
 pub struct Core {
     pub clocks: Clocks,
     pub slot: Slot,
@@ -220,7 +221,7 @@ impl Core {
 }
 
 // An element of the state's array of copies.
-#[derive(Drop)]
+#[derive(Clone, Copy)]
 pub struct Cell {
     pub copy: Copy,
 }
@@ -237,14 +238,14 @@ impl Cell {
 }
 
 // A line at the manager: shared with wts and rts, or owned by a core.
-#[derive(Drop)]
+#[derive(Clone, Copy)]
 pub enum Manager {
     Shared { wts: Stamp, rts: Stamp },
     Owned { core: usize },
 }
 
 // What the manager has asked a line's owner for.
-#[derive(Drop)]
+#[derive(Clone, Copy)]
 pub enum Recall {
     None,
     Downgrade,
@@ -252,14 +253,14 @@ pub enum Recall {
 }
 
 // A version on its way back to the manager.
-#[derive(Drop)]
+#[derive(Clone, Copy)]
 pub enum Writeback {
     None,
     Flight { wts: Stamp, rts: Stamp },
 }
 
 // A line as the manager keeps it.
-#[derive(Drop)]
+#[derive(Clone, Copy)]
 pub struct ManagerLine {
     pub manager: Manager,
     pub recall: Recall,
@@ -285,7 +286,7 @@ impl ManagerLine {
 }
 
 // What an engine is opened with: its sizes, its lease, and how many copies a core may hold.
-#[derive(Drop)]
+#[derive(Clone, Copy)]
 pub struct Opening {
     pub cores: usize,
     pub lines: usize,
@@ -356,7 +357,7 @@ fn within(n: usize, most: usize) -> bool
 
 // The engine's state. The copy of core c, line l is cell c × MOST_LINES + l. Only cores and lines
 // inside the opening's sizes take part.
-#[derive(Drop)]
+#[derive(Clone, Copy)]
 pub struct State {
     pub opening: Opening,
     pub core: [Core; Opening::MOST_CORES],
@@ -385,7 +386,7 @@ impl State {
 }
 
 // How a store's bytes are given: as they are, or as the digits that spell them, two a byte.
-#[derive(Drop)]
+#[derive(Clone, Copy)]
 pub enum Given {
     Bytes,
     Digits,
@@ -406,7 +407,7 @@ impl Given {
 // The calls. A store's bytes are given beside the call, as bytes or as digits. Evict gives up whatever copy there is; drop a shared
 // one, writeback an owned one; victim names the line that a core would give up. A new call is last, here and in each match: the
 // others then take no instruction more. `given` is first, in the room beside the variant's tag: a call then takes 24 bytes, not 32.
-#[derive(Drop)]
+#[derive(Clone, Copy)]
 pub enum Call {
     Load {
         core: usize,
@@ -454,7 +455,7 @@ pub enum Call {
 }
 
 // The core that a call is about: the one that it names, the owner of its line, or none.
-#[derive(Drop)]
+#[derive(Clone, Copy)]
 pub enum Who {
     Named(usize),
     Owner,
@@ -463,7 +464,7 @@ pub enum Who {
 
 // The line that a call is about: the one that it names, the one in its core's slot, which is asked or answered, none, or its core's
 // victim.
-#[derive(Drop)]
+#[derive(Clone, Copy)]
 pub enum Which {
     Named(usize),
     Asked,
@@ -474,7 +475,7 @@ pub enum Which {
 
 // What a call does to its core's clocks, and so what it may commit, and how a store's bytes are given; a transfer moves a request or
 // a line between a core and the manager, and commits nothing; so does victim, which moves nothing.
-#[derive(Drop)]
+#[derive(Clone, Copy)]
 pub enum Act {
     Load,
     Store(Given),
@@ -499,7 +500,7 @@ impl Act {
 }
 
 // What a call is about.
-#[derive(Drop)]
+#[derive(Clone, Copy)]
 pub struct About {
     pub core: Who,
     pub line: Which,
@@ -548,7 +549,7 @@ fn concerns(core: Who, line: Which, act: Act) -> About
 }
 
 // The name of what was done, where nothing was refused or committed; a victim's has its line.
-#[derive(Drop)]
+#[derive(Clone, Copy)]
 pub enum Name {
     Open,
     Ask,
@@ -566,7 +567,7 @@ pub enum Name {
 }
 
 // A commit's kind and, but for a fence, its line.
-#[derive(Drop)]
+#[derive(Clone, Copy)]
 pub enum Kind {
     Load { line: usize },
     Store { line: usize },
@@ -575,7 +576,7 @@ pub enum Kind {
 
 // What a call answers: the number of its refusal, the name of what was done, or a commit. The bytes
 // of a load's or a store's commit are beside the answer.
-#[derive(Drop)]
+#[derive(Clone, Copy)]
 pub enum Answer {
     Refused(u8),
     Done(Name),
@@ -584,7 +585,7 @@ pub enum Answer {
 
 // What a call with its answer counts as: a commit by its kind, an ask, what a serve answered, a refusal, or nothing
 // of these.
-#[derive(Drop)]
+#[derive(Clone, Copy)]
 pub enum Class {
     Load,
     Store,
@@ -674,7 +675,7 @@ impl Class {
 
 // How many step lines were met, how many of them were commits and refusals, and how many were of each class that the
 // tally counts.
-#[derive(Drop)]
+#[derive(Clone, Copy)]
 pub struct Counts {
     pub steps: u64,
     pub commits: u64,
@@ -705,7 +706,7 @@ impl Counts {
 }
 
 // Which line of bytes a step moves, and where to.
-#[derive(Drop)]
+#[derive(Clone, Copy)]
 pub enum Move {
     // No bytes move.
     Still,
@@ -722,7 +723,7 @@ pub enum Move {
 }
 
 // What a step makes of the core, the copy and the manager's line that it looks at.
-#[derive(Drop)]
+#[derive(Clone, Copy)]
 pub struct Effect {
     pub answer: Answer,
     pub moves: Move,

@@ -1,6 +1,7 @@
 // What the programs have in common that play a whole journal: they read it from standard input, and play it to
 // its end with the driver, which fills a large buffer with whole lines and goes on from the checkpoint that it got to.
 // The buffer's text is written in one piece, or dropped where only the counts are wanted.
+#![tactic(auto)]
 ghost use Rattle.std.specs.Prelude.{◌≤◌, length};
 ghost use mathlib.Core.{Path.◌≡◌, Bool.true};
 ghost use Rattle.driver.specs.Play.{resumable};
@@ -14,21 +15,21 @@ use protocol::Counts;
 const MOST_RETRIES: usize = 1000;
 
 // What reading came to: so many bytes, or a read that failed.
-#[derive(Drop)]
+#[derive(Clone, Copy)]
 pub enum Input {
     Read(usize),
     Failed,
 }
 
 // What becomes of a listing: it is written to standard output, or dropped.
-#[derive(Drop)]
+#[derive(Clone, Copy)]
 pub enum Texts {
     Written,
     Dropped,
 }
 
 // How a journal was played: to its end, where so much was counted; or until standard output took no more.
-#[derive(Drop)]
+#[derive(Clone, Copy)]
 pub enum Ran {
     Whole(Counts),
     Cut,

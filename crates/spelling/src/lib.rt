@@ -2,6 +2,8 @@
 //
 // Reading and printing are promised by the same two definitions, `decimal` and `hex` of specs/, so what is printed is read
 // back as it was, and what is read prints as it was.
+#![tactic(auto)]
+
 ghost use Rattle.std.specs.Prelude.{◌≡◌, ◌+◌, ◌≤◌, ◌<◌, length, get_or, drop};
 ghost use Rattle.spelling.specs.{Bytes.{up_to, Test, Below}, Decimal.{decimal, NumberOf}, Hex.{digit, nibble, hex, unhex, DataTest, HexTest}};
 ghost use Rattle.spelling.specs.Over.{has_room, PutAt, PutBefore};
@@ -52,7 +54,7 @@ pub fn run_end(s: &[u8], at: usize, stop: u8) -> usize
 }
 
 // What reading a number finds: its value, or that the bytes are no number.
-#[derive(Drop)]
+#[derive(Clone, Copy)]
 pub enum Number {
     Value(u32),
     Wrong,
@@ -128,7 +130,7 @@ pub fn is_data(s: &[u8]) -> bool
 }
 
 // What putting a text into a buffer answers: the offset after the text, or that it does not fit.
-#[derive(Drop)]
+#[derive(Clone, Copy)]
 pub enum Put {
     End(usize),
     Short,

@@ -2,6 +2,7 @@
 //
 // A read that fails is no end: nothing is listed then. That a read or a write failed, and why, is one
 // line on standard error.
+#![tactic(auto)]
 use runner::{Input, Ran, Texts};
 
 // The failing call is the last one before its line is written, so that errno is its own.

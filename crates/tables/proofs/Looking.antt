@@ -18,7 +18,7 @@ use Rattle.protocol.specs.declared.Call.{Call, TheVariants.{Load, Store, Fence, 
 use Rattle.protocol.specs.declared.Call.TheVariants.{Serve, Receive, Yield, Take, Victim}
 use Rattle.protocol.specs.declared.Which.{Which, TheVariants.{Named as NamedLine, Asked as OfAsked, Answered as OfAnswered, Nothing, Victim as OfVictim}}
 use Rattle.protocol.proofs.{Tests.never, Copies.{one, count_most, none_held, victim_theorem}}
-use Rattle.tables.specs.{declared.copies.Look.Look, Look.{one_more_lem, found, with_copy, look_to, looks_over, top_of}}
+use Rattle.tables.specs.{declared.copies.Look.Look, Look.{one_more, found, with_copy, look_to, looks_over, top_of}}
 
 -- ---- what is found
 
@@ -36,7 +36,7 @@ first_held f n e h = (victim_theorem f (suc n)).only n (record {
   least = λ k i j m. absurd (none_held f n e k (omega (arith, i, m)) j);
 })
 
-one_more_lem : (n : ℕ) → n < 64 → one_more_lem n ≡ n + 1
+one_more_lem : (n : ℕ) → n < 64 → one_more n ≡ n + 1
 one_more_lem n h = rw (lt-ltb n 64 h)
 
 -- the victim and the count with one line more
@@ -58,7 +58,7 @@ module _ (f : Copies) (n : ℕ) where
   same_held e = rw e (omega arith)
 
 module _ (f : Copies) (n : ℕ) (h : n < 64) (k : Look) (s : Seen f n k) where
-  counted : one_more_lem k.copies ≡ held_below f n + 1
+  counted : one_more k.copies ≡ held_below f n + 1
   counted = let m = count_most f n in rw s.copies (one_more_lem (held_below f n) (omega (arith, m)))
 
   -- a line that is not held
@@ -74,7 +74,7 @@ module _ (f : Copies) (n : ℕ) (h : n < 64) (k : Look) (s : Seen f n k) where
       go (inr a) = inr (a.0 ∙ ap f v, ap (λ l. is_held (f l)) (sym v) ∙ a.1)
 
   -- a line that is held, after which w is the victim
-  meets : (w : ℕ) → is_held (f n) ≡ true → w ≡ victim_below f (suc n) → is_held (f w) ≡ true → Seen f (suc n) (found (one_more_lem k.copies) w (f w))
+  meets : (w : ℕ) → is_held (f n) ≡ true → w ≡ victim_below f (suc n) → is_held (f w) ≡ true → Seen f (suc n) (found (one_more k.copies) w (f w))
   meets w e v i = record {
     copies = counted ∙ sym (more_held f n e);
     line = v;
@@ -87,12 +87,12 @@ module _ (f : Copies) (n : ℕ) (h : n < 64) (k : Look) (s : Seen f n k) where
     where
       -- by whether the line found so far ranks after this one
       by : (t : Bool) → below (rank f n) (rank f (victim_below f n)) ≡ t → is_held (f (victim_below f n)) ≡ true
-          → Seen f (suc n) (pick t (found (one_more_lem k.copies) n (f n)) (found (one_more_lem k.copies) (victim_below f n) (f (victim_below f n))))
+          → Seen f (suc n) (pick t (found (one_more k.copies) n (f n)) (found (one_more k.copies) (victim_below f n) (f (victim_below f n))))
       by true q i = meets n e (replaced f n (rw (e, i, q))) e
       by false q i = meets (victim_below f n) e (kept f n (rw (e, i, q))) i
 
       go : ((k.copy ≡ NoCopy) × (held_below f n ≡ 0)) ⊎ ((k.copy ≡ f (victim_below f n)) × (is_held (f (victim_below f n)) ≡ true))
-          → Seen f (suc n) (pick (pick (is_held k.copy) (below (rank_of (f n) n) (rank_of k.copy k.line)) true) (found (one_more_lem k.copies) n (f n)) (found (one_more_lem k.copies) k.line k.copy))
+          → Seen f (suc n) (pick (pick (is_held k.copy) (below (rank_of (f n) n) (rank_of k.copy k.line)) true) (found (one_more k.copies) n (f n)) (found (one_more k.copies) k.line k.copy))
       go (inl a) = rw a.0 (meets n e (first_held f n a.1 e) e)
       go (inr a) = rw (a.0, s.line, a.1) (by (below (rank f n) (rank f (victim_below f n))) refl a.1)
 

@@ -8,7 +8,7 @@ use protocol::{Copy, Opening, Stamp};
 
 // What was found so far: how many copies are held, and the one of them whose rank is the least, with its
 // line; no copy and line 0 where none is held.
-#[derive(Drop)]
+#[derive(Clone, Copy)]
 pub struct Look {
     pub copies: usize,
     pub line: usize,

@@ -7,6 +7,7 @@
 //
 // Beside it: the core and the line that a call is about, going through a core's copies, and where the bytes
 // of a commit lie.
+#![tactic(auto)]
 mod about;
 mod copies;
 
@@ -19,7 +20,7 @@ pub use copies::{Look, is_held};
 use protocol::{Answer, Call, Copy, Core, Effect, Kind, ManagerLine, Opening};
 
 // A part of the private buffer: `count` bytes from `start`.
-#[derive(Drop)]
+#[derive(Clone, Copy)]
 pub struct Span {
     pub start: usize,
     pub count: usize,

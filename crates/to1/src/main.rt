@@ -3,6 +3,7 @@
 //
 // A read that fails is no end: nothing is converted then. That a read or a write failed, and why, is one line on
 // standard error.
+#![tactic(auto)]
 use convert::Converted;
 use libc::{STDERR_FILENO, STDOUT_FILENO};
 use runner::Input;

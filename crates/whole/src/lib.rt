@@ -2,6 +2,7 @@
 //
 // The driver plays a journal a buffer of text at a time; here its calls are put together, on buffers of their own. What the listing and
 // the tally of a journal are, and what the calls come to, is in `playing`.
+#![tactic(auto)]
 ghost use Rattle.std.specs.Prelude.{◌≤◌, length};
 ghost use mathlib.Core.{Path.◌≡◌, Bool.true};
 ghost use Rattle.protocol.specs.{Limits.opening_fits, Buffers.{private_length, shared_length}};
@@ -15,7 +16,7 @@ use protocol::{Counts, Opening};
 use spelling::Put;
 
 // What ends a journal's listing, and at which line.
-#[derive(Drop)]
+#[derive(Clone, Copy)]
 pub struct Checked {
     // 0 at the journal's end, or the scope's number of a refusal: 7, 10 to 14.
     pub number: u32,

@@ -4,7 +4,7 @@ use Prim.Native.Nat.{ℕ, ◌≤◌, ◌<◌}
 use mathlib.Core.{Path.◌≡◌, Bool.true, Logic.{inl, inr}, List.List}
 use native.Mathlib.{Omega.arith, Decide.ℕ_discrete}
 use lib.ListN.{length}
-use Rattle.protocol.specs.{Buffers.{Bytes, There, given_fits}, Machine.{Machine, core_at_lem, copy_at, applied}, Step.{Op, load, store, fence}, Run.Commit}
+use Rattle.protocol.specs.{Buffers.{Bytes, There, given_fits}, Machine.{Machine, core_at, copy_at, applied}, Step.{Op, load, store, fence}, Run.Commit}
 use Rattle.protocol.specs.Order.{Stores}
 use Rattle.protocol.specs.declared.{Stamp.Stamp, Clocks.Clocks, Copy.{Copy, TheVariants.{None as NoCopy, Shared as CopyShared, Owned as CopyOwned}}}
 use Rattle.protocol.specs.declared.{Slot.{Slot, TheVariants.{Empty, Asked, Answered}}, Opening.Opening, Effect.Effect, Held.TheVariants.Version}
@@ -50,7 +50,7 @@ Beside l v x = SpeaksOf l v → Allowed v x
 
 -- the commits within a core's clocks
 abbrev pub Within : List (Commit Bytes) → Machine → ℕ → Type 0
-Within H m c = All (λ a. a.core ≡ c → Passed a.op a.ts.0 (core_at_lem m.state c).clocks) H
+Within H m c = All (λ a. a.core ≡ c → Passed a.op a.ts.0 (core_at m.state c).clocks) H
 
 -- what holds of line l: of its newest version, of what is at a spot, and of all spots
 abbrev pub VersionOf : Value → ℕ → List (Commit Bytes) → Newest LineCell Value → Type 0
@@ -66,7 +66,7 @@ LineInv z l = LineAgrees z (Writes l) (On l)
 pub record Inv (z : Value) (H : List (Commit Bytes)) (m : Machine) : Type 0 where
   pub arrays : Arrays m.state
   pub clocks : (c : ℕ) → Within H m c
-  pub pairs : (c l : ℕ) → l < m.state.opening.lines → Beside l (core_at_lem m.state c).slot (copy_at m.state c l)
+  pub pairs : (c l : ℕ) → l < m.state.opening.lines → Beside l (core_at m.state c).slot (copy_at m.state c l)
   pub lines : (l : ℕ) → l < m.state.opening.lines → (g : Newest LineCell Value) × LineInv z l H (look m l) g
 
 -- clocks that do not go back hold the commits so far
@@ -88,22 +88,22 @@ module _ {z : Value} {H : List (Commit Bytes)} {m : Machine} (I : Inv z H m) (f 
   abbrev m' : Machine
   m' = applied m c l given d
 
-  pub clocks_applied : Onward (core_at_lem m.state c).clocks d.core.clocks → (c' : ℕ) → Within H m' c'
+  pub clocks_applied : Onward (core_at m.state c).clocks d.core.clocks → (c' : ℕ) → Within H m' c'
   unfolding applied
   clocks_applied a c' = go (ℕ_discrete c' c)
     where
       go : Dec (c' ≡ c) → Within H m' c'
       go (yes e) =
           rw (e, core_at_lem I.arrays q d)
-          (all_map (λ x k i. clock_up x.op x.ts.0 (core_at_lem m.state c).clocks d.core.clocks a (k i)) (I.clocks c))
+          (all_map (λ x k i. clock_up x.op x.ts.0 (core_at m.state c).clocks d.core.clocks a (k i)) (I.clocks c))
       go (no n) = rw (core_off I.arrays q d c' n) (I.clocks c')
 
   pairs_applied : SlotStep m c l d → Beside l d.core.slot d.copy → (c' l' : ℕ) → l' < o.lines
-      → Beside l' (core_at_lem m'.state c').slot (copy_at m'.state c' l')
+      → Beside l' (core_at m'.state c').slot (copy_at m'.state c' l')
   unfolding applied
   pairs_applied st pr c' l' h = go (ℕ_discrete c' c) (ℕ_discrete l' l) st
     where
-      go : Dec (c' ≡ c) → Dec (l' ≡ l) → SlotStep m c l d → Beside l' (core_at_lem m'.state c').slot (copy_at m'.state c' l')
+      go : Dec (c' ≡ c) → Dec (l' ≡ l) → SlotStep m c l d → Beside l' (core_at m'.state c').slot (copy_at m'.state c' l')
       go (yes e) (yes i) t = rw (e, i, core_at_lem I.arrays q d, copy_at_lem I.arrays q d) pr
       go (yes e) (no n) (inl t) =
           rw (e, core_at_lem I.arrays q d, copy_off I.arrays q d c l' h (λ _ i. n i), t.0) (I.pairs c l' h)

@@ -16,6 +16,7 @@ all_map f none = none
 all_map f (more p h) = more (f _ p) (all_map f h)
 
 pub all_at : {T : Type 0} {P : T → Type 0} {a : T} {H : List T} → All P H → In a H → P a
+all_at none m = elim m [ ]
 all_at (more p h) (here q) = rw q p
 all_at (more p h) (there m) = all_at h m
 

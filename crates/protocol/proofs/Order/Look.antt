@@ -4,7 +4,7 @@ use mathlib.Core.{Path.{◌≡◌, refl, ◌∙◌, ap, ap₂}, Logic.{◌⊎◌
 use native.Mathlib.Decide.{ℕ_discrete}
 use lib.ListN.{length}
 use Rattle.protocol.specs.Buffers.{Bytes, There, copy_bytes, manager_bytes, writeback_bytes, answer_bytes, given_fits, moved_shared}
-use Rattle.protocol.specs.Machine.{Machine, core_at_lem, copy_at, line_at, applied}
+use Rattle.protocol.specs.Machine.{Machine, core_at, copy_at, line_at, applied}
 use Rattle.protocol.specs.declared.{Stamp.Stamp, Copy.{Copy, TheVariants.{None as NoCopy, Shared as CopyShared, Owned as CopyOwned}}}
 use Rattle.protocol.specs.declared.Grant.{Grant, TheVariants.{Share as GrantShare, Renew as GrantRenew, Own as GrantOwn}}
 use Rattle.protocol.specs.declared.{Slot.{Slot, TheVariants.{Empty, Asked, Answered}}, Core.Core, Manager.{Manager, TheVariants.{Shared, Owned}}}
@@ -78,7 +78,7 @@ unfoldable pub look : Machine → ℕ → Spot → Content LineCell Value
 look m l at_manager = view_manager (line_at m.state l).manager (manager_bytes m.state.opening m.shared l)
 look m l at_writeback = view_writeback (line_at m.state l).writeback (writeback_bytes m.state.opening m.shared l)
 look m l (at_copy c) = view_copy c (copy_at m.state c l) (copy_bytes m.state.opening m.private c l)
-look m l (at_slot c) = view_slot l (core_at_lem m.state c).slot (answer_bytes m.state.opening m.shared c)
+look m l (at_slot c) = view_slot l (core_at m.state c).slot (answer_bytes m.state.opening m.shared c)
 
 -- the slot speaks of line l
 abbrev pub SpeaksOf : ℕ → Slot → Type 0
@@ -101,7 +101,7 @@ view_none l (Answered g i w r) b n = go (ℕ_discrete i l)
 -- the core's slot stays, or speaks of no other line than l after the step
 abbrev pub SlotStep : Machine → ℕ → ℕ → Effect → Type 0
 SlotStep m c l d =
-    ((d.core.slot ≡ (core_at_lem m.state c).slot) × AnswerStays d.moves)
+    ((d.core.slot ≡ (core_at m.state c).slot) × AnswerStays d.moves)
     ⊎ ((l' : ℕ) → SpeaksOf l' d.core.slot → l' ≡ l)
 
 module _ {m : Machine} (ar : Arrays m.state) (f : Fit m) {c l : ℕ} (q : There m.state.opening c l) (given : Bytes) (d : Effect)

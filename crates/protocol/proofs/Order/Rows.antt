@@ -4,7 +4,7 @@ use mathlib.Core.{Path.{◌≡◌, refl, sym, ap}, Bool.{Bool, true, false}}
 use native.Mathlib.Omega.{arith}
 use borrow.Author.Tests.{eqb-true}
 use Rattle.protocol.specs.{Stamps.stamp, Machine.Pieces}
-use Rattle.protocol.specs.Tables.{load_owned, load_shared, store_table, evict_table, same_version_lem, leased_to, serve_load, receive_grant, yield_table}
+use Rattle.protocol.specs.Tables.{load_owned, load_shared, store_table, evict_table, same_version, leased_to, serve_load, receive_grant, yield_table}
 use Rattle.protocol.specs.declared.{Name.Name, Stamp.Stamp, Copy.{Copy, TheVariants.{None as NoCopy, Shared as CopyShared, Owned as CopyOwned}}}
 use Rattle.protocol.specs.declared.{Held.{Held, TheVariants.{None as NothingHeld, Version}}, Slot.{Slot, TheVariants.{Empty, Asked, Answered}}}
 use Rattle.protocol.specs.declared.{Manager.{Manager, TheVariants.{Shared, Owned}}, Writeback.{Writeback, TheVariants.{None as NoWriteback, Flight}}}
@@ -100,7 +100,7 @@ module _ (c l : ℕ) (w r : Stamp) (p : Pieces) where
 -- ---- serve
 
 -- a renewal is of the version that the core holds
-pub same_version_lem : (h : Held) (w : Stamp) → same_version_lem h w ≡ true → h ≡ Version w
+pub same_version_lem : (h : Held) (w : Stamp) → same_version h w ≡ true → h ≡ Version w
 same_version_lem NothingHeld w e = never (sym e)
 same_version_lem (Version v) w e = let q : v.0 ≡ w.0 = omega (arith, eqb-true) in ap (λ (n : ℕ). Version (stamp n)) q
 

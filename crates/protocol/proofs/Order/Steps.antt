@@ -5,7 +5,7 @@ use native.Mathlib.Omega.{arith}
 use lib.{Dec.eqb, ListN.length}
 use borrow.Author.Tests.{eq-eqb}
 use Rattle.protocol.specs.{Given.bytes_given, Stamps.later, Clock.store_time, Buffers.{Bytes, There, copy_bytes, manager_bytes, writeback_bytes, answer_bytes}}
-use Rattle.protocol.specs.{Machine.{Machine, Pieces, pieces_at, core_at_lem, copy_at, line_at, applied}, Copies.is_owned}
+use Rattle.protocol.specs.{Machine.{Machine, Pieces, pieces_at, core_at, copy_at, line_at, applied}, Copies.is_owned}
 use Rattle.protocol.specs.{Step.{Op, load, store, fence, Reply, refused, done, commit, meaning, Outcome, accepted, step}, Run.{place, Commit}}
 use Rattle.protocol.specs.Order.{TsoKeeps, Loads, Stores}
 use Rattle.protocol.specs.Tables.{row, slotted, held_of, load_owned, earliest, store_table, fence_table, advance_table, evict_table, leased_to, serve_load, serve_asked}
@@ -23,7 +23,7 @@ use Rattle.protocol.proofs.Cases.{Row, asks_load, reads_shared, reads_dirty, rea
 use Rattle.protocol.proofs.Cases.{evicts_owned, recalls, renews, shares, grants, gets_share, gets_own, gets_renewal, drops_none, drops_owned, yields}
 use Rattle.protocol.proofs.Cases.{takes, names_victim, Case, refuses, makes, case_of}
 use Rattle.protocol.proofs.Order.Log.{more, all_map, Touches, Reading, Extends}
-use Rattle.protocol.proofs.Order.Versions.{Spot, at_manager, at_writeback, at_copy_lem, at_slot_lem, kind, HeldBy, Elsewhere, not_here, mine, newest, Newest}
+use Rattle.protocol.proofs.Order.Versions.{Spot, at_manager, at_writeback, at_copy, at_slot, kind, HeldBy, Elsewhere, not_here, mine, newest, Newest}
 use Rattle.protocol.proofs.Order.Versions.{version, IsAt, here, carry, goes_to, quiet, write_version, write_marks, write_past, Written, marks_stay}
 use Rattle.protocol.proofs.Order.Versions.{MarksAgree, lease_of, lease_renewed, reads_snapshot, reads_newest, reads_mine}
 use Rattle.protocol.proofs.Order.Look.{LineCell, Value, cells, marks, look, view_copy, view_manager, view_writeback, granted, view_at, view_none, SpeaksOf}
@@ -90,7 +90,7 @@ module _ (z : Value) (p : ℕ) {H : List (Commit Bytes)} (given : Bytes) {m : Ma
   o = m.state.opening
 
   abbrev k : Core
-  k = core_at_lem m.state c
+  k = core_at m.state c
 
   abbrev ps : Pieces
   ps = pieces_at m.state c l
@@ -123,13 +123,13 @@ module _ (z : Value) (p : ℕ) {H : List (Commit Bytes)} (given : Bytes) {m : Ma
   at : (S : Spot) → SpotOf z l H g S (look m l S)
   at S = (I.lines l q.line).1.spots S
 
-  at_copy_lem : (v : Copy) → copy_at m.state c l ≡ v → SpotOf z l H g (at_copy_lem c) (view_copy c v bytes)
+  at_copy_lem : (v : Copy) → copy_at m.state c l ≡ v → SpotOf z l H g (at_copy c) (view_copy c v bytes)
   unfolding look
-  at_copy_lem v e = rw e at (at (at_copy_lem c))
+  at_copy_lem v e = rw e at (at (at_copy c))
 
-  at_slot_lem : (y : Grant) (w r : Stamp) → k.slot ≡ Answered y l w r → SpotOf z l H g (at_slot_lem c) (granted y w r (answer_bytes o m.shared c))
+  at_slot_lem : (y : Grant) (w r : Stamp) → k.slot ≡ Answered y l w r → SpotOf z l H g (at_slot c) (granted y w r (answer_bytes o m.shared c))
   unfolding look
-  at_slot_lem y w r e = rw (e, view_at l y w r (answer_bytes o m.shared c)) at (at (at_slot_lem c))
+  at_slot_lem y w r e = rw (e, view_at l y w r (answer_bytes o m.shared c)) at (at (at_slot c))
 
   at_manager_lem : (v : Manager) → (line_at m.state l).manager ≡ v → SpotOf z l H g at_manager (view_manager v line)
   unfolding look
@@ -165,7 +165,7 @@ module _ (z : Value) (p : ℕ) {H : List (Commit Bytes)} (given : Bytes) {m : Ma
         (λ l' g' n k. quiet z (Writes l') (On l') (commit_by p c t x) (λ i. nw l' n) (λ i. absurd (nt l' n i)) k)
         this
       where
-        own : (c' : ℕ) → c ≡ c' → Passed x t.0 (core_at_lem (next d).state c').clocks
+        own : (c' : ℕ) → c ≡ c' → Passed x t.0 (core_at (next d).state c').clocks
         own c' i = rw (← i, core_at_lem I.arrays q d) ck
 
   -- ---- the line after a row
@@ -223,10 +223,10 @@ module _ (z : Value) (p : ℕ) {H : List (Commit Bytes)} (given : Bytes) {m : Ma
           rw (a, b) (s tt)
 
   -- the marks of an owner's copy stay while its lease alone grows
-  same_marks : (b : Bool) {w r : Stamp} (r' : ℕ) → SpotOf z l H g (at_copy_lem c) (newest (marks c b) w.0 r.0 (cells bytes))
-      → MarksAgree z (Writes l) (On l) H (version (at_copy_lem c) w.0 r' g.leased (cells bytes)) (cells bytes) (marks c b)
+  same_marks : (b : Bool) {w r : Stamp} (r' : ℕ) → SpotOf z l H g (at_copy c) (newest (marks c b) w.0 r.0 (cells bytes))
+      → MarksAgree z (Writes l) (On l) H (version (at_copy c) w.0 r' g.leased (cells bytes)) (cells bytes) (marks c b)
   same_marks b r' v =
-      marks_stay z (Writes l) (On l) H g (version (at_copy_lem c) _ r' g.leased (cells bytes)) (cells bytes) (marks c b) refl (sym v.0.is_w) v.1
+      marks_stay z (Writes l) (On l) H g (version (at_copy c) _ r' g.leased (cells bytes)) (cells bytes) (marks c b) refl (sym v.0.is_w) v.1
 
   -- ---- stores
 
@@ -255,7 +255,7 @@ module _ (z : Value) (p : ℕ) {H : List (Commit Bytes)} (given : Bytes) {m : Ma
       let u = (at_slot_lem GrantOwn w r e).0 in
       rw i
       (keeps fit (inr (λ l' n. absurd n)) (λ n. absurd n) (omega arith)
-      (goes fit u (λ n. n refl) (at_copy_lem c) r.0 g.leased (omega arith) (omega arith) (omega (arith, ok.lr, u.is_r))
+      (goes fit u (λ n. n refl) (at_copy c) r.0 g.leased (omega arith) (omega arith) (omega (arith, ok.lr, u.is_r))
       (λ ok' stay. (stay at_manager refl, stay at_writeback refl, (here, λ j. tt), tt))))
 
   -- ---- writebacks
@@ -264,13 +264,13 @@ module _ (z : Value) (p : ℕ) {H : List (Commit Bytes)} (given : Bytes) {m : Ma
   writes_back : (a : Answer) (v : Move) (w r r' : Stamp) (b : Bool) (u : Copy) (t : ℕ) → Fitting (row a MoveWriteback k u (written_back (line_at m.state l) w r'))
       → copy_at m.state c l ≡ CopyOwned b w r → v ≡ MoveWriteback → r.0 ≤ r'.0 → g.leased ≤ t → t ≤ r'.0
       → (VersionOf z l H (version at_writeback w.0 r'.0 t (cells bytes))
-      → SpotOf z l H (version at_writeback w.0 r'.0 t (cells bytes)) (at_copy_lem c) (view_copy c u bytes))
+      → SpotOf z l H (version at_writeback w.0 r'.0 t (cells bytes)) (at_copy c) (view_copy c u bytes))
       → Inv z H (next (row a v k u (written_back (line_at m.state l) w r')))
   unfolding look
   writes_back a v w r r' b u t fit e i h₁ h₂ h₃ copy = rw i
       (keeps fit (inl (refl, tt)) (λ s. absurd (owner_silent e s)) (omega arith)
       (goes fit (at_copy_lem (CopyOwned b w r) e).0 (λ n. n refl) at_writeback r'.0 t h₁ h₂ h₃
-      (λ ok' stay. (stay at_manager refl, (here, λ j. tt), copy ok', stay (at_slot_lem c) refl))))
+      (λ ok' stay. (stay at_manager refl, (here, λ j. tt), copy ok', stay (at_slot c) refl))))
 
   -- ---- the rows
 
@@ -278,25 +278,25 @@ module _ (z : Value) (p : ℕ) {H : List (Commit Bytes)} (given : Bytes) {m : Ma
   unfolding accepted meaning look load_owned store_table fence_table advance_table evict_table serve_asked serve_load receive_grant receive_renew yield_table take_table victim_table
   row_good (asks_load e i) fit =
       keeps fit (inr (λ l' n. sym n)) (λ _. ask_beside WantLoad l k.clocks.lts (copy_at m.state c l) i) (omega arith)
-      (as_was fit (at at_manager, at at_writeback, at (at_copy_lem c), tt))
+      (as_was fit (at at_manager, at at_writeback, at (at_copy c), tt))
   row_good (asks_store e i) fit =
       keeps fit (inr (λ l' n. sym n)) (λ _. ask_beside WantStore l k.clocks.lts (copy_at m.state c l) i) (omega arith)
-      (as_was fit (at at_manager, at at_writeback, at (at_copy_lem c), tt))
+      (as_was fit (at at_manager, at at_writeback, at (at_copy c), tt))
   row_good (reads_shared {w = w} {r = r} e h) fit =
       let lease = at_copy_lem (CopyShared w r) e in
       let t = shared_within c l w r ps lease.wr h in
       loads fit (later k.clocks.lts w) (omega arith)
       (reads_snapshot z (Writes l) (On l) (later k.clocks.lts w).0 (shared_version c l w r ps) t lease)
       (inl (refl, tt)) pair (omega arith) (omega arith) (omega (arith, t, lease.top, ok.lr))
-      (as_was fit (at at_manager, at at_writeback, at (at_copy_lem c), at (at_slot_lem c)))
+      (as_was fit (at at_manager, at at_writeback, at (at_copy c), at (at_slot c)))
   row_good (reads_dirty {w = w} {r = r} e) fit =
       let t = k.clocks.lts in
       let v = at_copy_lem (CopyOwned true w r) e in
       let h = lease_grows c l w r ps true in
       loads fit t (read_after c l w r ps true) (λ i. reads_mine z (Writes l) (On l) c t.0 (v.1 i).0)
       (inl (refl, tt)) (λ s. absurd (owner_silent e s)) (omega arith) (read_clocked c l w r ps true) (read_within c l w r ps true)
-      (goes fit v.0 (λ n. n refl) (at_copy_lem c) (later r t).0 g.leased h (omega arith) (omega (arith, ok.lr, v.0.is_r, h))
-      (λ ok' stay. (stay at_manager refl, stay at_writeback refl, (here, same_marks true (later r t).0 v), stay (at_slot_lem c) refl)))
+      (goes fit v.0 (λ n. n refl) (at_copy c) (later r t).0 g.leased h (omega arith) (omega (arith, ok.lr, v.0.is_r, h))
+      (λ ok' stay. (stay at_manager refl, stay at_writeback refl, (here, same_marks true (later r t).0 v), stay (at_slot c) refl)))
   row_good (reads_clean {w = w} {r = r} e) fit =
       let t = later k.clocks.lts w in
       let v = at_copy_lem (CopyOwned false w r) e in
@@ -304,8 +304,8 @@ module _ (z : Value) (p : ℕ) {H : List (Commit Bytes)} (given : Bytes) {m : Ma
       loads fit t (read_after c l w r ps false)
       (λ i. rw (v.0.is_x i) at (reads_newest z (Writes l) (On l) {H = H} {g = g} c t.0 (omega (arith, v.0.is_w, read_version c l w r ps)) ok i))
       (inl (refl, tt)) (λ s. absurd (owner_silent e s)) (omega arith) (read_clocked c l w r ps false) (read_within c l w r ps false)
-      (goes fit v.0 (λ n. n refl) (at_copy_lem c) (later r t).0 g.leased h (omega arith) (omega (arith, ok.lr, v.0.is_r, h))
-      (λ ok' stay. (stay at_manager refl, stay at_writeback refl, (here, same_marks false (later r t).0 v), stay (at_slot_lem c) refl)))
+      (goes fit v.0 (λ n. n refl) (at_copy c) (later r t).0 g.leased h (omega arith) (omega (arith, ok.lr, v.0.is_r, h))
+      (λ ok' stay. (stay at_manager refl, stay at_writeback refl, (here, same_marks false (later r t).0 v), stay (at_slot c) refl)))
   row_good (writes {d = b} {w = w} {r = r} e h) fit = (
     record {
       in_order = all_map (λ a i j y. kept_all a.op a.ts.0 t.0 k.clocks (store_after_loads c l w r ps b) (store_after_stores c l w r ps b) (i j)) (I.clocks c);
@@ -329,7 +329,7 @@ module _ (z : Value) (p : ℕ) {H : List (Commit Bytes)} (given : Bytes) {m : Ma
       x : Commit Bytes
       x = commit_by p c t (store l given)
 
-      v : IsAt g (at_copy_lem c) w.0 r.0 (cells bytes)
+      v : IsAt g (at_copy c) w.0 r.0 (cells bytes)
       v = (at_copy_lem (CopyOwned b w r) e).0
 
       h₁ : g.leased < t.0
@@ -342,8 +342,8 @@ module _ (z : Value) (p : ℕ) {H : List (Commit Bytes)} (given : Bytes) {m : Ma
       all : (i : LineCell) → Written z (Writes l) (On l) H g x i given (mine c)
       all i = inl (refl, refl)
 
-      stay : (Y : Spot) → (at_copy_lem c ≡ Y → ⊥) → (HeldBy Y (λ b. b ≡ c) → ⊥)
-          → SpotOf z l (x ∷ H) (version (at_copy_lem c) t.0 t.0 g.leased (cells given)) Y (look m l Y)
+      stay : (Y : Spot) → (at_copy c ≡ Y → ⊥) → (HeldBy Y (λ b. b ≡ c) → ⊥)
+          → SpotOf z l (x ∷ H) (version (at_copy c) t.0 t.0 g.leased (cells given)) Y (look m l Y)
       stay Y n i =
           write_past z (Writes l) (On l) ok x (cells given) (marks c true) all h₁ h₂ Y (look m l Y) (λ e. n (sym v.is_spot ∙ e)) i (at Y)
   row_good fences fit = (
@@ -354,7 +354,7 @@ module _ (z : Value) (p : ℕ) {H : List (Commit Bytes)} (given : Bytes) {m : Ma
     },
     commits_keeps fit (inl (refl, tt)) pair (omega arith) t fence (omega arith) (λ l' n x e. still l' x e) (λ l' n i. i)
         (quiet z (Writes l) (On l) (commit_by p c t fence) (λ i x e. still l x e) (λ i. absurd i)
-        (as_was fit (at at_manager, at at_writeback, at (at_copy_lem c), at (at_slot_lem c)))),
+        (as_was fit (at at_manager, at at_writeback, at (at_copy c), at (at_slot c)))),
   )
     where
       t : Stamp
@@ -363,14 +363,14 @@ module _ (z : Value) (p : ℕ) {H : List (Commit Bytes)} (given : Bytes) {m : Ma
       still : (l' : ℕ) (x : Bytes) → fence ≡ store l' x → ⊥
       still l' x e = let n : ◌≡◌ {A = ℕ} 0 1 = cc in omega arith
   row_good (advances h) fit =
-      keeps fit (inl (refl, tt)) pair (omega arith) (as_was fit (at at_manager, at at_writeback, at (at_copy_lem c), at (at_slot_lem c)))
+      keeps fit (inl (refl, tt)) pair (omega arith) (as_was fit (at at_manager, at at_writeback, at (at_copy c), at (at_slot c)))
   row_good (evicts_shared i e) fit =
-      keeps fit (inl (refl, tt)) (λ _. tt) (omega arith) (as_was fit (at at_manager, at at_writeback, tt, at (at_slot_lem c)))
+      keeps fit (inl (refl, tt)) (λ _. tt) (omega arith) (as_was fit (at at_manager, at at_writeback, tt, at (at_slot c)))
   row_good (evicts_owned {n = n} {d = b} {w = w} {r = r} i e) fit =
       writes_back (Done n) (evict_table n (CopyOwned b w r) ps).moves w r r b NoCopy g.leased fit e (evict_moves w r b ps n) (evict_lease w r b ps n)
       (omega arith) (omega (arith, ok.lr, (at_copy_lem (CopyOwned b w r) e).0.is_r)) (λ _. tt)
   row_good (recalls e i) fit =
-      keeps fit (inl (refl, tt)) pair (omega arith) (as_was fit (at at_manager, at at_writeback, at (at_copy_lem c), at (at_slot_lem c)))
+      keeps fit (inl (refl, tt)) pair (omega arith) (as_was fit (at at_manager, at at_writeback, at (at_copy c), at (at_slot c)))
   row_good (renews {t = t} {h = y} {w = w} {r = r} e i v h) fit =
       let r' = leased_to r t o.lease in
       let n = manager_grows l w r t o.lease ps true in
@@ -380,7 +380,7 @@ module _ (z : Value) (p : ℕ) {H : List (Commit Bytes)} (given : Bytes) {m : Ma
       (λ ok' stay. (
         (here, λ j. tt),
         stay at_writeback refl,
-        stay (at_copy_lem c) refl,
+        stay (at_copy c) refl,
         rw (view_at l GrantRenew w r' (answer_bytes o m.shared c)) (cells line, lease_of z (Writes l) (On l) c (grant_within l w r' ps true) ok'),
       )))
   row_good (shares {t = t} {h = y} {w = w} {r = r} e i v h) fit =
@@ -392,14 +392,14 @@ module _ (z : Value) (p : ℕ) {H : List (Commit Bytes)} (given : Bytes) {m : Ma
       (λ ok' stay. (
         (here, λ j. tt),
         stay at_writeback refl,
-        stay (at_copy_lem c) refl,
+        stay (at_copy c) refl,
         rw (view_at l GrantShare w r' line) (lease_of z (Writes l) (On l) c (grant_within l w r' ps false) ok'),
       )))
   row_good (grants {t = t} {h = y} {w = w} {r = r} e i) fit =
       let u = (at_manager_lem (Shared w r) i).0 in
       keeps fit (inr (λ l' n. sym n)) (λ _. own_beside WantStore l t y w r (copy_at m.state c l) (asked e)) (omega arith)
-      (goes fit u (λ n. n) (at_slot_lem c) r.0 g.leased (omega arith) (omega arith) (omega (arith, ok.lr, u.is_r))
-      (λ ok' stay. (tt, stay at_writeback refl, stay (at_copy_lem c) refl, rw (view_at l GrantOwn w r line) (here, λ j. tt))))
+      (goes fit u (λ n. n) (at_slot c) r.0 g.leased (omega arith) (omega arith) (omega (arith, ok.lr, u.is_r))
+      (λ ok' stay. (tt, stay at_writeback refl, stay (at_copy c) refl, rw (view_at l GrantOwn w r line) (here, λ j. tt))))
   row_good (gets_share {w = w} {r = r} e) fit =
       keeps fit (inr (λ l' n. absurd n)) (λ n. absurd n) (omega arith) (as_was fit (at at_manager, at at_writeback, at_slot_lem GrantShare w r e, tt))
   row_good (gets_own {w = w} {r = r} e) fit = gets_line (receive_grant GrantOwn w r ps).copy e (own_clean w r ps) fit
@@ -414,17 +414,17 @@ module _ (z : Value) (p : ℕ) {H : List (Commit Bytes)} (given : Bytes) {m : Ma
         tt,
       ))
   row_good (drops_none e i) fit =
-      keeps fit (inr (λ l' n. absurd n)) (λ n. absurd n) (omega arith) (as_was fit (at at_manager, at at_writeback, at (at_copy_lem c), tt))
+      keeps fit (inr (λ l' n. absurd n)) (λ n. absurd n) (omega arith) (as_was fit (at at_manager, at at_writeback, at (at_copy c), tt))
   row_good (drops_owned e i) fit =
-      keeps fit (inr (λ l' n. absurd n)) (λ n. absurd n) (omega arith) (as_was fit (at at_manager, at at_writeback, at (at_copy_lem c), tt))
+      keeps fit (inr (λ l' n. absurd n)) (λ n. absurd n) (omega arith) (as_was fit (at at_manager, at at_writeback, at (at_copy c), tt))
   row_good (yields {d = b} {w = w} {r = r} e i h) fit = go (line_at m.state l).recall
     where
-      v : IsAt g (at_copy_lem c) w.0 r.0 (cells bytes)
+      v : IsAt g (at_copy c) w.0 r.0 (cells bytes)
       v = (at_copy_lem (CopyOwned b w r) e).0
 
       yields_to : (u : Copy) (t : ℕ) → g.leased ≤ t → t ≤ r.0
           → (VersionOf z l H (version at_writeback w.0 r.0 t (cells bytes))
-          → SpotOf z l H (version at_writeback w.0 r.0 t (cells bytes)) (at_copy_lem c) (view_copy c u bytes))
+          → SpotOf z l H (version at_writeback w.0 r.0 t (cells bytes)) (at_copy c) (view_copy c u bytes))
           → Inv z H (next (row (Done Yielded) MoveWriteback k u (written_back (line_at m.state l) w r)))
       yields_to u t h₁ h₂ copy =
           writes_back (Done Yielded) (yield_table (CopyOwned b w r) ps).moves w r r b u t (record { slot = fit.slot; owner = fit.owner; bytes = fit.bytes }) e (yield_moves w r b ps) (yield_lease w r b ps) h₁ h₂ copy
@@ -437,9 +437,9 @@ module _ (z : Value) (p : ℕ) {H : List (Commit Bytes)} (given : Bytes) {m : Ma
       let u = (at_writeback_lem (Flight w r) e).0 in
       keeps fit (inl (refl, tt)) pair (omega arith)
       (goes fit u (λ n. n) at_manager r.0 g.leased (omega arith) (omega arith) (omega (arith, ok.lr, u.is_r))
-      (λ ok' stay. ((here, λ j. tt), tt, stay (at_copy_lem c) refl, stay (at_slot_lem c) refl)))
+      (λ ok' stay. ((here, λ j. tt), tt, stay (at_copy c) refl, stay (at_slot c) refl)))
   row_good names_victim fit =
-      keeps fit (inl (refl, tt)) pair (omega arith) (as_was fit (at at_manager, at at_writeback, at (at_copy_lem c), at (at_slot_lem c)))
+      keeps fit (inl (refl, tt)) pair (omega arith) (as_was fit (at at_manager, at at_writeback, at (at_copy c), at (at_slot c)))
 
 pub step_good : (z : Value) (p : ℕ) {H : List (Commit Bytes)} {m : Machine} → Inv z H m → (call : Call) (given : Bytes)
     → Good z p H (step m call given).reply (step m call given).machine

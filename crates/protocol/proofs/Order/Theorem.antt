@@ -104,6 +104,7 @@ data Apart {A : Type 0} : List (Commit A) → Type 0 where
   one_more : {e : Commit A} {H : List (Commit A)} → All (λ a. Earlier a e) H → Apart H → Apart (e ∷ H)
 
 apart_same : {A : Type 0} {H : List (Commit A)} → Apart H → (a b : Commit A) → In a H → In b H → a.place.0 ≡ b.place.0 → a ≡ b
+apart_same no_commits a b i j e = elim i [ ]
 apart_same (one_more o d) a b (here p) (here q) e = p ∙ sym q
 apart_same (one_more o d) a b (here p) (there j) e = absurd (omega (arith, all_at o j, ap (λ x. x.place.0) p))
 apart_same (one_more o d) a b (there i) (here q) e = absurd (omega (arith, all_at o i, ap (λ x. x.place.0) q))

@@ -35,6 +35,8 @@ Elsewhere c S = HeldBy S (λ b. b ≡ c → ⊥)
 pub not_here : (c : ℕ) (S : Spot) → Elsewhere c S → HeldBy S (λ b. b ≡ c) → ⊥
 not_here c (at_copy b) n e = n e
 not_here c (at_slot b) n e = n e
+not_here c at_manager n e = elim n [ ]
+not_here c at_writeback n e = elim n [ ]
 
 -- whether a cell of the newest version was last written by the core that holds it, which may then read it ahead of its time
 pub data Mark : Type 0 where
@@ -111,8 +113,12 @@ module _ {A C X : Type 0} (z : X) (Wr : C → Commit A → X → Type 0) (Tch : 
   content_map H H' g g' S nothing f n k = tt
   content_map H H' g g' (at_copy c) (snapshot w r x) f n k = f c refl w r x k
   content_map H H' g g' (at_slot c) (snapshot w r x) f n k = f c refl w r x k
+  content_map H H' g g' at_manager (snapshot w r x) f n k = elim k [ ]
+  content_map H H' g g' at_writeback (snapshot w r x) f n k = elim k [ ]
   content_map H H' g g' (at_copy c) (renewal w r) f n k = (k.0, f c refl w r k.0 k.1)
   content_map H H' g g' (at_slot c) (renewal w r) f n k = (k.0, f c refl w r k.0 k.1)
+  content_map H H' g g' at_manager (renewal w r) f n k = elim k [ ]
+  content_map H H' g g' at_writeback (renewal w r) f n k = elim k [ ]
   content_map H H' g g' S (newest m w r x) f n k = n m w r x k.0 k.1
 
   -- what is not the newest version agrees as before once more is leased

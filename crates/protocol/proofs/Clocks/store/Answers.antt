@@ -1,0 +1,6 @@
+-- The clocks after a store, by what `later` gives.
+use borrow.Author.Rules.{rules}
+use Rattle.protocol.proofs.Clocks.store.Goals as goal
+
+pub returns : goal.returns
+returns c = rw (c.later-self.ensures, c.later-last.ensures)

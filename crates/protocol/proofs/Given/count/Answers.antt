@@ -1,0 +1,6 @@
+-- By how the bytes are given.
+use borrow.Author.Rules.{rules}
+use Rattle.protocol.proofs.Given.count.Goals as goal
+
+pub returns-in-Digits : goal.returns-in-Digits
+returns-in-Digits c = rw c.in-Digits.is
