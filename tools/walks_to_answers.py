@@ -52,6 +52,7 @@ class Function:
             self.new_place[old] = new
         self.places = {norm(p): p for p in self.parent}
         self.left = []
+        self.aliases = set()
 
     def chain(self, place):
         while place is not None:
@@ -63,12 +64,19 @@ class Function:
             old, new, fields = self.step[p]
             if old and norm(old) == norm(word):
                 return new, fields
-        # a step that has lost or got a number
+        # a step that has lost its number
+        bare = re.sub(r"\d+$", "", word)
+        found = [p for p in self.chain(place) if re.sub(r"\d+$", "", norm(self.step[p][0] or "")) == norm(bare)]
+        if len(found) == 1:
+            return self.step[found[0]][1], self.step[found[0]][2]
         return None, {}
 
     def term(self, text, place, helpers, goal, names=("c",)):
         """A term over the record c of a place, with the steps' names of today and no way up by `before`."""
         names = set(names)
+        # helpers that only go up to a place
+        for a in self.aliases:
+            text = re.sub(rf"\({re.escape(a)} \(?[\w'-]+(?:\.before)*\)?\)", "c", text)
         # names of places
         for m in re.finditer(r"let ([\w'-]+) = ([\w'-]+)((?:\.before)*) in", text):
             if m[2] in names and m[1] not in names:
@@ -220,7 +228,11 @@ def convert(entry, path, crate, rel):
             if sub:
                 ps = "|".join(sorted(map(re.escape, sub), key=len, reverse=True))
                 b = re.sub(rf"(?<![\w.'₀-])({ps})(?![\w'₀-])", lambda x: sub[x[1]], b)
-            invs.append(comments + [f"abbrev pub {kind}-{new} : goal.{kind}-{new}"] + unf + [f"{kind}-{new} l ={b}"])
+            live = "l"
+            if re.search(r"λ [^.]*(?<![\w'])l(?![\w'])", eq):
+                live = "live"
+                b = re.sub(r"(?<![\w.'-])l\.(initial\.)?(" + "|".join(map(re.escape, sorted(set(lvars), key=len, reverse=True))) + r")(?![\w'])", r"live.\1\2", b)
+            invs.append(comments + [f"abbrev pub {kind}-{new} : goal.{kind}-{new}"] + unf + [f"{kind}-{new} {live} ={b}"])
             continue
         if name.endswith("spec") and "statement" in type_:
             final = (unf, "\n".join(eqs))
@@ -228,6 +240,10 @@ def convert(entry, path, crate, rel):
         mm = re.match(r"\s*tie\.Need-(\S+)(.*)$", type_, re.S)
         if mm:
             key = norm(mm[1])
+            if key not in by_need:
+                like = [k for k in by_need if re.sub(r"(overflow-|-\d+$)", "", k) == re.sub(r"(overflow-|-\d+$)", "", key)]
+                if len(like) == 1:
+                    key = like[0]
             if key not in by_need:
                 f.left.append(f"no goal {mm[1]} for {name}")
                 answers.append(comments + [f"-- LEFT {name} : {mm[1]}"] + ["-- " + l for l in unf + eqs])
@@ -253,12 +269,18 @@ def convert(entry, path, crate, rel):
                 answers.append(comments + ["-- LEFT"] + body)
                 continue
             place = f.places[norm(ms[0][1])]
+            if re.search(r"→ tie\.", type_) and re.search(rf"{re.escape(name)} [\w'-]+ = [\w'-]+(\.before)*$", "\n".join(eqs)):
+                f.aliases.add(name)
+                continue
             helpers[name] = place
             new = f.new_place[place]
             places_used.add(new)
             t = re.sub(r"\((\w+) : tie\.([\w'-]+)[^()]*\)", f"(c : {new})", type_)
             mt = re.match(r"(.*?\(c : [^()]*\))(.*)$", t, re.S)
             t = mt[1] + f.term(mt[2], place, {k: v for k, v in helpers.items() if k != name}, None, (ms[0][0],))
+            for x in re.findall(r"tie\.([\w'-]+)", t):
+                places_used.add(f.new_place.get(f.places.get(norm(x), ""), ""))
+            places_used.discard("")
             t = re.sub(r"tie\.([\w'-]+)[^()→]*", lambda x: f.new_place.get(f.places.get(norm(x[1]), ""), x[0]), t)
             eq = "\n".join(eqs)
             e = re.match(rf"{re.escape(name)}(.*?) =(.*)$", eq, re.S)
@@ -288,7 +310,7 @@ def convert(entry, path, crate, rel):
             spots = assign(args, order, answered, f)
             for a, new in spots:
                 if new is None:
-                    if a.startswith("(") and not trivial(a):
+                    if a.startswith("(") and not trivial(a) and not re.search(r"\. (refl|[\w.]*\.given)\)$", a):
                         f.left.append(f"an answer with no goal: {a[:100]}")
                         answers.append(["-- LEFT " + a.replace("\n", " ")])
                     continue
@@ -342,24 +364,46 @@ def trivial(a):
     return bool(lam) and lam[1].strip() in TRIVIAL
 
 
+def fits(arg, goal):
+    """How well an argument of a walk fits a goal, by its form alone."""
+    requires = bool(re.search(r"requires(-|$)", goal))
+    lam = re.match(r"\(λ ([^.]*)\. (.*)\)$", arg, re.S)
+    if lam:
+        if (" κs" in " " + lam[1]) != requires:
+            return None
+        if requires:
+            return 2
+        if lam[2].strip() in TRIVIAL:
+            return 2 if not goal.startswith(("returns", "loop-")) else 1
+        if lam[2].strip() == "refl" or lam[2].strip().endswith(".given"):
+            return 2 if goal.startswith("shape_of") else 0.2
+        return 3 if goal.startswith(("returns", "loop-")) else 0.5
+    return 1 if goal.startswith(("returns", "loop-")) else 0.3
+
+
 def assign(args, order, answered, f):
-    """Each argument of the walk with today's goal: by place where there are as many, and else between those that have a name."""
+    """Each argument of the walk with today's goal: by place where there are as many, and else by the best match that keeps the order."""
     if len(args) == len(order):
         return list(zip(args, order))
-    out, i = [None] * len(args), 0
-    marks = [(k, order.index(answered[a])) for k, a in enumerate(args) if a in answered and answered[a] in order]
-    bounds = [(-1, -1)] + marks + [(len(args), len(order))]
-    for (a0, g0), (a1, g1) in zip(bounds, bounds[1:]):
-        n, m = a1 - a0 - 1, g1 - g0 - 1
-        if n == m:
-            for k in range(n):
-                out[a0 + 1 + k] = order[g0 + 1 + k]
+    n, m = len(args), len(order)
+    best = [[0.0] * (m + 1) for _ in range(n + 1)]
+    for i in range(n - 1, -1, -1):
+        for j in range(m - 1, -1, -1):
+            a = args[i]
+            w = (100 if answered.get(a) == order[j] else None) if a in answered else fits(a, order[j])
+            best[i][j] = max(best[i + 1][j], best[i][j + 1], -1 if w is None else best[i + 1][j + 1] + w)
+    out, i, j = [None] * n, 0, 0
+    while i < n and j < m:
+        a = args[i]
+        w = (100 if answered.get(a) == order[j] else None) if a in answered else fits(a, order[j])
+        if w is not None and best[i][j] == best[i + 1][j + 1] + w:
+            out[i] = order[j]
+            i, j = i + 1, j + 1
+        elif best[i][j] == best[i + 1][j]:
+            i += 1
         else:
-            # those at the ends may still be told by what they are
-            pass
-    for k, g in marks:
-        out[k] = order[g]
-    return [(a, o) for a, o in zip(args, out)]
+            j += 1
+    return list(zip(args, out))
 
 
 def main(argv):

@@ -1,0 +1,6 @@
+-- `listing::digit_count` meets its contract. Assumes nothing.
+use borrow.Author.Rules.{rules}
+use Rattle.listing.proofs.digit_count.Goals as goal
+
+pub returns-in-Bytes : goal.returns-in-Bytes
+returns-in-Bytes c = rw c.in-Bytes.is

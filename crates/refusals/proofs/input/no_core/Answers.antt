@@ -1,0 +1,6 @@
+-- By whom the call is about.
+use borrow.Author.Rules.{rules}
+use Rattle.refusals.proofs.input.no_core.Goals as goal
+
+pub returns-in-Named : goal.returns-in-Named
+returns-in-Named c = rw c.in-Named.is

@@ -1,0 +1,12 @@
+-- The cores passed fit, so all of them fit if those that are left do.
+use Prim.Native.Nat.{◌≤◌, ◌-◌}
+use borrow.Author.Rules.{rules}
+use lib.ListN.{length}
+use Rattle.protocol.{specs.{Fresh.fresh_core, Refusals.{slot_fits, slots_fit}, declared.Core.Core}, proofs.Scan.{Scanned, scan_on, scan_fails, scan_ends}}
+use Rattle.refusals.proofs.input.slots_fit.Given as goal
+
+abbrev pub invariant-loop-i : goal.invariant-loop-i
+invariant-loop-i l = (l.i ≤ l.cores) × (l.cores ≤ length l.core) × Scanned (λ (k : Core). slot_fits l.opening.lines k.slot) l.core l.cores l.i
+
+abbrev pub decreases-loop-i : goal.decreases-loop-i
+decreases-loop-i l = l.cores - l.i
