@@ -86,6 +86,8 @@ class Function:
         def helped(m):
             h = m[1]
             target = self.new_place[helpers[h]]
+            if helpers[h] == place:
+                return f"{h} c"
             return f"{h} (goal.at.{goal} c).{target}" if goal else f"{h} {self.up(place, helpers[h])}"
 
         if helpers:
@@ -100,6 +102,11 @@ class Function:
             if new is None:
                 self.left.append(f"{goal or place}: {m[0]}")
                 return m[0]
+            # an arm of a match on numbers
+            if re.match(r"in-\d+$", new) and re.search(r"\d$", field or ""):
+                field = "is"
+            elif new == "in_default" and field == "rest":
+                return "c.in_default.in_default-own.rest"
             if field:
                 field = fields.get(field, field)
             return f"c.{new}" + (f".{field}" if field else "")
@@ -154,7 +161,7 @@ def items(text):
 def imports(head, crate, function):
     kept = []
     for l in head:
-        l = l.replace("borrow.Author.{Needs.needs, ", "borrow.Author.{Rules.rules, ").replace("borrow.Author.Needs.{needs}", "borrow.Author.Rules.{rules}")
+        l = l.replace("borrow.Author.{Needs.needs, ", "borrow.Author.{Rules.rules, ").replace(", Needs.needs}", ", Rules.rules}").replace("borrow.Author.Needs.{needs}", "borrow.Author.Rules.{rules}")
         if not l.startswith("use "):
             continue
         if re.search(r"\.Tie as tie", l):

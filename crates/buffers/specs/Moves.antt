@@ -2,7 +2,6 @@
 use Rattle.std.specs.Prelude.{ℕ}
 use mathlib.Core.{Path.◌≡◌, Bool.{Bool, true, false}}
 use lib.{Dec.ltb, ListN.length}
-use Rattle.std.specs.Borrow.{Bor}
 use Rattle.protocol.specs.{Pick.{pick, both}, Limits.opening_fits, Buffers.{Bytes, given_fits, moved_private, moved_shared}, Given.bytes_as}
 use Rattle.protocol.specs.declared.{Opening.Opening, Given.Given, Move.{Move, TheVariants.{Still, Store, Answer, Receive, Writeback, Take}}}
 use Rattle.refusals.specs.Input.{lengths_fit}
@@ -31,5 +30,5 @@ pub record Moves (v : Move) (o : Opening) (c l : ℕ) (given p q p' q' : Bytes) 
   pub shared : q' ≡ pick (move_fits v o (length p) (length q) c l (length given)) (moved_shared v o c l p q) q
 
 -- the same of lent buffers, as they come and as they are left; what is given is read as bytes or as digits
-abbrev pub Moved : Move → Given → Opening → ℕ → ℕ → Bor Bytes → Bor Bytes → Bor Bytes → Bor Bytes → Bor Bytes → Type 0
-Moved v g o c l given p q p' q' = Moves v o c l (bytes_as g given.now) p.now q.now p'.now q'.now
+abbrev pub Moved : Move → Given → Opening → ℕ → ℕ → Bytes → Bytes → Bytes → Bytes → Bytes → Type 0
+Moved v g o c l given p q p' q' = Moves v o c l (bytes_as g given) p q p' q'

@@ -147,7 +147,7 @@ pub fn move_bytes(
     line: usize,
     given: &[u8],
 )
-    ensures { Moved moves read opening core line given.entry «private».entry shared.entry «private».exit shared.exit }
+    ensures { Moved moves read opening core line given.now «private».old shared.old «private».new shared.new }
 {
     if is_still(moves) {
         return;

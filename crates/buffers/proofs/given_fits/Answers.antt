@@ -1,0 +1,6 @@
+-- By the move.
+use borrow.Author.Rules.{rules}
+use Rattle.buffers.proofs.given_fits.Goals as goal
+
+pub returns-in-Store : goal.returns-in-Store
+returns-in-Store c = rw c.in-Store.is
