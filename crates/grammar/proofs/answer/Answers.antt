@@ -27,7 +27,7 @@ pub returns-then-row-lt-STEPS : goal.returns-then-row-lt-STEPS
 returns-then-row-lt-STEPS c = rw c.if-fault-ne0.false (rw c.call_of.ensures)
 
 pub overflow_cast-form : goal.overflow_cast-form
-overflow_cast-form c = let l = listed c in omega arith
+overflow_cast-form c = let l : c.args.f.row < row_count = c.requires c.if-fault-ne0.false in omega arith
 
 pub overflow_add-form : goal.overflow_add-form
-overflow_add-form c = let l = listed c in omega arith
+overflow_add-form c = let l : c.args.f.row < row_count = c.requires c.if-fault-ne0.false in omega arith

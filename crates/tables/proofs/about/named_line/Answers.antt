@@ -1,0 +1,6 @@
+-- The line, where it is found.
+use borrow.Author.Rules.{rules}
+use Rattle.tables.proofs.about.named_line.Goals as goal
+
+pub returns : goal.returns
+returns c = rw (← c.named.ensures) c.found.ensures
