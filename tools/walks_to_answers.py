@@ -75,7 +75,7 @@ class Function:
         """A term over the record c of a place, with the steps' names of today and no way up by `before`."""
         names = set(names)
         # helpers that only go up to a place
-        for a in self.aliases:
+        for a in sorted(self.aliases) * 2:
             text = re.sub(rf"\({re.escape(a)} \(?[\w'-]+(?:\.before)*\)?\)", "c", text)
         # names of places
         for m in re.finditer(r"let ([\w'-]+) = ([\w'-]+)((?:\.before)*) in", text):
@@ -270,6 +270,9 @@ def convert(entry, path, crate, rel):
             answers.append(comments + [f"pub {new} : goal.{new}"] + unf + [f"{new}{params} ={b}"])
             continue
         if "tie." in type_:
+            if re.match(r"\s*tie\.[^→]*→ tie\.[^→]*$", type_):
+                f.aliases.add(name)
+                continue
             ms = re.findall(r"\((\w+) : tie\.([\w'-]+)[^()]*\)", type_)
             if len(ms) != 1 or norm(ms[0][1]) not in f.places:
                 f.left.append(f"{name}: {type_.strip()[:80]}")
