@@ -75,8 +75,15 @@ class Function:
         """A term over the record c of a place, with the steps' names of today and no way up by `before`."""
         names = set(names)
         # helpers that only go up to a place
-        for a in sorted(self.aliases) * 2:
-            text = re.sub(rf"\({re.escape(a)} \(?[\w'-]+(?:\.before)*\)?\)", "c", text)
+        if self.aliases:
+            al = "|".join(sorted(map(re.escape, self.aliases), key=len, reverse=True))
+            place_ = r"[\w'-]+(?:\.before)*"
+            while True:
+                new = re.sub(rf"\((?:{al}) (?:\({place_}\)|{place_})\)", "c", text)
+                new = re.sub(rf"let ([\w'-]+) = (?:{al}) (?:\({place_}\)|{place_}) in", r"let \1 = c in", new)
+                if new == text:
+                    break
+                text = new
         # names of places
         for m in re.finditer(r"let ([\w'-]+) = ([\w'-]+)((?:\.before)*) in", text):
             if m[2] in names and m[1] not in names:
@@ -359,12 +366,12 @@ def convert(entry, path, crate, rel):
     folder = os.path.dirname(path)
     if invs:
         with open(os.path.join(folder, "Invariants.antt"), "w", encoding="utf-8") as out:
-            out.write("\n".join(about[:1] + uses + [f"use {goal_path}.Given as goal", ""]) + "\n" + "\n\n".join("\n".join(i) for i in invs) + "\n")
+            out.write("\n".join(about + uses + [f"use {goal_path}.Given as goal", ""]) + "\n" + "\n\n".join("\n".join(i) for i in invs) + "\n")
     if answers:
         more = [f"use {goal_path}.Invariants.{{{', '.join(n for n, _d in shared)}}}"] if shared else []
         more += [f"use {goal_path}.Goals.{{{', '.join(sorted(places_used))}}}"] if places_used else []
         with open(os.path.join(folder, "Answers.antt"), "w", encoding="utf-8") as out:
-            out.write("\n".join(about[:1] + uses + [f"use {goal_path}.Goals as goal"] + more + [""]) + "\n" + "\n\n".join("\n".join(a) for a in answers) + "\n")
+            out.write("\n".join(about + uses + [f"use {goal_path}.Goals as goal"] + more + [""]) + "\n" + "\n\n".join("\n".join(a) for a in answers) + "\n")
     os.remove(path)
     return f.left
 

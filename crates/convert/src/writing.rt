@@ -151,7 +151,7 @@ pub(crate) fn change_of(to: To, call: Call, owns: bool) -> Change
 
 // A kind, and what is behind it.
 fn put_kind(text: &mut [u8; MOST], used: usize, kind: &[u8], rest: &[u8]) -> usize
-    ensures { Appends text.old used (kind.now ++ (λ x. x.now) rest.entry) text.new result }
+    ensures { Appends text.old used (kind.now ++ rest.now) text.new result }
 {
     let end = put(text, used, kind);
     put(text, end, rest)

@@ -2,7 +2,6 @@
 use Rattle.std.specs.Prelude.{ℕ, ◌+◌, ◌-◌, ◌≤◌, ◌<◌}
 use mathlib.Core.{Path.◌≡◌, Bool.{Bool, true, false}}
 use Rattle.std.specs.Prelude.{length}
-use Rattle.std.specs.Borrow.{Bor}
 use Rattle.protocol.specs.{Pick.pick, Buffers.{Bytes, part, copy_start}, About.about, Given.{given_as, bytes_given}}
 use Rattle.protocol.specs.{Refusals.{given_refusal, call_refusal, or_else}, Run.place, Step.{meaning, act_bytes}}
 use Rattle.protocol.specs.declared.{Opening.Opening as Sizes, State.State, Call.Call}
@@ -65,8 +64,8 @@ abbrev pub answer_line : ℕ → Act → Answer → Bytes → Sizes → Bytes �
 answer_line n t a given o p c l = record_as (given_as t) (place n) (meaning a (act_bytes t given (beside a o p c l)))
 
 -- that line put at an offset of a lent output
-abbrev pub PutsAnswer : Bor Bytes → ℕ → ℕ → Act → Answer → Bor Bytes → Sizes → Bor Bytes → ℕ → ℕ → Bor Bytes → Put → Type 0
-PutsAnswer out at n t a given o p c l out' r = PutAt out.now at (answer_line n t a given.now o p.now c l) out'.now r
+abbrev pub PutsAnswer : Bytes → ℕ → ℕ → Act → Answer → Bytes → Sizes → Bytes → ℕ → ℕ → Bytes → Put → Type 0
+PutsAnswer out at n t a given o p c l out' r = PutAt out at (answer_line n t a given o p c l) out' r
 
 -- those beside lie in a buffer of n bytes
 abbrev pub BesideInside : Answer → Sizes → ℕ → ℕ → ℕ → Type 0

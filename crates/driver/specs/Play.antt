@@ -3,7 +3,6 @@
 use Rattle.std.specs.Prelude.{ℕ, ◌+◌, ◌-◌, ◌≤◌, ◌<◌}
 use mathlib.Core.{Path.◌≡◌, Bool.{Bool, true, false}, List.{List, [], ◌∷◌, ◌++◌}}
 use lib.{Dec.{leb, eqb}, ListN.{length, take, drop}}
-use Rattle.std.specs.Borrow.{Bor}
 use Rattle.protocol.specs.{Pick.{both, every, fails as untrue}, Fresh.{fresh_state, smallest}, Buffers.Bytes, Machine.machine, Refusals.open_refusal}
 use Rattle.protocol.specs.{Step.{open_reply, step}, Run.{Entry, Run, place, run}, Counts.{nothing_met, sum, tally}, declared.Opening.Opening as Sizes}
 use Rattle.protocol.specs.declared.{Call.Call, Counts.Counts}
@@ -85,8 +84,8 @@ pub record Plays (journal : Bytes) (from : Checkpoint) (p q old p' q' new : Byte
   pub tells : Tells journal from p q r.checkpoint p' q' (take r.written new) (length new - r.written) r.progress
 
 -- the same of a lent journal, lent buffers and a lent output, as they come and as they are left
-abbrev pub PlaysIn : Bor Bytes → Checkpoint → Bor Bytes → Bor Bytes → Bor Bytes → Bor Bytes → Bor Bytes → Bor Bytes → Played → Type 0
-PlaysIn j from p q old p' q' new r = Plays j.now from p.now q.now old.now p'.now q'.now new.now r
+abbrev pub PlaysIn : Bytes → Checkpoint → Bytes → Bytes → Bytes → Bytes → Bytes → Bytes → Played → Type 0
+PlaysIn j from p q old p' q' new r = Plays j from p q old p' q' new r
 
 -- ---- start
 

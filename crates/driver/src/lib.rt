@@ -142,7 +142,7 @@ pub fn play(
     shared: &mut [u8],
     out: &mut [u8],
 ) -> Played
-    ensures { PlaysIn journal.entry from «private».entry shared.entry out.entry «private».exit shared.exit out.exit result }
+    ensures { PlaysIn journal.now from «private».old shared.old out.old «private».new shared.new out.new result }
 {
     let form = from.form;
     let mut at = from.at;

@@ -141,7 +141,7 @@ pub(crate) fn put_answer(
     l: usize,
 ) -> Put
     requires { BesideInside answer opening c l (length «private».now) }
-    ensures { PutsAnswer out.entry at place act answer given.entry opening «private».entry c l out.exit result }
+    ensures { PutsAnswer out.old at place act answer given.now opening «private».now c l out.new result }
 {
     if is_store(act) {
         return listing::put_record(out, at, Place(place), answer, act.given(), given);

@@ -18,8 +18,8 @@ pub record Performs (m : Machine) (call : Call) (given : Bytes) (r : Returned) (
       ≡ span_of r.answer (copy_start m.state.opening (core_of call m.state) (line_of call m.state)) m.state.opening.width
 
 -- what each call promises: the same of the lent buffers, as they come and as they are left
-abbrev pub Makes : Call → Bytes → State → Bor Bytes → Bor Bytes → Returned → Bor Bytes → Bor Bytes → Type 0
-Makes call given s p q r p' q' = Performs (machine s p.now q.now) call given r p'.now q'.now
+abbrev pub Makes : Call → Bytes → State → Bytes → Bytes → Returned → Bytes → Bytes → Type 0
+Makes call given s p q r p' q' = Performs (machine s p q) call given r p' q'
 
 -- open: the answer in the scope document's terms, and the fresh state
 pub record Opens (o : Opening) (r : Opened) : Type 0 where

@@ -1,6 +1,5 @@
 -- What one call makes of its pieces and of the buffers.
 use Rattle.std.specs.Prelude.{ℕ, ◌≡◌}
-use Rattle.std.specs.Borrow.{Bor}
 use Rattle.protocol.specs.{Pick.pick, Buffers.{Bytes, copy_start}, Given.bytes_as, Machine.Pieces}
 use Rattle.protocol.specs.declared.{Opening.Opening, Call.Call, Given.Given, Effect.Effect}
 use Rattle.buffers.specs.Moves.{is_there, Moves}
@@ -19,5 +18,5 @@ pub record MadeBy (d : Effect) (o : Opening) (c l : ℕ) (given p q : Bytes) (r 
 
 -- the same of a call's effect on the pieces x, where n is the first of 13 and 1 to 6 that applies, or 0, and of lent buffers; what is given is
 -- read as bytes or as digits
-abbrev pub OnPieces : ℕ → Call → Given → Opening → Pieces → ℕ → ℕ → Bor Bytes → Bor Bytes → Bor Bytes → NewPieces → Bor Bytes → Bor Bytes → Type 0
-OnPieces n call g o x c l given p q r p' q' = MadeBy (effect_with n call x o) o c l (bytes_as g given.now) p.now q.now r p'.now q'.now
+abbrev pub OnPieces : ℕ → Call → Given → Opening → Pieces → ℕ → ℕ → Bytes → Bytes → Bytes → NewPieces → Bytes → Bytes → Type 0
+OnPieces n call g o x c l given p q r p' q' = MadeBy (effect_with n call x o) o c l (bytes_as g given) p q r p' q'

@@ -54,7 +54,7 @@ fn on_pieces(
     l: usize,
     given: &[u8],
 ) -> NewPieces
-    ensures { OnPieces n call read opening (pieces l k copy m copies) c l given.entry «private».entry shared.entry result «private».exit shared.exit }
+    ensures { OnPieces n call read opening (pieces l k copy m copies) c l given.now «private».old shared.old result «private».new shared.new }
 {
     let d = tables::effect(n, call, l, k, copy, m, copies, opening);
     let answer = d.answer;
@@ -78,7 +78,7 @@ fn on_pieces(
 // Makes a call; `given` is what is given to a store, its bytes or their digits, as the call says. Any other
 // call passes over it. A refused call takes the same way: its pieces are written back as they are.
 pub fn step(s: State, private: &mut [u8], shared: &mut [u8], call: Call, given: &[u8]) -> Returned
-    ensures { Makes call given.now s «private».entry shared.entry result «private».exit shared.exit }
+    ensures { Makes call given.now s «private».old shared.old result «private».new shared.new }
 {
     let opening = s.opening;
     let cores = s.core;
@@ -148,7 +148,7 @@ pub fn step(s: State, private: &mut [u8], shared: &mut [u8], call: Call, given: 
 
 // A core loads a line.
 pub fn load(s: State, private: &mut [u8], shared: &mut [u8], core: usize, line: usize) -> Returned
-    ensures { Makes (Call.Load core line) [] s «private».entry shared.entry result «private».exit shared.exit }
+    ensures { Makes (Call.Load core line) [] s «private».old shared.old result «private».new shared.new }
 {
     step(s, private, shared, Call::Load { core, line }, b"")
 }
@@ -162,7 +162,7 @@ pub fn store(
     line: usize,
     bytes: &[u8],
 ) -> Returned
-    ensures { Makes (Call.Store Given.Bytes core line) bytes.now s «private».entry shared.entry result «private».exit shared.exit }
+    ensures { Makes (Call.Store Given.Bytes core line) bytes.now s «private».old shared.old result «private».new shared.new }
 {
     let given = Given::Bytes;
     step(s, private, shared, Call::Store { given, core, line }, bytes)
@@ -178,7 +178,7 @@ pub fn store_digits(
     line: usize,
     digits: &[u8],
 ) -> Returned
-    ensures { Makes (Call.Store Given.Digits core line) digits.now s «private».entry shared.entry result «private».exit shared.exit }
+    ensures { Makes (Call.Store Given.Digits core line) digits.now s «private».old shared.old result «private».new shared.new }
 {
     let given = Given::Digits;
     step(
@@ -192,21 +192,21 @@ pub fn store_digits(
 
 // A core's later loads come after its earlier stores.
 pub fn fence(s: State, private: &mut [u8], shared: &mut [u8], core: usize) -> Returned
-    ensures { Makes (Call.Fence core) [] s «private».entry shared.entry result «private».exit shared.exit }
+    ensures { Makes (Call.Fence core) [] s «private».old shared.old result «private».new shared.new }
 {
     step(s, private, shared, Call::Fence { core }, b"")
 }
 
 // A core gives its copy of a line up.
 pub fn evict(s: State, private: &mut [u8], shared: &mut [u8], core: usize, line: usize) -> Returned
-    ensures { Makes (Call.Evict core line) [] s «private».entry shared.entry result «private».exit shared.exit }
+    ensures { Makes (Call.Evict core line) [] s «private».old shared.old result «private».new shared.new }
 {
     step(s, private, shared, Call::Evict { core, line }, b"")
 }
 
 // A core gives its shared copy of a line up.
 pub fn drop(s: State, private: &mut [u8], shared: &mut [u8], core: usize, line: usize) -> Returned
-    ensures { Makes (Call.Drop core line) [] s «private».entry shared.entry result «private».exit shared.exit }
+    ensures { Makes (Call.Drop core line) [] s «private».old shared.old result «private».new shared.new }
 {
     step(s, private, shared, Call::Drop { core, line }, b"")
 }
@@ -219,7 +219,7 @@ pub fn writeback(
     core: usize,
     line: usize,
 ) -> Returned
-    ensures { Makes (Call.Writeback core line) [] s «private».entry shared.entry result «private».exit shared.exit }
+    ensures { Makes (Call.Writeback core line) [] s «private».old shared.old result «private».new shared.new }
 {
     step(s, private, shared, Call::Writeback { core, line }, b"")
 }
@@ -227,42 +227,42 @@ pub fn writeback(
 // The line that a core would give up: the held one with the smallest rts, of those the smallest number.
 // Nothing changes.
 pub fn victim(s: State, private: &mut [u8], shared: &mut [u8], core: usize) -> Returned
-    ensures { Makes (Call.Victim core) [] s «private».entry shared.entry result «private».exit shared.exit }
+    ensures { Makes (Call.Victim core) [] s «private».old shared.old result «private».new shared.new }
 {
     step(s, private, shared, Call::Victim { core }, b"")
 }
 
 // A core's clock of loads grows.
 pub fn advance(s: State, private: &mut [u8], shared: &mut [u8], core: usize, by: u32) -> Returned
-    ensures { Makes (Call.Advance core by) [] s «private».entry shared.entry result «private».exit shared.exit }
+    ensures { Makes (Call.Advance core by) [] s «private».old shared.old result «private».new shared.new }
 {
     step(s, private, shared, Call::Advance { core, by }, b"")
 }
 
 // The manager serves the request of a core.
 pub fn serve(s: State, private: &mut [u8], shared: &mut [u8], core: usize) -> Returned
-    ensures { Makes (Call.Serve core) [] s «private».entry shared.entry result «private».exit shared.exit }
+    ensures { Makes (Call.Serve core) [] s «private».old shared.old result «private».new shared.new }
 {
     step(s, private, shared, Call::Serve { core }, b"")
 }
 
 // A core receives the answer to its request.
 pub fn receive(s: State, private: &mut [u8], shared: &mut [u8], core: usize) -> Returned
-    ensures { Makes (Call.Receive core) [] s «private».entry shared.entry result «private».exit shared.exit }
+    ensures { Makes (Call.Receive core) [] s «private».old shared.old result «private».new shared.new }
 {
     step(s, private, shared, Call::Receive { core }, b"")
 }
 
 // The owner of a recalled line yields it; `yield` alone is a reserved word.
 pub fn yield_line(s: State, private: &mut [u8], shared: &mut [u8], line: usize) -> Returned
-    ensures { Makes (Call.Yield line) [] s «private».entry shared.entry result «private».exit shared.exit }
+    ensures { Makes (Call.Yield line) [] s «private».old shared.old result «private».new shared.new }
 {
     step(s, private, shared, Call::Yield { line }, b"")
 }
 
 // The manager takes a line's writeback.
 pub fn take(s: State, private: &mut [u8], shared: &mut [u8], line: usize) -> Returned
-    ensures { Makes (Call.Take line) [] s «private».entry shared.entry result «private».exit shared.exit }
+    ensures { Makes (Call.Take line) [] s «private».old shared.old result «private».new shared.new }
 {
     step(s, private, shared, Call::Take { line }, b"")
 }

@@ -1,0 +1,15 @@
+-- `driver::few` meets its contract: the counts passed are small, so all of them are if those that are left are. Assumes nothing.
+use Prim.Native.Nat.{ℕ, ◌≤◌, ◌<◌, ◌-◌}
+use mathlib.Core.{Path.{◌≡◌, refl}, Bool.{true, false, not}}
+use native.Mathlib.Omega.{arith}
+use lib.{Dec.{leb, lit≤}, ListN.length}
+use borrow.Author.{Rules.rules, Tests.{le-leb, lt-leb}}
+use Rattle.protocol.proofs.Scan.{Scanned, scan_on, scan_fails, scan_ends}
+use Rattle.driver.specs.Play.{each}
+use Rattle.driver.proofs.few.Given as goal
+
+abbrev pub invariant-loop-i : goal.invariant-loop-i
+invariant-loop-i l = (l.i ≤ 10) × (10 ≤ length l.all) × Scanned (λ x. leb x l.most) l.all 10 l.i
+
+abbrev pub decreases-loop-i : goal.decreases-loop-i
+decreases-loop-i l = 10 - l.i

@@ -1,0 +1,6 @@
+-- `driver::one_line::unopened` meets its contract: the first checkpoint of the smallest opening. Assumes nothing.
+use borrow.Author.Rules.{rules}
+use Rattle.driver.proofs.one_line.unopened.Goals as goal
+
+pub returns : goal.returns
+returns c = rw (c.first.ensures, c.smallest.ensures)
