@@ -29,6 +29,11 @@ LEMMAS = {
     "crates/protocol/proofs/Digits.antt": ["is_digit"],
     "crates/tables/proofs/Looking.antt": ["one_more"],
 }
+# Names that stand beside another one of their line, or that an import gives.
+MORE = (
+    "inShared inPrivate opensPieces failsPieces atLast wholeLine ofReading ofMalformed failsListing isStep isEnd capTold capGot saysOpening "
+    "opensListing isAccepted atEndOf"
+).split()
 PAGES = ["README.md", "docs/ARCHITECTURE.md", "docs/DECISIONS.md", "docs/MODEL.md", "tests/theorems.txt", "examples/README.md"]
 
 
@@ -82,6 +87,8 @@ def table(root):
         m = turned(n)
         if m != n:
             t[n] = m
+    t.update((n, turned(n)) for n in MORE)
+    t["isStep"] = "is_step_here"
     # A lemma that would have a definition's name ends in _lem.
     camel = {b for a, b in t.items() if "-" not in a}
     for a, b in t.items():

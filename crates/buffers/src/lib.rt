@@ -3,6 +3,7 @@
 // The public functions take any values at all: where a place or a length does not fit, a start is 0 and
 // a move leaves both buffers as they were.
 #![tactic(auto)]
+
 mod lines;
 
 ghost use Rattle.std.specs.Prelude.{◌≡◌};

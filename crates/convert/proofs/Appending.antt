@@ -4,7 +4,7 @@ use mathlib.Core.{Path.{◌≡◌, refl, sym, ◌∙◌, ap, subst}, Bool.{Bool,
 use native.Mathlib.Omega.{arith}
 use lib.{Dec.leb, ListN.{length, take, drop, length-append, length-drop, drop_of_length-le}, Seq.take_all}
 use borrow.Author.Tests.{le-leb, lt-leb, leb-true, leb-false}
-use Rattle.protocol.specs.{Pick.pick, Buffers.Bytes, declared.Opening.Opening as Sizes}
+use Rattle.protocol.specs.{Buffers.Bytes, declared.Opening.Opening as Sizes}
 use Rattle.spelling.{specs.{Text.text, Decimal.decimal, Over.{PutAt, PutBefore}, declared.Put.{Put, TheVariants.{End, Short}}}, proofs.OverLaws.{before_end, before_from}}
 use Rattle.driver.proofs.Putting.{put_written, put_short}
 use Rattle.grammar.specs.Form.{lay, spellings}

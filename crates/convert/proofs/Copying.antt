@@ -7,7 +7,7 @@ use borrow.Author.Tests.{ltb-false, leb-true, leb-false, lt-ltb, le-ltb, eqb-tru
 use Rattle.protocol.specs.{Pick.{pick, fails, first}, Limits.opening_fits, Buffers.Bytes, Run.Entry, declared.Opening.Opening as Sizes}
 use Rattle.protocol.proofs.Refusals.{passed}
 use Rattle.spelling.specs.{Over.{has_room, over, PutAt}, declared.Put.{Put, TheVariants.{End, Short}}}
-use Rattle.convert.specs.Conversion.{form_from, Reads, unlike, result_of, most_bytes, refusal_of, answer_of, buffer_of, Converts, malformed as of_malformed, reads as of_reading}
+use Rattle.convert.specs.Conversion.{form_from, Reads, unlike, result_of, most_bytes, refusal_of, Converts, malformed as of_malformed, reads as of_reading}
 use Rattle.convert.specs.{Writing.{Writes, malformed, reads}, declared.{To.To, Converted.{Converted, TheVariants.{Length, Refused}}}}
 
 -- ---- by the room

@@ -1,16 +1,16 @@
 -- A list of steps with one step more: its run, its lines in the other form, and what 7 and 32 say of it.
 use Prim.Native.Nat.{ℕ, zero, suc, ◌+◌}
-use mathlib.Core.{Path.{◌≡◌, refl, sym, ◌∙◌, ap, subst}, Bool.{Bool, true, false}, List.{List, [], ◌∷◌, ◌++◌, append_assoc, append-nil}}
+use mathlib.Core.{Path.{◌≡◌, refl, sym, ◌∙◌, ap}, Bool.{Bool, true, false}, List.{List, [], ◌∷◌, ◌++◌, append_assoc}}
 use native.Mathlib.Omega.{arith}
 use lib.{Dec.eqb, ListN.{length, take, replicate, length-replicate}}
 use borrow.Author.Tests.{eq-eqb, eqb-true}
-use Rattle.protocol.specs.{Pick.{pick, fails, every, first, ◌gives◌}, Limits.opening_fits, Fresh.{fresh_core, fresh_line}, Buffers.{Bytes, private_length, shared_length}, About.about, Machine.{Machine, fresh_machine}}
-use Rattle.protocol.specs.{Refusals.{machine_refusal, state_fits, owner_fits, slot_fits, owners_fit, slots_fit, buffers_fit}, Step.{Reply, step}, Run.{Entry, Record, place, run}}
+use Rattle.protocol.specs.{Pick.{pick, fails, every, first, ◌gives◌}, Limits.opening_fits, Fresh.{fresh_core, fresh_line}, Buffers.{Bytes, private_length, shared_length}, Machine.{Machine, fresh_machine}}
+use Rattle.protocol.specs.{Refusals.{machine_refusal, state_fits, owner_fits, slot_fits, owners_fit, slots_fit, buffers_fit}, Step.{step}, Run.{Entry, Record, place, run}}
 use Rattle.protocol.{specs.declared.{Core.Core, ManagerLine.ManagerLine, Opening.Opening as Sizes, Call.Call}, proofs.{Tests.never, Refusals.{not-true, passed}}}
 use Rattle.driver.proofs.Running.{run_records, run_last, entry_of}
-use Rattle.convert.specs.{Spelling.{step_line, opening_line, step_lines, journal_of}, Forms.{in_form, converted}}
-use Rattle.convert.specs.Conversion.{some, is_victim, answers, is_unlike, unlike, result_of}
-use Rattle.convert.specs.{Writing.{other_cap, opening_refusal}, declared.To.{To, TheVariants.{First, Second}}}
+use Rattle.convert.specs.{Spelling.{step_line, opening_line, step_lines}, Forms.{in_form, converted}}
+use Rattle.convert.specs.Conversion.{some, is_unlike, unlike, result_of}
+use Rattle.convert.specs.{Writing.{opening_refusal}, declared.To.{To, TheVariants.{First, Second}}}
 
 -- ---- the run
 

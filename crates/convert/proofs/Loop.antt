@@ -3,30 +3,29 @@ use Prim.Native.Nat.{ℕ, ◌+◌, ◌-◌, ◌/◌, ◌≤◌, ◌<◌}
 use mathlib.Core.{Path.{◌≡◌, refl, sym, ◌∙◌, ap, subst}, Bool.{Bool, true, false}, List.{List, [], ◌∷◌, ◌++◌}}
 use native.Mathlib.{Omega.arith, Decide.ℕ_discrete}
 use lib.{Dec.{ltb, leb, eqb}, ListN.{length, take, drop, length-append}}
-use borrow.Author.Tests.{le-leb, lt-leb, lt-ltb, le-ltb, leb-true, leb-false, eqb-true, eq-eqb, ne_eqb}
-use Rattle.protocol.specs.{Pick.{pick, both, fails, first, ◌gives◌}, Limits.{most_cores, most_lines, opening_fits}, Fresh.fresh_state, Buffers.{Bytes, part}}
-use Rattle.protocol.specs.{About.{about, named_line}, Copies.is_owned, Given.{given_as, bytes_given}}
-use Rattle.protocol.specs.Machine.{Machine, core_at, copy_at, line_at, pieces, the_core, the_line, written, applied, fresh_machine}
-use Rattle.protocol.specs.{Refusals.{given_refusal, machine_refusal, call_rules, call_refusal}, Step.{Reply, meaning, Outcome, accepted, step}, Run.{Entry, Record, run}}
-use Rattle.protocol.specs.declared.{Opening.Opening as Sizes, State.State, Copy.Copy, About.About, Effect.Effect}
+use borrow.Author.Tests.{lt-ltb, le-ltb, leb-true, leb-false, ne_eqb}
+use Rattle.protocol.specs.{Pick.{pick, both, first}, Limits.{most_cores, most_lines, opening_fits}, Fresh.fresh_state, Buffers.{Bytes, part}}
+use Rattle.protocol.specs.{About.{about, named_line}, Given.{bytes_given}}
+use Rattle.protocol.specs.Machine.{Machine, core_at, copy_at, line_at, pieces, the_core, the_line, written, applied}
+use Rattle.protocol.specs.{Refusals.{machine_refusal, call_rules, call_refusal}, Step.{meaning, Outcome, accepted, step}, Run.{Entry, run}}
+use Rattle.protocol.specs.declared.{Opening.Opening as Sizes, State.State, About.About, Effect.Effect}
 use Rattle.protocol.specs.declared.Which.{Which, TheVariants.{Named as NamedLine, Asked, Answered, Nothing, Victim as OfVictim}}
 use Rattle.protocol.specs.declared.Answer.{Answer, TheVariants.{Refused as RefusedWith, Done, Commit}}
 use Rattle.protocol.specs.declared.Call.{Call, TheVariants.{Load, Store, Fence, Evict, Drop, Writeback, Advance, Serve, Receive, Yield, Take, Victim}}
-use Rattle.protocol.proofs.{Tests.never, Keep.still, Extents.inside, Refusals.{machine_fit, not-true, passed}}
+use Rattle.protocol.proofs.{Tests.never, Keep.still, Extents.inside}
 use Rattle.refusals.specs.Input.{input_refusal}
-use Rattle.tables.{specs.{Found.{Found, found_at, effect_with}, Look.{nothing_found, look_to, looks_over, top_of}}, proofs.Making.{Finds, found_there, made, is_step}}
+use Rattle.tables.{specs.{Found.{Found, found_at, effect_with}, Look.{nothing_found, look_to, looks_over}}, proofs.Making.{Finds, found_there, made, is_step}}
 use Rattle.spelling.specs.Text.{text}
 use Rattle.grammar.specs.Form.{lay, spellings}
-use Rattle.journal.specs.{Journal.{LineAt, NextOf}, declared.Next.{Next, TheVariants.{Opening, Step, End, Refused as RefusedLine}}}
-use Rattle.journal.proofs.Lines.{line_inside}
-use Rattle.driver.{specs.Listing.{Between, no_line, a_line, EndsAt, at_end, at_refusal}, proofs.{Reading.known, Running.{entry_of, steps_append}}}
-use Rattle.convert.specs.{Spelling.{step_line, step_lines, opening_line}, Forms.{owns_copy, in_form, converted}}
-use Rattle.convert.specs.Conversion.{form_from, Reads, Malformed, later_line, is_victim, answers, is_unlike, unlike, result_of, most_bytes, refusal_of, answer_of}
-use Rattle.convert.specs.Writing.{Holds, Appends, change_of_evict, change_of, changed, skip_of, owns_with, refuses, unlike_step, other_cap, opening_refusal, FirstWritten, Writes, malformed, reads, last_answer}
+use Rattle.journal.specs.{Journal.{NextOf}, declared.Next.{TheVariants.{Opening, Step, End, Refused as RefusedLine}}}
+use Rattle.driver.{specs.Listing.{Between, no_line, a_line, at_end, at_refusal}, proofs.{Reading.known, Running.{steps_append}}}
+use Rattle.convert.specs.{Spelling.{step_line, step_lines}, Forms.{owns_copy, in_form, converted}}
+use Rattle.convert.specs.Conversion.{form_from, Reads, later_line, is_victim, answers, is_unlike, unlike, result_of, most_bytes, refusal_of}
+use Rattle.convert.specs.Writing.{Holds, Appends, change_of_evict, change_of, changed, skip_of, owns_with, refuses, unlike_step, opening_refusal, FirstWritten, Writes, malformed, reads, last_answer}
 use Rattle.convert.specs.declared.{To.{To, TheVariants.{First, Second}}, Change.TheVariants.{FromDrop, FromWriteback}, Converted.{Converted, TheVariants.{Length, Refused}}}
 use Rattle.convert.proofs.Appending.{holds_end, holds_past, holds_more, holds_same}
-use Rattle.convert.proofs.Lines.{StepSpelt, StepAt, step_at, opening_cap, line_part}
-use Rattle.convert.proofs.Longer.{after, records, more, after_more, newest, result_more, refusal_so_far, Passed, so_far_passed, so_far, so_far_none, like_cap, unlike_now, like_still, so_far_still, fresh_fits}
+use Rattle.convert.proofs.Lines.{StepAt, step_at, opening_cap, line_part}
+use Rattle.convert.proofs.Longer.{after, more, after_more, newest, result_more, refusal_so_far, Passed, so_far_passed, so_far, so_far_none, like_cap, unlike_now, like_still, so_far_still, fresh_fits}
 
 -- the form of the journal that is converted is one
 pub form_named : (to : To) → form_from to ≡ 0 → ⊥

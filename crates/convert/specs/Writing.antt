@@ -10,7 +10,7 @@ use Rattle.protocol.specs.Run.{Entry}
 use Rattle.spelling.specs.{Decimal.decimal, Text.text}
 use Rattle.journal.specs.{Journal.NextOf, declared.Next.TheVariants.Opening}
 use Rattle.convert.specs.Spelling.{opening_line}
-use Rattle.convert.specs.Conversion.{form_from, Malformed, Reads, is_victim, unlike, result_of, most_bytes, refusal_of, answer_of}
+use Rattle.convert.specs.Conversion.{form_from, Malformed, Reads, is_victim, result_of, most_bytes, refusal_of, answer_of}
 use Rattle.convert.specs.declared.{To.{To, TheVariants.{First, Second}}, Converted.{Converted, TheVariants.{Length, Refused}}}
 use Rattle.convert.specs.declared.Change.{Change, TheVariants.{Same, ToDrop, ToWriteback, FromDrop, FromWriteback}}
 

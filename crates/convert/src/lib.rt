@@ -6,6 +6,7 @@
 // that is behind its kind. The result is written to a buffer of its own, and copied into the lent one when all
 // checks are passed, so that a refusal leaves that one as it was.
 #![tactic(auto)]
+
 mod writing;
 
 ghost use Rattle.std.specs.Prelude.{◌≡◌, ◌+◌};

@@ -1,11 +1,11 @@
 -- One buffer tells what any other gets: a refusal comes before the buffer is looked at, but for the last check, its length.
 use Prim.Native.Nat.{ℕ, ◌+◌, ◌-◌, ◌≤◌}
-use mathlib.Core.{Path.{◌≡◌, refl, sym, ◌∙◌, ap, subst}, Bool.{Bool, true, false}, List.List}
+use mathlib.Core.{Path.{◌≡◌, refl, sym, ◌∙◌, ap, subst}, Bool.{Bool, true, false}}
 use native.Mathlib.Omega.{arith}
 use lib.{Dec.leb, ListN.{length, take}, Seq.take-append_seam}
 use borrow.Author.Tests.{leb-true, leb-false, eq-eqb}
-use Rattle.protocol.specs.{Pick.pick, Buffers.Bytes, Run.Entry, declared.Opening.Opening as Sizes}
-use Rattle.spelling.specs.{Over.{over, PutAt}, declared.Put.TheVariants.{End, Short}}
+use Rattle.protocol.specs.{Pick.pick, Buffers.Bytes}
+use Rattle.spelling.specs.{Over.{over, PutAt}, declared.Put.TheVariants.{End}}
 use Rattle.spelling.proofs.OverLaws.{put_done, put_short}
 use Rattle.convert.specs.{Conversion.{result_of, most_bytes, refusal_of, answer_of, buffer_of, Converts, malformed as of_malformed, reads as of_reading}}
 use Rattle.convert.specs.{Writing.{Writes, malformed, reads}, declared.{To.To, Converted.{Converted, TheVariants.{Length, Refused}}}}

@@ -4,6 +4,7 @@
 // Every row takes any pieces and decides the refusals of its step, 20 and 27: the number, with the pieces
 // as they are.
 #![tactic(auto)]
+
 ghost use Rattle.std.specs.Prelude.{ℕ, ◌≡◌};
 ghost use Rattle.protocol.specs.{Pick.{pick, fails}, Stamps.after, Refusals.is_empty, Machine.pieces, Tables.{held_of, asking, refused_row, effect_of}};
 

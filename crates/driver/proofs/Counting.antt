@@ -4,7 +4,7 @@ use mathlib.Core.{Path.{◌≡◌, refl, sym, ◌∙◌, ap, subst}, Bool.true, 
 use native.Mathlib.{Nat.{add_assoc, add-zero, zero-add}, Omega.arith}
 use lib.{Dec.leb, ListN.length}
 use borrow.Author.Tests.{leb-true, le-leb}
-use Rattle.protocol.specs.{Pick.{every, how_many}, Buffers.Bytes, Step.{Reply, meaning}, Run.Record, Counts.{class_of, nothing_met, tally, one_of, counts_of, sum}}
+use Rattle.protocol.specs.{Pick.{every, how_many}, Buffers.Bytes, Step.{meaning}, Run.Record, Counts.{class_of, nothing_met, tally, one_of, counts_of, sum}}
 use Rattle.protocol.specs.declared.{Call.Call, Answer.{Answer, TheVariants.{Refused, Done, Commit}}}
 use Rattle.protocol.specs.declared.Kind.TheVariants.{Load as OfLoad, Store as OfStore, Fence as OfFence}
 use Rattle.protocol.specs.declared.{Counts.Counts, Class.{Class, TheVariants.{Load, Store, Fence, Ask, Share, Renew, Own, Refused as Refusal, Other}}}

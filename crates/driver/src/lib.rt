@@ -5,6 +5,7 @@
 // calls use, and looks the state and the buffers over once (refusals 1 and 2). It fills a lent buffer with
 // whole lines and returns the checkpoint that it got to.
 #![tactic(auto)]
+
 mod one_line;
 
 ghost use Rattle.std.specs.Prelude.{◌≡◌};

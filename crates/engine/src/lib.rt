@@ -6,6 +6,7 @@
 // Callers write `d = load(d.state, ..)`, which saves a copy of the state against one by way of a local.
 // `step` saves another copy against those functions.
 #![tactic(auto)]
+
 ghost use mathlib.Core.{Path.◌≡◌, List.[]};
 ghost use Rattle.protocol.specs.Machine.{pieces};
 ghost use Rattle.engine.specs.{Pieces.OnPieces, Calls.{Makes, Opens, Shows, PartOf}};

@@ -1,5 +1,5 @@
 -- Laws of a line that has a form: part by part, each value is the one that is there. Assumes nothing.
-use Prim.Native.Nat.{ℕ, ◌+◌}
+use Prim.Native.Nat.{ℕ}
 use mathlib.Core.{Path.{◌≡◌, refl, sym, ◌∙◌, ap, ap₂}, List.{List, [], ◌∷◌, ◌++◌}, Logic.{inl, inr}}
 use lib.{ListN.{length, drop}, Seq.drop-append_seam}
 use Rattle.grammar.specs.Form.{Part, fixed, value, Value, number, pairs, lay, Each, Has}

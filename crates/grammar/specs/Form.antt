@@ -1,6 +1,6 @@
 -- A form of the grammar: a line as 01 writes it, where N stands for a number, H for data, and every other byte for itself.
 -- Assumes nothing.
-use Rattle.std.specs.Prelude.{ℕ, ◌+◌, ◌≤◌, ◌<◌}
+use Rattle.std.specs.Prelude.{ℕ, ◌≤◌, ◌<◌}
 use mathlib.Core.{Path.◌≡◌, Bool.cond, List.{List, [], ◌∷◌, ◌++◌}}
 use lib.{Dec.eqb, ListN.length}
 use Rattle.spelling.specs.{Bytes.{All, Byte, Without}, Decimal.{decimal, greatest, IsNumber}, Hex.{hex, IsData}}

@@ -6,6 +6,7 @@
 // of the table, from one row up to another. Texts are named where they are compared, and not in a table of texts, since a
 // constant array is made anew at each use.
 #![tactic(auto)]
+
 ghost use mathlib.Core.{Path.◌≡◌, Bool.cond};
 ghost use Rattle.std.specs.Prelude.{◌≤◌, ◌<◌, ◌-◌};
 ghost use lib.{Dec.eqb, ListN.{length, take, drop}};

@@ -5,6 +5,7 @@
 // it together, and nobody else can set its offset, so no byte is passed over. A refusal, or the end, leaves the reader where it is:
 // asking again gives the same answer.
 #![tactic(auto)]
+
 ghost use Rattle.std.specs.Prelude.{◌≡◌};
 ghost use Rattle.journal.specs.Journal.{NextOf, offset_after, form_after, ReadOf, StepOf};
 

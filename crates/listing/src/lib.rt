@@ -4,6 +4,7 @@
 // digits come last digit first; so a line is built back to front in a local buffer, which is then put as one text. A commit's
 // data are put behind it, straight into the lent buffer.
 #![tactic(auto)]
+
 ghost use Rattle.std.specs.Prelude.{◌++◌, ◌+◌, ◌≤◌, length, ◌≡◌};
 ghost use Rattle.protocol.specs.Step.{valued, meaning};
 ghost use Rattle.spelling.specs.{Text.text, Over.PutAt};

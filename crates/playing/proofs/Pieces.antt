@@ -3,7 +3,7 @@ use Prim.Native.Nat.{ℕ, ◌+◌}
 use mathlib.Core.{Path.{◌≡◌, refl, sym, ◌∙◌, ap, ap₂}, List.{List, [], ◌∷◌, ◌++◌, append-nil, append_assoc}}
 use native.Mathlib.Omega.{arith}
 use lib.ListN.{length}
-use Rattle.protocol.specs.{Pick.how_many, Buffers.Bytes, Machine.{Machine, machine}, Counts.{sum, tally}, Run.{Entry, Record, place, run}}
+use Rattle.protocol.specs.{Pick.how_many, Buffers.Bytes, Machine.{Machine, machine}, Counts.{sum, tally}, Run.{Entry, Record, run}}
 use Rattle.protocol.specs.declared.Counts.{Counts}
 use Rattle.listing.specs.Record.{record_text}
 use Rattle.driver.specs.{Listing.{Ending, entry_at, no_line, a_line, EndsAt, lines, last_lines}, declared.Checkpoint.Checkpoint}

@@ -1,17 +1,17 @@
 -- No core ever holds more copies than its capacity: a step brings one copy at most, a receive alone brings one, and 31 refuses it where there is
 -- no room. And what the call victim does.
 use Prim.Native.Nat.{ℕ, ◌+◌, ◌*◌, ◌≤◌, ◌<◌}
-use mathlib.Core.{Path.{◌≡◌, refl, sym, ◌∙◌, ap}, Bool.{Bool, true, false}, Logic.{◌⊎◌, inl, inr, ⊎_elim, by_cases}, List.{List, []}}
+use mathlib.Core.{Path.{◌≡◌, refl, ap}, Bool.{Bool, true, false}, Logic.{◌⊎◌, inl, inr, ⊎_elim, by_cases}, List.{[]}}
 use native.Mathlib.{Omega.arith, Decide.ℕ_discrete}
 use lib.{Dec.{leb, eqb}, ListN.take, Seq.set-get_or}
 use borrow.Author.Tests.{leb-false, eqb-false}
 use Rattle.protocol.specs.{Pick.{pick, both, fails}, Fresh.{fresh_core, fresh_cell, fresh_line}, Buffers.{Bytes, There, moved_private, moved_shared}}
-use Rattle.protocol.specs.{Copies.{is_held, held_below}, Given.bytes_given}
+use Rattle.protocol.specs.{Copies.{is_held}, Given.bytes_given}
 use Rattle.protocol.specs.Machine.{Machine, Pieces, copy_at, copies_of, victim_of, core_of, line_of, fresh_machine, written, applied}
 use Rattle.protocol.specs.Refusals.{brings_copy, no_room, state_rules, state_refusal, refusal}
 use Rattle.protocol.specs.Tables.{yielded, load_owned, store_table, fence_table, advance_table, evict_table, serve_asked, serve_load, receive_grant, receive_renew}
 use Rattle.protocol.specs.Tables.{yield_table, take_table, victim_table, table_of}
-use Rattle.protocol.specs.{Step.{refused, done, meaning, Outcome, accepted, step}, Run.Entry, Capacity.{CapacityTheorem, VictimCallTheorem}}
+use Rattle.protocol.specs.{Step.{refused, done, meaning, Outcome, accepted, step}, Capacity.{CapacityTheorem, VictimCallTheorem}}
 use Rattle.protocol.specs.declared.{Opening.Opening, State.State, Call.{Call, TheVariants.{Receive, Victim}}, Name.TheVariants.Victim as Chosen, Effect.Effect}
 use Rattle.protocol.proofs.{Tests.both_false, Copies.{one, one_most, count_same, count_one, count_none, victim_theorem}, Refusals.{passed, NotRefused, not_refused}}
 use Rattle.protocol.proofs.{Written.{Arrays, copy_at_lem, copy_off, arrays_written, arrays_fresh, copy_fresh}, Reached.reached}

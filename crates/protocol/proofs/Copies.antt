@@ -5,7 +5,7 @@ use native.Mathlib.{Omega.arith, Decide.ℕ_discrete}
 use lib.{Dec.{ltb, eqb}, ListN.{length, get_or}}
 use borrow.Author.Tests.{ltb-true, ltb-false, lt-ltb, eqb-true, eq-eqb}
 use Rattle.protocol.specs.Pick.{pick, both}
-use Rattle.protocol.specs.Copies.{is_held, Copies, held_below, rank, below, IsVictim, replaces, victim_below, Victims, VictimTheorem}
+use Rattle.protocol.specs.Copies.{is_held, Copies, held_below, rank, below, IsVictim, replaces, victim_below, VictimTheorem}
 use Rattle.protocol.proofs.Tests.{never, both_true, both_false}
 
 -- ---- counting

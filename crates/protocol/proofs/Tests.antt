@@ -3,7 +3,7 @@ use Prim.Native.Nat.{ℕ}
 use mathlib.Core.{Path.{◌≡◌, refl, sym, ◌∙◌}, Bool.{Bool, true, false, not}}
 use native.Mathlib.Omega.{arith}
 use borrow.Author.Tests.{not-true, not-false}
-use Rattle.protocol.specs.Pick.{pick, both, fails}
+use Rattle.protocol.specs.Pick.{both, fails}
 
 -- a test that is both true and false
 pub never : {X : Type 0} → true ≡ false → X

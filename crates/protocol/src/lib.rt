@@ -5,6 +5,7 @@
 // crate's code is what every other crate shares: comparing timestamps, stepping a core's clocks,
 // and the fixed values that a fresh engine starts from. No function here has a `requires`.
 #![tactic(auto)]
+
 ghost use mathlib.Core.{Path.◌≡◌, List.[]};
 ghost use Rattle.protocol.specs.Stamps.{greatest, at_most, earlier, same, made_earlier, later, after, precedes};
 ghost use Rattle.protocol.specs.{Clock.{loaded, stored, fenced, advanced}, Fresh.{fresh_core, fresh_cell, fresh_line, fresh_state, smallest}};

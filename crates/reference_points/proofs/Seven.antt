@@ -1,6 +1,6 @@
 -- What the theorems about fences claim is 02's Seven.
 use mathlib.Core.{Path.{◌≡◌, refl, sym}, List.List}
-use Rattle.protocol.specs.{Step.{Op, load, store, fence}, Run.Commit, Order.In, Sequential.{StoreThenLoad, Next, FenceBetween, Fenced, SequentialIfFenced}}
+use Rattle.protocol.specs.{Step.{Op, load, store, fence}, Run.Commit, Order.In, Sequential.{StoreThenLoad, FenceBetween, Fenced, SequentialIfFenced}}
 use Rattle.protocol.proofs.Order.Sequential.{sequential_theorem}
 use Rattle.engine.proofs.History.{sequential_history_theorem}
 use Rattle.playing.proofs.Printed.{sequential_listing_theorem}

@@ -10,7 +10,7 @@ use Rattle.protocol.specs.declared.{Call.{Call, TheVariants.{Receive, Victim}}, 
 use Rattle.protocol.specs.declared.Grant.TheVariants.{Share as GrantShare, Renew as GrantRenew, Own as GrantOwn}
 use Rattle.protocol.specs.declared.{Want.TheVariants.Load as WantLoad, Held.TheVariants.Version, Slot.TheVariants.Empty, Recall.TheVariants.None as NoRecall}
 use Rattle.protocol.specs.declared.Name.TheVariants.{Share as share, Renew as renew, Own as own, Drop as dropped, Victim as victim}
-use Rattle.reference_points.specs.Rows.{core, asked, answered, asked_elsewhere, busy, greatest, shared_copy, clean_copy, dirty_copy, shared_line, owned_line, pieces, Places, places, unmoved, copy_bytes}
+use Rattle.reference_points.specs.Rows.{core, asked, answered, asked_elsewhere, busy, greatest, shared_copy, clean_copy, dirty_copy, shared_line, owned_line, pieces, Places, places, unmoved}
 use Rattle.reference_points.specs.Rows.{manager_bytes, writeback_bytes, answer_bytes, given, machine_of, cell, Agree}
 use Rattle.reference_points.specs.{Numbers.{idle, waiting, granted}, Commits.{small, narrow}}
 

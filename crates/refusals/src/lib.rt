@@ -4,6 +4,7 @@
 // The first number that applies, or 0 where none does, for any values at all; and whether 1 or 2 applies
 // by itself. All equal the definitions of `protocol`.
 #![tactic(auto)]
+
 mod input;
 
 ghost use Rattle.std.specs.Prelude.{◌≡◌};

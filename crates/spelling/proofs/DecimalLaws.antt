@@ -1,6 +1,6 @@
 -- Laws of the decimal spelling. Assumes nothing.
 use Prim.Native.Nat.{ℕ, zero, suc, ◌+◌, ◌*◌, ◌/◌, ◌%◌, ◌≤◌, ◌<◌, ◌-◌, ◌^◌}
-use mathlib.Core.{Path.{◌≡◌, refl, sym, ◌∙◌, ap, ap₂}, List.{List, [], ◌∷◌, ◌++◌}, Logic.{◌⊎◌, ⊎_elim}}
+use mathlib.Core.{Path.{◌≡◌, refl, sym, ◌∙◌, ap, ap₂}, List.{List, [], ◌∷◌, ◌++◌}, Logic.{⊎_elim}}
 use native.Mathlib.{Numerals.add-one, Omega.arith, Nat.{le_trans, pow-suc}}
 use lib.{ListN.{length, get_or, take, drop, length-append, get_or-append}, Dec.lit<, Seq.{split_at, get_or-take, take_all, take-suc}}
 use borrow.Author.Tests.{lt-ltb, le-ltb}

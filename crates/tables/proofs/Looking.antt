@@ -5,19 +5,19 @@ use mathlib.Core.{Path.{◌≡◌, refl, sym, ◌∙◌, ap}, Bool.{Bool, true, 
 use native.Mathlib.{Numerals.add-one, Omega.arith}
 use lib.Dec.{ltb, leb, eqb}
 use borrow.Author.Tests.{ltb-false, le-leb, lt-leb, lt-ltb}
-use Rattle.protocol.specs.{Pick.{pick, both, fails}, About.about, Copies.{is_held, Copies, held_below, rank, rank_of, below, IsVictim, replaces, victim_below}}
+use Rattle.protocol.specs.{Pick.{pick, both, fails}, About.about, Copies.{is_held, Copies, held_below, rank, rank_of, below, replaces, victim_below}}
 use Rattle.protocol.specs.{Machine.{Pieces, pieces, copy_at, copies_of, victim_of, the_line}, Refusals.{state_rules, state_refusal}}
-use Rattle.protocol.specs.Tables.{refused_row, load_owned, load_table, store_table, fence_table, advance_table, evict_table, same_version, leased_to, serve_load, serve_asked}
+use Rattle.protocol.specs.Tables.{load_owned, load_table, store_table, fence_table, advance_table, evict_table, same_version, leased_to, serve_load, serve_asked}
 use Rattle.protocol.specs.Tables.{serve_table, receive_renew, receive_grant, receive_table, yield_table, take_table, table_of, effect_of}
 use Rattle.protocol.specs.declared.Grant.{Grant, TheVariants.{Share as GrantShare, Renew as GrantRenew, Own as GrantOwn}}
 use Rattle.protocol.specs.declared.{Copy.{Copy, TheVariants.{None as NoCopy, Shared as CopyShared, Owned as CopyOwned}}, Stamp.Stamp, Held.Held}
 use Rattle.protocol.specs.declared.{Want.{Want, TheVariants.{Load as WantLoad, Store as WantStore}}, Slot.{Slot, TheVariants.{Empty, Asked, Answered}}}
 use Rattle.protocol.specs.declared.{Core.Core, Manager.{Manager, TheVariants.{Shared, Owned}}, Writeback.{Writeback, TheVariants.{None as NoWriteback, Flight}}}
-use Rattle.protocol.specs.declared.{ManagerLine.ManagerLine, Opening.Opening, State.State, Name.Name, Effect.Effect}
+use Rattle.protocol.specs.declared.{ManagerLine.ManagerLine, Opening.Opening, State.State, Name.Name}
 use Rattle.protocol.specs.declared.Call.{Call, TheVariants.{Load, Store, Fence, Evict, Drop, Writeback as WriteBack, Advance}}
 use Rattle.protocol.specs.declared.Call.TheVariants.{Serve, Receive, Yield, Take, Victim}
 use Rattle.protocol.specs.declared.Which.{Which, TheVariants.{Named as NamedLine, Asked as OfAsked, Answered as OfAnswered, Nothing, Victim as OfVictim}}
-use Rattle.protocol.proofs.{Tests.never, Copies.{one, count_most, none_held, victim_theorem}}
+use Rattle.protocol.proofs.{Tests.never, Copies.{count_most, none_held, victim_theorem}}
 use Rattle.tables.specs.{declared.copies.Look.Look, Look.{one_more, found, with_copy, look_to, looks_over, top_of}}
 
 -- ---- what is found

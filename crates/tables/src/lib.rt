@@ -8,6 +8,7 @@
 // Beside it: the core and the line that a call is about, going through a core's copies, and where the bytes
 // of a commit lie.
 #![tactic(auto)]
+
 mod about;
 mod copies;
 

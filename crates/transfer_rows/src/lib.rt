@@ -5,6 +5,7 @@
 // Every row takes any pieces and decides the refusals of its step, 21 and up: the number, with the pieces
 // as they are.
 #![tactic(auto)]
+
 mod requests;
 mod writebacks;
 

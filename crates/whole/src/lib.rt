@@ -3,6 +3,7 @@
 // The driver plays a journal a buffer of text at a time; here its calls are put together, on buffers of their own. What the listing and
 // the tally of a journal are, and what the calls come to, is in `playing`.
 #![tactic(auto)]
+
 ghost use Rattle.std.specs.Prelude.{◌≤◌, length};
 ghost use mathlib.Core.{Path.◌≡◌, Bool.true};
 ghost use Rattle.protocol.specs.{Limits.opening_fits, Buffers.{private_length, shared_length}};

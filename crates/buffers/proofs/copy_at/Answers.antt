@@ -1,5 +1,4 @@
 -- The place lies inside the greatest buffer.
-use borrow.Author.Rules.{rules}
 use native.Mathlib.Omega.{arith}
 use Rattle.protocol.proofs.Extents.{row_most, copy_most}
 use Rattle.buffers.proofs.copy_at.Goals as goal

@@ -1,5 +1,4 @@
 -- Its place, if it fits.
-use borrow.Author.Rules.{rules}
 use Rattle.protocol.proofs.Tests.{was_false, was_true}
 use Rattle.buffers.proofs.{Laws.to_there}
 use Rattle.buffers.proofs.copy_start.Goals as goal

@@ -1,5 +1,4 @@
 -- By the move.
-use borrow.Author.Rules.{rules}
 use Rattle.buffers.proofs.given_fits.Goals as goal
 
 pub returns-in-Store : goal.returns-in-Store

@@ -1,5 +1,5 @@
 -- The three tests, one after the other.
-use borrow.Author.{Rules.rules, Tests.{lt-ltb, le-ltb}}
+use borrow.Author.{Tests.{lt-ltb, le-ltb}}
 use Rattle.protocol.proofs.Tests.{was_false, was_true}
 use Rattle.buffers.proofs.is_there.Goals as goal
 

@@ -4,7 +4,6 @@ use lib.ListN.{length}
 use Rattle.protocol.{specs.{Buffers.{moved_private, moved_shared}, Given.bytes_as}, proofs.{Tests.{was_false, was_true}, Digits.count_given}}
 use Rattle.buffers.specs.Moves.{move_fits}
 use Rattle.buffers.proofs.{Moving.{Fitting, fitting, as_still, as_moved}}
-use borrow.Author.Rules.{rules}
 use Rattle.buffers.proofs.move_bytes.Goals as goal
 use Rattle.buffers.proofs.move_bytes.Goals.{Then-not-move_fits, Else-not-move_fits}
 

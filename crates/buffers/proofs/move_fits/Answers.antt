@@ -1,5 +1,4 @@
 -- The place, the lengths and the bytes given, one after the other.
-use borrow.Author.Rules.{rules}
 use Rattle.protocol.proofs.Tests.{was_false, was_true}
 use Rattle.buffers.specs.Moves.{move_fits}
 use Rattle.buffers.proofs.move_fits.Goals as goal

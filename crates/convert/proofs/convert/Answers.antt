@@ -1,6 +1,5 @@
 -- `convert::convert` meets its contract: a result is copied where it has room. Assumes nothing.
-use borrow.Author.Rules.{rules}
-use Rattle.convert.proofs.{Copying.{refused_copied, length_written, result_within, copied, not_copied}}
+use Rattle.convert.proofs.{Copying.{refused_copied, length_written, copied, not_copied}}
 use Rattle.convert.proofs.convert.Goals as goal
 
 pub returns-in-Refused : goal.returns-in-Refused

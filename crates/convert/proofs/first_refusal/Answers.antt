@@ -1,7 +1,6 @@
 -- `convert::first_refusal` meets its contract: the eighth byte tells a wrong first line of the other form. Assumes nothing.
 use mathlib.Core.Path.{sym, ◌∙◌}
 use native.Mathlib.Omega.{arith}
-use borrow.Author.Rules.{rules}
 use Rattle.convert.specs.Conversion.{form_from, first_line, other_form}
 use Rattle.convert.proofs.{FirstLine.{other_digit, refused_own, wrong_other}}
 use Rattle.convert.proofs.first_refusal.Goals as goal

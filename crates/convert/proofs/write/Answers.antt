@@ -1,6 +1,5 @@
 -- `convert::write` meets its contract: by the answer at the journal's start. Assumes nothing.
 use mathlib.Core.Path.{refl, sym, ◌∙◌, subst}
-use borrow.Author.Rules.{rules}
 use Rattle.journal.specs.Journal.{NextOf}
 use Rattle.driver.proofs.Reading.{known}
 use Rattle.convert.specs.{Conversion.{form_from, other_form}, Writing.malformed}

@@ -1,6 +1,5 @@
 -- 27, or the clocks after an advance.
 use mathlib.Core.Path.{sym, ◌∙◌}
-use borrow.Author.Rules.{rules}
 use Rattle.protocol.{specs.{Pick.first, Refusals.{state_rules, state_refusal}, Tables.{advance_table, table_of, effect_of}}, proofs.Stamps.{sum_at, sum_passes}}
 use Rattle.core_rows.proofs.advance.Goals as goal
 

@@ -1,5 +1,4 @@
 -- By the slot: asked, or 20.
-use borrow.Author.Rules.{rules}
 use Rattle.core_rows.proofs.ask.Goals as goal
 
 pub returns-in-Empty : goal.returns-in-Empty

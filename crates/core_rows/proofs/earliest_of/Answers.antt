@@ -1,5 +1,4 @@
 -- By whether the copy is dirty: the end of its lease, or what `after` gives.
-use borrow.Author.Rules.{rules}
 use Rattle.core_rows.proofs.earliest_of.Goals as goal
 
 pub returns-then-dirty : goal.returns-then-dirty

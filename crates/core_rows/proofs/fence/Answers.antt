@@ -1,5 +1,4 @@
 -- The clocks after a fence, which none of 20 and up refuses.
-use borrow.Author.Rules.{rules}
 use Rattle.protocol.specs.{Pick.first, Refusals.{state_rules, state_refusal}, Tables.{fence_table, table_of, effect_of}}
 use Rattle.core_rows.proofs.fence.Goals as goal
 

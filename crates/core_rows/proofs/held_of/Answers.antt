@@ -1,5 +1,4 @@
 -- The version held, by the copy.
-use borrow.Author.Rules.{rules}
 use Rattle.core_rows.proofs.held_of.Goals as goal
 
 pub returns-in-Shared : goal.returns-in-Shared

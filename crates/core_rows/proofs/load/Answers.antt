@@ -1,6 +1,5 @@
 -- By the copy, its lease and whether it is dirty: the row, asked, or 20.
 use mathlib.Core.{Path.{◌≡◌, refl, sym, ◌∙◌}, Bool.true}
-use borrow.Author.Rules.{rules}
 use Rattle.protocol.specs.{Machine.pieces, Pick.{fails, first}, Stamps.at_most, Refusals.{is_empty, state_rules, state_refusal}}
 use Rattle.protocol.{specs.Tables.{load_table, load_owned, table_of, effect_of}, proofs.{Stamps.{not_earlier, then_earlier}, Refusals.ruled}}
 use Rattle.core_rows.proofs.load.Goals as goal

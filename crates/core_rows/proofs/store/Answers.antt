@@ -1,6 +1,5 @@
 -- By the copy: asked or 20; 27, or the row.
 use mathlib.Core.Path.{refl, sym, ◌∙◌}
-use borrow.Author.Rules.{rules}
 use Rattle.protocol.specs.{Machine.pieces, Pick.{fails, first}, Refusals.{is_empty, state_rules, state_refusal}, Tables.{store_table, table_of, effect_of}}
 use Rattle.protocol.proofs.Refusals.{ruled}
 use Rattle.core_rows.proofs.Laws.{store_at, store_passes_lem}

@@ -1,10 +1,10 @@
 -- `driver::few` meets its contract: the counts passed are small, so all of them are if those that are left are. Assumes nothing.
-use Prim.Native.Nat.{ℕ, ◌≤◌, ◌<◌, ◌-◌}
+use Prim.Native.Nat.{ℕ, ◌≤◌, ◌<◌}
 use mathlib.Core.{Path.{◌≡◌, refl}, Bool.{true, false, not}}
 use native.Mathlib.Omega.{arith}
-use lib.{Dec.{leb, lit≤}, ListN.length}
+use lib.{Dec.{leb, lit≤}}
 use borrow.Author.{Rules.rules, Tests.{le-leb, lt-leb}}
-use Rattle.protocol.proofs.Scan.{Scanned, scan_on, scan_fails, scan_ends}
+use Rattle.protocol.proofs.Scan.{scan_on, scan_fails, scan_ends}
 use Rattle.driver.specs.Play.{each}
 use Rattle.driver.proofs.few.Goals as goal
 

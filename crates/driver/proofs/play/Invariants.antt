@@ -1,15 +1,12 @@
 -- `driver::play` meets its contract. The loop's invariant: the lengths of both buffers stay, and `Reached`. The measure is what is left of the
 -- journal. A step is one fact, `made`, at the place where its effect is known; what comes later goes by it. Assumes nothing.
-use Prim.Native.Nat.{◌-◌, ◌≤◌, ◌<◌}
-use mathlib.Core.{Path.{◌≡◌, refl, sym, ◌∙◌, ap}, Bool.true}
-use native.Mathlib.Omega.{arith}
+use Prim.Native.Nat.{◌-◌, ◌≤◌}
+use mathlib.Core.{Path.{◌≡◌}}
 use lib.ListN.{length}
-use borrow.Author.{Rules.rules, Tests.{not-true, not-false}}
 use Rattle.protocol.specs.Machine.{copy_at}
-use Rattle.tables.{specs.Look.look_to, proofs.Looking.{look_next, look_ends}}
-use Rattle.driver.specs.{Play.{few, unfit}, Pieces.checkpoint_at}
-use Rattle.driver.proofs.{Counting.each_few, Stepping.looked_over, Putting.fills_none}
-use Rattle.driver.proofs.Loop.{Reached, reached_start, at_checkpoint, room_for, finish, step_due, end_due, StepInPlace, shows, step_short, step_made}
+use Rattle.tables.{specs.Look.look_to}
+use Rattle.driver.specs.{Pieces.checkpoint_at}
+use Rattle.driver.proofs.Loop.{Reached}
 use Rattle.driver.proofs.play.Given as goal
 
 abbrev pub invariant-loop-last : goal.invariant-loop-last

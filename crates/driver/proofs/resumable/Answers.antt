@@ -1,5 +1,5 @@
 -- `driver::resumable` meets its contract: each test decides one part. Assumes nothing.
-use borrow.Author.{Tests.{eq-eqb, ne_eqb, le-leb, lt-leb}, Rules.rules}
+use borrow.Author.{Tests.{eq-eqb, ne_eqb, le-leb, lt-leb}}
 use Rattle.driver.proofs.resumable.Goals as goal
 
 pub returns-then-form-eq0 : goal.returns-then-form-eq0

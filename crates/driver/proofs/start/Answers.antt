@@ -1,7 +1,7 @@
 -- `driver::start` meets its contract: by what is found at the start of the journal. Assumes nothing.
 use mathlib.Core.Path.{refl, sym, ◌∙◌, subst}
 use native.Mathlib.Omega.{arith}
-use borrow.Author.{Tests.{not-true, not-false}, Rules.rules}
+use borrow.Author.{Tests.{not-true, not-false}}
 use Rattle.journal.specs.Journal.{NextOf}
 use Rattle.driver.specs.Listing.{refused_first}
 use Rattle.driver.proofs.{Reading.known, Starting.{outside_limits, starts_refused, starts_open}}

@@ -1,7 +1,6 @@
 -- The effect, the place of its bytes, and its move.
 use mathlib.Core.Path.{ap}
 use Rattle.protocol.specs.declared.Effect.{Effect}
-use borrow.Author.Rules.{rules}
 use Rattle.engine.proofs.on_pieces.Goals as goal
 
 pub returns : goal.returns

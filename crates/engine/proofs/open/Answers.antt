@@ -1,5 +1,4 @@
 -- Refused or not, by the limits.
-use borrow.Author.Rules.{rules}
 use mathlib.Core.Path.{ap, ◌∙◌}
 use Rattle.protocol.{specs.{Pick.first, Fresh.fresh_state, Refusals.open_refusal, Step.meaning}, proofs.Tests.{was_false, was_true}}
 use Rattle.engine.proofs.open.Goals as goal

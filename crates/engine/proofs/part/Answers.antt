@@ -2,7 +2,6 @@
 use Prim.Native.Nat.{ℕ, ◌+◌, ◌-◌, ◌≤◌, min}
 use mathlib.Core.{Path.{◌≡◌, refl, sym, ◌∙◌, ap}, List.[]}
 use native.Mathlib.Omega.{arith}
-use borrow.Author.Rules.{rules}
 use lib.{ListN.{length, drop, length-drop, drop_of_length-le}, Seq.take_all}
 use denote.Ref.{Bor}
 use Rattle.protocol.specs.Buffers.{Bytes, part}

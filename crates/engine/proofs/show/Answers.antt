@@ -1,7 +1,6 @@
 -- Nothing under a refusal, else the part of the copy or of the manager's line.
 use mathlib.Core.Path.{sym, ◌∙◌}
 use native.Mathlib.Omega.{arith}
-use borrow.Author.Rules.{rules}
 use Rattle.protocol.{specs.Buffers.There, proofs.Extents.indices}
 use Rattle.engine.proofs.{Showing.{there, shows_nothing, shows_copy, shows_manager}}
 use Rattle.engine.proofs.show.Goals as goal

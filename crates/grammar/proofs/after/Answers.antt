@@ -1,6 +1,6 @@
 -- `grammar::after` meets its contract. The invariant: whether the bytes passed are the text's. Assumes nothing.
-use Prim.Native.Nat.{ℕ, ◌+◌, ◌≤◌, ◌-◌}
-use mathlib.Core.{Path.{◌≡◌, refl, subst}, List.List}
+use Prim.Native.Nat.{ℕ, ◌+◌}
+use mathlib.Core.{Path.{◌≡◌, refl, subst}}
 use native.Mathlib.Omega.{arith}
 use lib.ListN.{length, get_or}
 use borrow.Author.Tests.{not-true, not-false}

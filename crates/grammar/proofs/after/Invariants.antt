@@ -1,11 +1,8 @@
 -- `grammar::after` meets its contract. The invariant: whether the bytes passed are the text's. Assumes nothing.
 use Prim.Native.Nat.{ℕ, ◌+◌, ◌≤◌, ◌-◌}
-use mathlib.Core.{Path.{◌≡◌, refl, subst}, List.List}
-use native.Mathlib.Omega.{arith}
+use mathlib.Core.{Path.{◌≡◌}, List.List}
 use lib.ListN.{length, get_or}
-use borrow.Author.Tests.{not-true, not-false}
-use Rattle.spelling.{specs.Bytes.{Test, Below}, proofs.Tests.{test_same, test_more}}
-use Rattle.grammar.specs.Scan.{there, elsewhere}
+use Rattle.spelling.{specs.Bytes.{Test, Below}}
 use Rattle.grammar.proofs.after.Given as goal
 
 abbrev pub same_at : List ℕ → ℕ → List ℕ → ℕ → Type 0

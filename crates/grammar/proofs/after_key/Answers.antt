@@ -3,7 +3,6 @@ use mathlib.Core.Path.{◌≡◌}
 use lib.ListN.{get_or-eq_default}
 use Rattle.grammar.specs.Scan.{keys, last_key, key_text}
 use Rattle.grammar.proofs.{Rows.{Others, past}}
-use borrow.Author.Rules.{rules}
 use Rattle.grammar.proofs.after_key.Goals as goal
 
 pub returns-in_default : goal.returns-in_default

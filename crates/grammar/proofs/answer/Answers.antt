@@ -2,7 +2,7 @@
 use Prim.Native.Nat.{◌<◌}
 use native.Mathlib.Omega.{arith}
 use lib.ListN.{get_or}
-use borrow.Author.{Tests.ne_eqb, Rules.rules}
+use borrow.Author.{Tests.ne_eqb}
 use Rattle.grammar.specs.Table.{row_count}
 use Rattle.grammar.proofs.{Forms.opening_row}
 use Rattle.grammar.proofs.answer.Goals as goal

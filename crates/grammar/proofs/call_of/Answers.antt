@@ -2,7 +2,6 @@
 use mathlib.Core.Path.{◌≡◌}
 use native.Mathlib.Nat.{le_antisymm, le_of_suc-le-suc}
 use Rattle.grammar.proofs.{Rows.{Others, past}}
-use borrow.Author.Rules.{rules}
 use Rattle.grammar.proofs.call_of.Goals as goal
 
 pub returns-in_default : goal.returns-in_default

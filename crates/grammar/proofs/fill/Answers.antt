@@ -2,10 +2,8 @@
 use Prim.Native.Nat.{◌≤◌}
 use native.Mathlib.Omega.{arith}
 use lib.ListN.{length}
-use borrow.Author.Rules.{rules}
 use Rattle.spelling.proofs.Split.{up_to_within}
-use Rattle.grammar.specs.Scan.{field_parts}
-use Rattle.grammar.proofs.{Walk.{State, step_field, stop_field, stop_long, stop_end, after_within}}
+use Rattle.grammar.proofs.{Walk.{step_field, stop_field, stop_long, stop_end, after_within}}
 use Rattle.grammar.proofs.fill.Goals as goal
 
 pub returns-then-head-eq0 : goal.returns-then-head-eq0

@@ -1,11 +1,6 @@
 -- `grammar::fill` meets its contract; `Walk` has the invariant and the laws. Assumes nothing.
-use Prim.Native.Nat.{◌≤◌}
-use native.Mathlib.Omega.{arith}
-use lib.ListN.{length}
-use borrow.Author.Rules.{rules}
-use Rattle.spelling.proofs.Split.{up_to_within}
 use Rattle.grammar.specs.Scan.{field_parts}
-use Rattle.grammar.proofs.{Walk.{State, step_field, stop_field, stop_long, stop_end, after_within}}
+use Rattle.grammar.proofs.{Walk.{State}}
 use Rattle.grammar.proofs.fill.Given as goal
 
 abbrev pub invariant-loop-left : goal.invariant-loop-left

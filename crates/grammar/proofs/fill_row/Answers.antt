@@ -1,10 +1,9 @@
 -- `grammar::fill_row` meets its contract: in each arm, the row's own kind and keys. Assumes nothing.
 use mathlib.Core.Path.{◌≡◌}
-use native.Mathlib.{Nat.{le_antisymm, le_of_suc-le-suc}, Omega.arith}
+use native.Mathlib.{Nat.{le_antisymm, le_of_suc-le-suc}}
 use lib.Dec.{lit≤}
 use Rattle.grammar.specs.Scan.{field_parts}
 use Rattle.grammar.proofs.{Rows.{Others, past}, Walk.{after_within, kind_read}}
-use borrow.Author.Rules.{rules}
 use Rattle.grammar.proofs.fill_row.Goals as goal
 
 pub returns-in_default : goal.returns-in_default

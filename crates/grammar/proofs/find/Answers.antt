@@ -1,6 +1,5 @@
 -- `grammar::find` meets its contract: only one row may have the line. Assumes nothing.
 use native.Mathlib.Omega.{arith}
-use borrow.Author.Rules.{rules}
 use Rattle.grammar.specs.Scan.{nowhere}
 use Rattle.grammar.proofs.{Judge.{none_short, none_there, found_by}}
 use Rattle.grammar.proofs.find.Goals as goal

@@ -4,7 +4,6 @@ use mathlib.Core.Path.{subst₂}
 use native.Mathlib.Omega.{arith}
 use Rattle.grammar.specs.{Line.{too_long, no_form}, Scan.FoundIn}
 use Rattle.grammar.proofs.{Judge.{answer_line_lem, row_found}, Forms.{ranged, no_row_lem}}
-use borrow.Author.Rules.{rules}
 use Rattle.grammar.proofs.read_line.Goals as goal
 
 pub find-requires : goal.find-requires

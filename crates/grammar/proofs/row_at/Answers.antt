@@ -2,7 +2,6 @@
 use Prim.Native.Nat.{◌+◌, ◌*◌, ◌%◌}
 use native.Mathlib.Omega.{arith}
 use Rattle.grammar.proofs.{Rows.{letter_high, row_by_tag}}
-use borrow.Author.Rules.{rules}
 use Rattle.grammar.proofs.row_at.Goals as goal
 
 pub returns : goal.returns

@@ -1,6 +1,6 @@
 -- `grammar::with_value` meets its contract: data or a number, right or wrong. Assumes nothing.
 use mathlib.Core.Path.{refl, subst}
-use borrow.Author.{Rules.rules, Tests.ne_eqb}
+use borrow.Author.{Tests.ne_eqb}
 use Rattle.spelling.specs.{Decimal.NumberOf, Hex.DataTest}
 use Rattle.grammar.specs.Scan.{right, wrong}
 use Rattle.grammar.proofs.with_value.Goals as goal

@@ -1,5 +1,4 @@
 -- `journal::form_after` meets its contract. Assumes nothing.
-use borrow.Author.Rules.{rules}
 use Rattle.journal.proofs.form_after.Goals as goal
 
 pub returns-in-Opening : goal.returns-in-Opening

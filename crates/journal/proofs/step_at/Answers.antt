@@ -5,7 +5,6 @@ use native.Mathlib.Omega.{arith}
 use Rattle.grammar.{specs.{Table.rows_of, Line.LineOf, declared.Line.Line}, proofs.Inside.inside}
 use Rattle.journal.specs.Journal.{in_journal, NextOf, too_much, empty, ended, unended}
 use Rattle.journal.proofs.{Lines.{line_here, none_here, line_answer}}
-use borrow.Author.Rules.{rules}
 use Rattle.journal.proofs.step_at.Goals as goal
 use Rattle.journal.proofs.step_at.Goals.{After-read_line, In-Step}
 

@@ -1,5 +1,4 @@
 -- `listing::digit_count` meets its contract. Assumes nothing.
-use borrow.Author.Rules.{rules}
 use Rattle.listing.proofs.digit_count.Goals as goal
 
 pub returns-in-Bytes : goal.returns-in-Bytes

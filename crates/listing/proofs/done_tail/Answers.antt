@@ -1,5 +1,4 @@
 -- `listing::done_tail` meets its contract: in each arm, the end with the name. Assumes nothing.
-use borrow.Author.Rules.{rules}
 use Rattle.listing.proofs.done_tail.Goals as goal
 
 pub returns-in-Open : goal.returns-in-Open

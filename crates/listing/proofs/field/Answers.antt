@@ -1,6 +1,4 @@
 -- `listing::field` meets its contract: the digits are before the offset, and the key before the digits. Assumes nothing.
-use native.Mathlib.Omega.{arith}
-use borrow.Author.Rules.{rules}
 use Rattle.listing.proofs.{Laws.{field_put, digits_far}}
 use Rattle.listing.proofs.field.Goals as goal
 

@@ -2,7 +2,6 @@
 use Prim.Native.Nat.{ℕ}
 use mathlib.Core.{Path.{refl, ◌∙◌, ap}, List.{List, ◌++◌}}
 use native.Mathlib.Omega.{arith}
-use borrow.Author.Rules.{rules}
 use Rattle.spelling.specs.{Decimal.decimal, Text.text}
 use Rattle.listing.specs.Record.{text_as}
 use Rattle.listing.proofs.{Laws.{first, more, four, put_same}}

@@ -1,7 +1,4 @@
 -- `listing::put_commit` meets its contract: for each kind, the text that is put is the record of such a commit. Assumes nothing.
-use mathlib.Core.Path.{refl}
-use native.Mathlib.Omega.{arith}
-use borrow.Author.Rules.{rules}
 use Rattle.spelling.specs.Text.{text}
 use Rattle.listing.proofs.{Laws.{put_same, access_text, fence_text}}
 use Rattle.listing.proofs.put_commit.Goals as goal

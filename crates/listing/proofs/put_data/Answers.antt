@@ -1,5 +1,4 @@
 -- `listing::put_data` meets its contract, by how the data are given. Assumes nothing.
-use borrow.Author.Rules.{rules}
 use Rattle.listing.proofs.put_data.Goals as goal
 
 pub returns-in-Bytes : goal.returns-in-Bytes

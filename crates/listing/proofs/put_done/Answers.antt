@@ -1,7 +1,5 @@
 -- `listing::put_done` meets its contract: the line holds the place before the end that names what was done. Assumes nothing.
-use mathlib.Core.Path.{refl}
 use native.Mathlib.Omega.{arith}
-use borrow.Author.Rules.{rules}
 use Rattle.listing.proofs.{Laws.{put_same, done_line}, Lengths.done_length}
 use Rattle.listing.proofs.put_done.Goals as goal
 

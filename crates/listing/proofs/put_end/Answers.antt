@@ -1,6 +1,4 @@
 -- `listing::put_end` meets its contract: the three numbers are those of the end line. Assumes nothing.
-use mathlib.Core.Path.{refl}
-use native.Mathlib.Omega.{arith}
 use Rattle.listing.specs.Record.{end_text}
 use Rattle.listing.proofs.put_end.Goals as goal
 

@@ -1,5 +1,4 @@
 -- `listing::put_record` meets its contract: for each case of an answer, the text that is put is that answer's record. Assumes nothing.
-use borrow.Author.Rules.{rules}
 use Rattle.protocol.specs.Step.{meaning}
 use Rattle.listing.specs.Record.{record_as}
 use Rattle.listing.proofs.put_record.Goals as goal

@@ -1,7 +1,6 @@
 -- `listing::put_refused` meets its contract: the line holds the two fields, from the last to the first. Assumes nothing.
 use mathlib.Core.{Path.{refl, ◌∙◌}, List.append_assoc}
 use native.Mathlib.Omega.{arith}
-use borrow.Author.Rules.{rules}
 use Rattle.listing.proofs.{Laws.{first, more, put_same}}
 use Rattle.listing.proofs.put_refused.Goals as goal
 

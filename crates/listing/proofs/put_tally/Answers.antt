@@ -1,7 +1,6 @@
 -- `listing::put_tally` meets its contract: the line holds the seven fields, from the last to the first. Assumes nothing.
 use mathlib.Core.{Path.{refl, ◌∙◌}, List.append_assoc}
 use native.Mathlib.Omega.{arith}
-use borrow.Author.Rules.{rules}
 use Rattle.spelling.specs.Text.{text}
 use Rattle.listing.specs.Record.{tally_text}
 use Rattle.listing.proofs.{Laws.{first, more, put_same}}

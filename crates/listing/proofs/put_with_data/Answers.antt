@@ -1,15 +1,13 @@
 -- `listing::put_with_data` meets its contract: after the tests for room, each of the three texts is put behind the one before it. Assumes nothing.
 use Prim.Native.Nat.{◌+◌, ◌<◌}
-use mathlib.Core.{Path.{◌≡◌, refl, sym, ◌∙◌}, List.◌++◌}
+use mathlib.Core.{Path.{◌≡◌, sym, ◌∙◌}, List.◌++◌}
 use native.Mathlib.Omega.{arith}
 use lib.ListN.{length}
-use borrow.Author.Rules.{rules}
 use Rattle.spelling.specs.{Over.PutAt, Text.text, declared.Put.TheVariants.Short}
 use Rattle.listing.specs.Record.{text_as}
 use Rattle.listing.proofs.{Laws.{data_short, data_put, digits_count}}
 use Rattle.listing.proofs.put_with_data.Goals as goal
 use Rattle.listing.proofs.put_with_data.Goals.{After-digit_count-n}
-
 
 counted : (c : After-digit_count-n) → length (text_as c.args.read c.args.given.now) ≡ c.digit_count-n.result
 counted c = digits_count c.args.read c.args.given.now ∙ sym c.digit_count-n.ensures

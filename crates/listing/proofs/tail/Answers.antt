@@ -1,6 +1,4 @@
 -- `listing::tail` meets its contract: the text ends where the line does. Assumes nothing.
-use native.Mathlib.Omega.{arith}
-use borrow.Author.Rules.{rules}
 use Rattle.listing.proofs.{Laws.tail_put}
 use Rattle.listing.proofs.tail.Goals as goal
 

@@ -1,7 +1,4 @@
 -- `listing::victim_tail` meets its contract: the line's number before the newline. Assumes nothing.
-use mathlib.Core.Path.{refl}
-use native.Mathlib.Omega.{arith}
-use borrow.Author.Rules.{rules}
 use Rattle.listing.proofs.{Laws.tail_more}
 use Rattle.listing.proofs.victim_tail.Goals as goal
 

@@ -1,5 +1,4 @@
 -- By the name; share, renew and own by who answers them.
-use borrow.Author.Rules.{rules}
 use Rattle.protocol.proofs.name_class.Goals as goal
 
 pub returns-in-Share : goal.returns-in-Share

@@ -1,10 +1,8 @@
 -- `spelling::is_clear` meets its contract. The invariant: the contract, of the bytes passed. Assumes nothing.
-use Prim.Native.Nat.{ℕ, ◌+◌, ◌≤◌, ◌-◌}
-use mathlib.Core.Path.{◌≡◌, subst}
-use native.Mathlib.Omega.{arith}
+use Prim.Native.Nat.{◌+◌, ◌≤◌, ◌-◌}
+use mathlib.Core.Path.{◌≡◌}
 use lib.ListN.{get_or}
 use Rattle.spelling.specs.Bytes.{Test, Below}
-use Rattle.spelling.proofs.{Tests.{test_other, test_more}}
 use Rattle.spelling.proofs.is_clear.Given as goal
 
 abbrev pub invariant-loop-k : goal.invariant-loop-k

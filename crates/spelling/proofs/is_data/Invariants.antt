@@ -1,11 +1,8 @@
 -- `spelling::is_data` meets its contract. The invariant: whether each byte passed is a hex digit. Assumes nothing.
-use Prim.Native.Nat.{ℕ, ◌≤◌, ◌-◌, ◌%◌}
-use mathlib.Core.{Path.◌≡◌, Bool.{Bool, true, false}, List.List}
-use native.Mathlib.Omega.{arith}
-use borrow.Author.Rules.{rules}
+use Prim.Native.Nat.{ℕ, ◌≤◌, ◌-◌}
+use mathlib.Core.{List.List}
 use lib.ListN.{length, get_or}
-use Rattle.spelling.specs.{Bytes.{Test, Below}, Hex.{unhex, HexDigit, DataTest}}
-use Rattle.spelling.proofs.{Lists.all_from, Tests.test_more, HexLaws.{spelt, spells_length, spells_at}}
+use Rattle.spelling.specs.{Bytes.{Test, Below}, Hex.{HexDigit}}
 use Rattle.spelling.proofs.is_data.Given as goal
 
 -- the byte at k is a hex digit

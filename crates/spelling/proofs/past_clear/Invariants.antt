@@ -1,11 +1,8 @@
 -- `spelling::past_clear` meets its contract. The invariant: the contract, of the offset reached. Assumes nothing.
 use Prim.Native.Nat.{◌+◌, ◌-◌}
-use mathlib.Core.Path.{◌≡◌, refl, ◌∙◌, subst}
-use native.Mathlib.Omega.{arith}
-use borrow.Author.Tests.{not-false}
+use mathlib.Core.Path.{◌≡◌}
 use lib.ListN.{length, drop}
-use Rattle.spelling.specs.Bytes.{up_to, Test}
-use Rattle.spelling.proofs.{Split.up_to_run}
+use Rattle.spelling.specs.Bytes.{up_to}
 use Rattle.spelling.proofs.past_clear.Given as goal
 
 abbrev pub invariant-loop-p : goal.invariant-loop-p

@@ -1,9 +1,8 @@
 -- `spelling::put_hex` meets its contract. The invariant: there is room, and the buffer holds the digits of the bytes that were passed. Assumes nothing.
-use Prim.Native.Nat.{◌≤◌, ◌+◌, ◌*◌, ◌-◌}
+use Prim.Native.Nat.{◌+◌, ◌*◌}
 use mathlib.Core.Path.{◌≡◌, refl, ◌∙◌, ap}
 use native.Mathlib.Omega.{arith}
-use borrow.Author.Rules.{rules}
-use lib.{ListN.{length, length-set}, Seq.{paste, paste-zero}}
+use lib.{ListN.{length, length-set}, Seq.{paste-zero}}
 use Rattle.spelling.specs.{Hex.hex, declared.Put.TheVariants.End}
 use Rattle.spelling.proofs.{HexLaws.hex_length, OverLaws.{pasted, hex_more, put_done, put_short, room_yes, room_no}}
 use Rattle.spelling.proofs.put_hex.Goals as goal

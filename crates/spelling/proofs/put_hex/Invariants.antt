@@ -1,11 +1,8 @@
 -- `spelling::put_hex` meets its contract. The invariant: there is room, and the buffer holds the digits of the bytes that were passed. Assumes nothing.
 use Prim.Native.Nat.{◌≤◌, ◌+◌, ◌*◌, ◌-◌}
-use mathlib.Core.Path.{◌≡◌, refl, ◌∙◌, ap}
-use native.Mathlib.Omega.{arith}
-use borrow.Author.Rules.{rules}
-use lib.{ListN.{length, length-set}, Seq.{paste, paste-zero}}
-use Rattle.spelling.specs.{Hex.hex, declared.Put.TheVariants.End}
-use Rattle.spelling.proofs.{HexLaws.hex_length, OverLaws.{pasted, hex_more, put_done, put_short, room_yes, room_no}}
+use mathlib.Core.Path.{◌≡◌}
+use lib.{ListN.{length}, Seq.{paste}}
+use Rattle.spelling.specs.{Hex.hex}
 use Rattle.spelling.proofs.put_hex.Given as goal
 
 abbrev pub invariant-loop-i : goal.invariant-loop-i

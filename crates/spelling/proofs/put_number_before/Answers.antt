@@ -2,7 +2,7 @@
 -- Assumes nothing.
 use native.Mathlib.Omega.{arith}
 use lib.ListN.{length, length-set}
-use Rattle.spelling.proofs.OverLaws.{Digits, before_not, twenty_few, twenty_past, digits_start, digits_room, digits_next, digits_last}
+use Rattle.spelling.proofs.OverLaws.{before_not, twenty_few, twenty_past, digits_start, digits_room, digits_next, digits_last}
 use Rattle.spelling.proofs.put_number_before.Goals as goal
 
 pub returns-then-end-lt20 : goal.returns-then-end-lt20

@@ -1,9 +1,8 @@
 -- `spelling::put_text` meets its contract. The invariant: there is room, and the buffer holds the bytes of the text that were passed. Assumes nothing.
-use Prim.Native.Nat.{ℕ, ◌≤◌, ◌+◌, ◌-◌}
+use Prim.Native.Nat.{ℕ, ◌+◌}
 use mathlib.Core.Path.{◌≡◌, refl, ◌∙◌, ap}
 use native.Mathlib.{Omega.arith, Numerals.add-one}
-use borrow.Author.Rules.{rules}
-use lib.{ListN.{length, length-set}, Seq.{paste, paste-zero, paste-suc}}
+use lib.{ListN.{length, length-set}, Seq.{paste-zero, paste-suc}}
 use Rattle.spelling.specs.declared.Put.TheVariants.{End}
 use Rattle.spelling.proofs.{OverLaws.{pasted, put_done, put_short, room_yes, room_no}}
 use Rattle.spelling.proofs.put_text.Goals as goal

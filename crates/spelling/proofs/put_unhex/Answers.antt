@@ -1,9 +1,8 @@
 -- `spelling::put_unhex` meets its contract. The invariant: there is room, and the buffer holds the bytes of the digits that were passed. Assumes nothing.
-use Prim.Native.Nat.{ℕ, ◌≤◌, ◌+◌, ◌-◌}
+use Prim.Native.Nat.{ℕ, ◌+◌}
 use mathlib.Core.Path.{◌≡◌, refl, ◌∙◌, ap}
 use native.Mathlib.Omega.{arith}
-use borrow.Author.Rules.{rules}
-use lib.{ListN.{length, length-set}, Seq.{paste, paste-zero}}
+use lib.{ListN.{length, length-set}, Seq.{paste-zero}}
 use Rattle.spelling.specs.{Hex.unhex, declared.Put.TheVariants.End}
 use Rattle.spelling.proofs.{HexLaws.unhex_length, OverLaws.{pasted, unhex_more, put_done, put_short, room_yes, room_no}}
 use Rattle.spelling.proofs.put_unhex.Goals as goal

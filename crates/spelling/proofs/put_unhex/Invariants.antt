@@ -1,11 +1,8 @@
 -- `spelling::put_unhex` meets its contract. The invariant: there is room, and the buffer holds the bytes of the digits that were passed. Assumes nothing.
-use Prim.Native.Nat.{ℕ, ◌≤◌, ◌+◌, ◌-◌}
-use mathlib.Core.Path.{◌≡◌, refl, ◌∙◌, ap}
-use native.Mathlib.Omega.{arith}
-use borrow.Author.Rules.{rules}
-use lib.{ListN.{length, length-set}, Seq.{paste, paste-zero}}
-use Rattle.spelling.specs.{Hex.unhex, declared.Put.TheVariants.End}
-use Rattle.spelling.proofs.{HexLaws.unhex_length, OverLaws.{pasted, unhex_more, put_done, put_short, room_yes, room_no}}
+use Prim.Native.Nat.{◌≤◌, ◌+◌, ◌-◌}
+use mathlib.Core.Path.{◌≡◌}
+use lib.{ListN.{length}, Seq.{paste}}
+use Rattle.spelling.specs.{Hex.unhex}
 use Rattle.spelling.proofs.put_unhex.Given as goal
 
 abbrev pub invariant-loop-i : goal.invariant-loop-i

@@ -1,11 +1,8 @@
 -- `spelling::read_number` meets its contract. The invariant: the bytes passed spell the value so far. Assumes nothing.
 use Prim.Native.Nat.{◌≤◌, ◌-◌}
-use mathlib.Core.Path.{◌≡◌, ◌∙◌, ap}
-use native.Mathlib.Omega.{arith}
-use borrow.Author.Rules.{rules}
+use mathlib.Core.Path.{◌≡◌}
 use lib.ListN.{length, take}
 use Rattle.spelling.specs.Decimal.{decimal}
-use Rattle.spelling.proofs.{DecimalLaws.{not_empty, not_digit, not_lead, not_over, first_digit, next_digit, whole}}
 use Rattle.spelling.proofs.read_number.Given as goal
 
 abbrev pub invariant-loop-i : goal.invariant-loop-i

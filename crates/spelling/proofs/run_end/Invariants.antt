@@ -1,11 +1,8 @@
 -- `spelling::run_end` meets its contract. The invariant: from where the search is, the byte is as far as it was from the start. Assumes nothing.
 use Prim.Native.Nat.{◌+◌, ◌-◌}
 use mathlib.Core.Path.{◌≡◌}
-use borrow.Author.Rules.{rules}
-use native.Mathlib.Omega.{arith}
 use lib.ListN.{length, drop}
 use Rattle.spelling.specs.Bytes.{up_to}
-use Rattle.spelling.proofs.{Split.{up_to_at, up_to_stop, up_to_end}}
 use Rattle.spelling.proofs.run_end.Given as goal
 
 abbrev pub invariant-loop-i : goal.invariant-loop-i

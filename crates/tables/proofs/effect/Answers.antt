@@ -1,5 +1,5 @@
 -- The number, or the row.
-use borrow.Author.{Tests.ne_eqb, Rules.rules}
+use borrow.Author.{Tests.ne_eqb}
 use Rattle.tables.specs.Found.{effect_with}
 use Rattle.tables.proofs.effect.Goals as goal
 

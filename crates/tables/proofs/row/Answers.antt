@@ -1,5 +1,4 @@
 -- The row of each call.
-use borrow.Author.Rules.{rules}
 use Rattle.tables.proofs.row.Goals as goal
 
 pub returns-in-Load : goal.returns-in-Load

@@ -1,5 +1,4 @@
 -- By the answer, and a commit's kind.
-use borrow.Author.Rules.{rules}
 use Rattle.tables.proofs.span_of.Goals as goal
 
 pub returns-in-Refused : goal.returns-in-Refused

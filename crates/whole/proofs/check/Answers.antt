@@ -1,7 +1,7 @@
 -- `whole::check` meets its contract: by what is found at the start of the journal. Assumes nothing.
 use mathlib.Core.Path.{refl, sym, ◌∙◌, subst}
-use borrow.Author.{Tests.{not-true, not-false}, Rules.rules}
-use Rattle.journal.specs.{Journal.NextOf, declared.Next.TheVariants.Opening}
+use borrow.Author.{Tests.{not-true, not-false}}
+use Rattle.journal.specs.{Journal.NextOf}
 use Rattle.driver.proofs.Reading.{known}
 use Rattle.whole.proofs.{Checking.{first_long, checks_outside, checks_refused, checks_opened}}
 use Rattle.whole.proofs.check.Goals as goal

@@ -1,11 +1,8 @@
 -- `whole::count_on` meets its contract: each call that goes on gets further on in the journal; the last one is finished. Assumes nothing.
-use Prim.Native.Nat.{◌-◌}
-use mathlib.Core.Path.{◌≡◌, refl, ◌∙◌}
+use mathlib.Core.Path.{refl, ◌∙◌}
 use native.Mathlib.Omega.{arith}
-use lib.ListN.{length}
-use borrow.Author.Rules.{rules}
 use Rattle.protocol.proofs.Tests.{was_true, was_false}
-use Rattle.playing.proofs.Calling.{Called, called_start, call_over, call_further, call_more}
+use Rattle.playing.proofs.Calling.{called_start, call_over, call_further, call_more}
 use Rattle.whole.proofs.count_on.Goals as goal
 
 pub returns-then-not-more_to_play : goal.returns-then-not-more_to_play

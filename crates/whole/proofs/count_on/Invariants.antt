@@ -1,11 +1,8 @@
 -- `whole::count_on` meets its contract: each call that goes on gets further on in the journal; the last one is finished. Assumes nothing.
 use Prim.Native.Nat.{◌-◌}
-use mathlib.Core.Path.{◌≡◌, refl, ◌∙◌}
-use native.Mathlib.Omega.{arith}
+use mathlib.Core.Path.{◌≡◌}
 use lib.ListN.{length}
-use borrow.Author.Rules.{rules}
-use Rattle.protocol.proofs.Tests.{was_true, was_false}
-use Rattle.playing.proofs.Calling.{Called, called_start, call_over, call_further, call_more}
+use Rattle.playing.proofs.Calling.{Called}
 use Rattle.whole.proofs.count_on.Given as goal
 
 abbrev pub invariant-loop-there : goal.invariant-loop-there

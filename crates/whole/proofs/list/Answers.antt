@@ -3,8 +3,7 @@
 use Prim.Native.Nat.{ℕ, ◌≤◌}
 use mathlib.Core.Path.{◌≡◌, sym, ◌∙◌, ap, subst}
 use lib.ListN.{replicate}
-use borrow.Author.Rules.{rules}
-use Rattle.protocol.proofs.{Tests.{was_true, was_false}, Extents.{Inside, inside, private_most, shared_most}}
+use Rattle.protocol.proofs.{Tests.{was_true, was_false}, Extents.{inside, private_most, shared_most}}
 use Rattle.driver.{specs.{Play.Starts, declared.Progress.TheVariants.More}, proofs.Starting.start_fits}
 use Rattle.playing.proofs.{Calling.{goes_on, part_zeros}, Progressing.start_resumes}
 use Rattle.whole.proofs.Lists.{start_lists, new_length, rest_within, left_within, play_lists}

@@ -1,6 +1,5 @@
 -- `whole::private_length` meets its contract: the sizes lie inside the limits. Assumes nothing.
 use native.Mathlib.Omega.{arith}
-use borrow.Author.Rules.{rules}
 use Rattle.protocol.proofs.Extents.{inside, copies_most, private_most}
 use Rattle.whole.proofs.private_length.Goals as goal
 

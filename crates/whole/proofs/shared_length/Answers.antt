@@ -1,6 +1,5 @@
 -- `whole::shared_length` meets its contract: the sizes lie inside the limits. Assumes nothing.
 use native.Mathlib.Omega.{arith}
-use borrow.Author.Rules.{rules}
 use Rattle.protocol.proofs.Extents.{inside, rows_most, shared_most}
 use Rattle.whole.proofs.shared_length.Goals as goal
 

@@ -4,8 +4,7 @@ use Prim.Native.Nat.{ℕ, ◌≤◌}
 use mathlib.Core.{Path.{◌≡◌, sym, ◌∙◌, ap, subst}, Bool.true}
 use native.Mathlib.Omega.{arith}
 use lib.ListN.{length, replicate}
-use borrow.Author.Rules.{rules}
-use Rattle.protocol.proofs.{Tests.{was_true, was_false}, Extents.{Inside, inside, private_most, shared_most}}
+use Rattle.protocol.proofs.{Tests.{was_true, was_false}, Extents.{inside, private_most, shared_most}}
 use Rattle.driver.{specs.{Play.resumable, declared.Progress.TheVariants.More}, proofs.Starting.start_fits}
 use Rattle.playing.proofs.Calling.{played_tally, whole_over, whole_more, whole_played, part_zeros}
 use Rattle.whole.proofs.tally.Goals as goal

@@ -2,7 +2,6 @@
 use mathlib.Core.Path.{ap, ◌∙◌}
 use Rattle.spelling.specs.Over.{over}
 use Rattle.buffers.proofs.{Laws.part_to}
-use borrow.Author.Rules.{rules}
 use Rattle.buffers.proofs.lines.move_line.Goals as goal
 
 pub returns : goal.returns

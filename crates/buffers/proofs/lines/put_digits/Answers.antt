@@ -3,7 +3,6 @@ use Prim.Native.Nat.{◌+◌, ◌/◌, ◌-◌}
 use mathlib.Core.Path.{◌≡◌, sym, ◌∙◌}
 use native.Mathlib.{Omega.arith, Nat.add-sub_cancel_left}
 use lib.{ListN.{length, take, drop}, Seq.drop-drop}
-use borrow.Author.Rules.{rules}
 use Rattle.spelling.{specs.Hex.unhex, proofs.HexLaws.unhex_length}
 use Rattle.protocol.proofs.Bytes.{length_part}
 use Rattle.buffers.proofs.{Laws.put_whole}

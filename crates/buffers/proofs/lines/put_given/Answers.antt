@@ -1,5 +1,4 @@
 -- By how the bytes are given.
-use borrow.Author.Rules.{rules}
 use Rattle.buffers.proofs.lines.put_given.Goals as goal
 
 pub put_line-requires : goal.put_line-requires

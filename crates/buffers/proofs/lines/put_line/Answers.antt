@@ -1,7 +1,6 @@
 -- The part that was lent holds the source; what is before and after it stays.
 use native.Mathlib.Nat.{add-sub_cancel_left}
 use lib.Seq.{drop-drop}
-use borrow.Author.Rules.{rules}
 use Rattle.buffers.proofs.lines.put_line.Goals as goal
 
 pub returns : goal.returns

@@ -6,7 +6,6 @@ use lib.{ListN.{length, length-append}, Seq.take_at}
 use Rattle.spelling.specs.Over.{over}
 use Rattle.protocol.{specs.Buffers.part, proofs.Bytes.length_part}
 use Rattle.buffers.proofs.{Laws.part_to}
-use borrow.Author.Rules.{rules}
 use Rattle.buffers.proofs.lines.shift_line.Goals as goal
 use Rattle.buffers.proofs.lines.shift_line.Goals.{After-copy_line}
 

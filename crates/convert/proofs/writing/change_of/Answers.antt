@@ -1,5 +1,4 @@
 -- `convert::writing::change_of` meets its contract, by the form. Assumes nothing.
-use borrow.Author.Rules.{rules}
 use Rattle.convert.proofs.writing.change_of.Goals as goal
 
 pub returns-in-First : goal.returns-in-First

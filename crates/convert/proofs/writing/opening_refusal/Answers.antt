@@ -1,6 +1,5 @@
 -- `convert::writing::opening_refusal` meets its contract: 7, then 32. Assumes nothing.
 use mathlib.Core.Path.{sym, ◌∙◌}
-use borrow.Author.Rules.{rules}
 use Rattle.protocol.{specs.Pick.first, proofs.Tests.{was_false, was_true}}
 use Rattle.convert.specs.Writing.{opening_refusal}
 use Rattle.convert.proofs.writing.opening_refusal.Goals as goal

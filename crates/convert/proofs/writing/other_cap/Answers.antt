@@ -1,6 +1,5 @@
 -- `convert::writing::other_cap` meets its contract. Assumes nothing.
 use lib.Dec.{eqb}
-use borrow.Author.Rules.{rules}
 use Rattle.protocol.proofs.Tests.{not_fails}
 use Rattle.convert.proofs.writing.other_cap.Goals as goal
 

@@ -1,5 +1,5 @@
 -- `convert::writing::owns_with` meets its contract: a refused evict gives up nothing. Assumes nothing.
-use borrow.Author.{Rules.rules, Tests.{eq-eqb, ne_eqb}}
+use borrow.Author.{Tests.{eq-eqb, ne_eqb}}
 use Rattle.convert.proofs.writing.owns_with.Goals as goal
 
 pub returns-then-number-ne0 : goal.returns-then-number-ne0

@@ -1,6 +1,5 @@
 -- `convert::writing::put` meets its contract: the text was put, or had no room. Assumes nothing.
 use native.Mathlib.Omega.{arith}
-use borrow.Author.Rules.{rules}
 use Rattle.convert.proofs.{Appending.{put_appends, short_appends}}
 use Rattle.convert.proofs.writing.put.Goals as goal
 

@@ -1,7 +1,6 @@
 -- `convert::writing::put_line` meets its contract, change by change: the new kind, and the line from its keys on. Assumes nothing.
 use Prim.Native.Nat.{◌≤◌}
 use lib.ListN.{length}
-use borrow.Author.Rules.{rules}
 use Rattle.spelling.specs.Text.{text}
 use Rattle.convert.proofs.{Appending.{append_same, from_on}}
 use Rattle.convert.proofs.writing.put_line.Goals as goal
@@ -50,4 +49,3 @@ slice_bounds-put_kind-start-in-FromDrop c = dropped (goal.at.slice_bounds-put_ki
 
 pub slice_bounds-put_kind-start-in-FromWriteback : goal.slice_bounds-put_kind-start-in-FromWriteback
 slice_bounds-put_kind-start-in-FromWriteback c = written (goal.at.slice_bounds-put_kind-start-in-FromWriteback c).In-FromWriteback
-

@@ -1,5 +1,4 @@
 -- `convert::writing::put_opening` meets its contract: the line is as the grammar spells it. Assumes nothing.
-use borrow.Author.Rules.{rules}
 use Rattle.convert.proofs.{Appending.{first_line_lem, second_line, holds_more, holds_same}}
 use Rattle.convert.proofs.writing.put_opening.Goals as goal
 

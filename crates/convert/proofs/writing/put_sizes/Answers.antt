@@ -1,6 +1,5 @@
 -- `convert::writing::put_sizes` meets its contract: one field after the other. Assumes nothing.
 use Rattle.spelling.specs.{Decimal.decimal, Text.text}
-use borrow.Author.Rules.{rules}
 use Rattle.convert.proofs.{Appending.{fields, holds_first, holds_more, holds_same}}
 use Rattle.convert.proofs.writing.put_sizes.Goals as goal
 

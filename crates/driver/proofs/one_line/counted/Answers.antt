@@ -1,6 +1,5 @@
 -- `driver::one_line::counted` meets its contract: no count passes the greatest number. Assumes nothing.
 use native.Mathlib.{Nat.add-zero, Omega.arith}
-use borrow.Author.Rules.{rules}
 use Rattle.driver.proofs.{Counting.{Each, each_few}}
 use Rattle.driver.proofs.one_line.counted.Goals as goal
 use Rattle.driver.proofs.one_line.counted.Goals.{Start}

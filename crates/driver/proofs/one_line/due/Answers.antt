@@ -6,7 +6,6 @@ use Rattle.protocol.specs.Refusals.{call_refusal, or_else}
 use Rattle.journal.specs.Journal.{NextOf}
 use Rattle.driver.specs.{Listing.{at_end, at_refusal}, Pieces.{a_step, the_end}, declared.Last.TheVariants.Refused}
 use Rattle.driver.proofs.{Reading.known}
-use borrow.Author.Rules.{rules}
 use Rattle.driver.proofs.one_line.due.Goals as goal
 
 pub returns-in-Opening : goal.returns-in-Opening

@@ -1,5 +1,4 @@
 -- `driver::one_line::first` meets its contract: nothing is counted, and the state is fresh. Assumes nothing.
-use borrow.Author.Rules.{rules}
 use Rattle.driver.proofs.one_line.first.Goals as goal
 
 pub returns : goal.returns

@@ -1,5 +1,4 @@
 -- `driver::one_line::met` meets its contract: the class is that of the call with its answer. Assumes nothing.
-use borrow.Author.Rules.{rules}
 use Rattle.driver.proofs.one_line.met.Goals as goal
 
 pub counted-requires : goal.counted-requires

@@ -1,5 +1,5 @@
 -- `driver::one_line::number_of` meets its contract: 1 and 2 come first. Assumes nothing.
-use borrow.Author.{Tests.{eq-eqb, ne_eqb}, Rules.rules}
+use borrow.Author.{Tests.{eq-eqb, ne_eqb}}
 use Rattle.driver.proofs.one_line.number_of.Goals as goal
 
 pub returns-then-base-ne0 : goal.returns-then-base-ne0

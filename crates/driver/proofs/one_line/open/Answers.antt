@@ -1,6 +1,5 @@
 -- `driver::one_line::open` meets its contract: the line is put, or has no room. Assumes nothing.
 use Rattle.protocol.specs.Step.{meaning}
-use borrow.Author.Rules.{rules}
 use Rattle.driver.proofs.one_line.open.Goals as goal
 
 pub returns-in-End : goal.returns-in-End

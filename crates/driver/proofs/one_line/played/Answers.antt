@@ -1,5 +1,4 @@
 -- `driver::one_line::played` meets its contract: its parts are those of what was put. Assumes nothing.
-use borrow.Author.Rules.{rules}
 use Rattle.driver.proofs.one_line.played.Goals as goal
 
 pub returns : goal.returns

@@ -4,7 +4,6 @@ use lib.ListN.{length}
 use mathlib.Core.Path.{◌≡◌, sym, ◌∙◌}
 use native.Mathlib.Omega.{arith}
 use Rattle.driver.proofs.{Stepping.{act_bytes_are, given_else}}
-use borrow.Author.Rules.{rules}
 use Rattle.driver.proofs.one_line.put_answer.Goals as goal
 use Rattle.driver.proofs.one_line.put_answer.Goals.{After-span_of-span}
 

@@ -1,5 +1,4 @@
 -- `driver::one_line::put_last` meets its contract: the end line alone, or after the line that is refused. Assumes nothing.
-use borrow.Author.Rules.{rules}
 use Rattle.driver.proofs.one_line.put_last.Goals as goal
 
 pub returns-in-Refused : goal.returns-in-Refused

@@ -1,8 +1,7 @@
 -- `driver::one_line::put_stop` meets its contract: both lines fit the local buffer, and are put in one piece. Assumes nothing.
 use mathlib.Core.Path.{refl}
 use Rattle.protocol.specs.Step.{meaning}
-use Rattle.driver.proofs.{Putting.{first_fits, second_fits, last_within, last_text}}
-use borrow.Author.Rules.{rules}
+use Rattle.driver.proofs.{Putting.{first_fits, second_fits, last_text}}
 use Rattle.driver.proofs.one_line.put_stop.Goals as goal
 
 pub returns-in-Short : goal.returns-in-Short

@@ -1,5 +1,4 @@
 -- `driver::one_line::refuse` meets its contract: the lines are put, or have no room. Assumes nothing.
-use borrow.Author.Rules.{rules}
 use Rattle.driver.proofs.one_line.refuse.Goals as goal
 
 pub returns-in-End : goal.returns-in-End

@@ -1,5 +1,4 @@
 -- `driver::one_line::unopened` meets its contract: the first checkpoint of the smallest opening. Assumes nothing.
-use borrow.Author.Rules.{rules}
 use Rattle.driver.proofs.one_line.unopened.Goals as goal
 
 pub returns : goal.returns

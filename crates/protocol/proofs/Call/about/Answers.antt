@@ -1,5 +1,4 @@
 -- By the call.
-use borrow.Author.Rules.{rules}
 use Rattle.protocol.proofs.Call.about.Goals as goal
 
 pub returns-in-Load : goal.returns-in-Load

@@ -1,5 +1,4 @@
 -- By the answer.
-use borrow.Author.Rules.{rules}
 use Rattle.protocol.specs.Step.{meaning}
 use Rattle.protocol.proofs.Class.of.Goals as goal
 

@@ -1,5 +1,4 @@
 -- The clocks after a fence, by what `later` gives.
-use borrow.Author.Rules.{rules}
 use Rattle.protocol.proofs.Clocks.fence.Goals as goal
 
 pub returns : goal.returns

@@ -1,5 +1,4 @@
 -- The clocks after a load, by what `later` gives.
-use borrow.Author.Rules.{rules}
 use Rattle.protocol.proofs.Clocks.load.Goals as goal
 
 pub returns : goal.returns

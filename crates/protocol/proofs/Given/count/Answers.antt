@@ -1,5 +1,4 @@
 -- By how the bytes are given.
-use borrow.Author.Rules.{rules}
 use Rattle.protocol.proofs.Given.count.Goals as goal
 
 pub returns-in-Digits : goal.returns-in-Digits

@@ -1,6 +1,5 @@
 -- The timestamps decide, and the places where they are equal.
 use mathlib.Core.Path.{sym, ◌∙◌}
-use borrow.Author.Rules.{rules}
 use Rattle.protocol.proofs.Key.precedes.Goals as goal
 
 pub returns-then-same : goal.returns-then-same

@@ -1,7 +1,6 @@
 -- The five limits, one after the other.
 use Rattle.protocol.proofs.{Tests.{was_false, both_goes}}
 use Rattle.protocol.specs.Limits.{opening_fits}
-use borrow.Author.Rules.{rules}
 use Rattle.protocol.proofs.Opening.fits.Goals as goal
 
 pub returns-then-not-within-2 : goal.returns-then-not-within-2

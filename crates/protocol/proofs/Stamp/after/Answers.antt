@@ -1,7 +1,7 @@
 -- The sum fits exactly if the summand is at most what is left.
 use Prim.Native.Nat.{◌+◌}
 use native.Mathlib.Omega.{arith}
-use borrow.Author.{Rules.rules, Tests.{le-leb, lt-leb}}
+use borrow.Author.{Tests.{le-leb, lt-leb}}
 use Rattle.protocol.proofs.Stamp.after.Goals as goal
 
 pub returns-then-n-most : goal.returns-then-n-most

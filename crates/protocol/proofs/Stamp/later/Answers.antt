@@ -1,7 +1,7 @@
 -- The later of two timestamps is the greater number.
 use mathlib.Core.Path.{sym, ◌∙◌}
 use native.Mathlib.Nat.{max-eq_left, max-eq_right, le_of_lt}
-use borrow.Author.{Rules.rules, Tests.{ltb-true, ltb-false}}
+use borrow.Author.{Tests.{ltb-true, ltb-false}}
 use Rattle.protocol.proofs.Stamp.later.Goals as goal
 
 pub returns-then-earlier : goal.returns-then-earlier

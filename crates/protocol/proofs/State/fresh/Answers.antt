@@ -1,5 +1,4 @@
 -- Every core, cell and line is the fresh one.
-use borrow.Author.Rules.{rules}
 use Rattle.protocol.proofs.State.fresh.Goals as goal
 
 pub returns : goal.returns

@@ -1,5 +1,4 @@
 -- By what the call does.
-use borrow.Author.Rules.{rules}
 use Rattle.refusals.proofs.input.by_nothing.Goals as goal
 
 pub returns-in-Advance : goal.returns-in-Advance

@@ -1,6 +1,5 @@
 -- The tests in their order, of what the call is about.
 use Rattle.protocol.specs.{Pick.first, Refusals.{call_rules, call_refusal}}
-use borrow.Author.Rules.{rules}
 use Rattle.refusals.proofs.input.call_refusal.Goals as goal
 
 pub returns-then-no_line : goal.returns-then-no_line

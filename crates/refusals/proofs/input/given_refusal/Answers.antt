@@ -1,6 +1,5 @@
 -- Digits are looked at, bytes are not.
 use mathlib.Core.Path.{sym, subst}
-use borrow.Author.Rules.{rules}
 use Rattle.spelling.specs.Hex.{DataTest}
 use Rattle.protocol.proofs.Digits.{digits_right, digits_wrong}
 use Rattle.refusals.proofs.input.given_refusal.Goals as goal

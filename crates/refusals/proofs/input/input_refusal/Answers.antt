@@ -1,6 +1,6 @@
 -- 13, then 1 and 2, then 3 to 6.
 use mathlib.Core.Path.{sym, ◌∙◌}
-use borrow.Author.{Rules.rules, Tests.ne_eqb}
+use borrow.Author.{Tests.ne_eqb}
 use Rattle.protocol.proofs.Digits.{count_given}
 use Rattle.refusals.proofs.input.input_refusal.Goals as goal
 

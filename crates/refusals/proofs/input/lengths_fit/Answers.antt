@@ -1,5 +1,4 @@
 -- The opening, then the lengths.
-use borrow.Author.Rules.{rules}
 use Rattle.protocol.proofs.Tests.{was_false, was_true}
 use Rattle.refusals.proofs.input.lengths_fit.Goals as goal
 

@@ -1,5 +1,4 @@
 -- 1, then 2.
-use borrow.Author.Rules.{rules}
 use lib.ListN.{length-replicate}
 use Rattle.protocol.{specs.{Pick.first, Refusals.{machine_refusal, state_fits}}, proofs.Tests.{both_true, was_false, was_true}}
 use Rattle.refusals.proofs.input.machine_refusal.Goals as goal

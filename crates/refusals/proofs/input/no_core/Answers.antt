@@ -1,5 +1,4 @@
 -- By whom the call is about.
-use borrow.Author.Rules.{rules}
 use Rattle.refusals.proofs.input.no_core.Goals as goal
 
 pub returns-in-Named : goal.returns-in-Named

@@ -1,5 +1,4 @@
 -- By which line the call is about.
-use borrow.Author.Rules.{rules}
 use Rattle.refusals.proofs.input.no_line.Goals as goal
 
 pub returns-in-Named : goal.returns-in-Named

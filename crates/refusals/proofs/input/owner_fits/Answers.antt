@@ -1,5 +1,4 @@
 -- By the manager's part of a line.
-use borrow.Author.Rules.{rules}
 use Rattle.refusals.proofs.input.owner_fits.Goals as goal
 
 pub returns-in-Owned : goal.returns-in-Owned

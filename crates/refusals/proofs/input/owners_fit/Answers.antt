@@ -1,9 +1,7 @@
 -- The lines passed fit, so all of them fit if those that are left do.
-use Prim.Native.Nat.{◌≤◌, ◌-◌}
 use borrow.Author.Rules.{rules}
-use lib.ListN.{length}
-use Rattle.protocol.specs.{Fresh.fresh_line, Refusals.{owner_fits, owners_fit}, declared.ManagerLine.ManagerLine}
-use Rattle.protocol.proofs.Scan.{Scanned, scan_on, scan_fails, scan_ends}
+use Rattle.protocol.specs.{Fresh.fresh_line, Refusals.{owners_fit}}
+use Rattle.protocol.proofs.Scan.{scan_on, scan_fails, scan_ends}
 use Rattle.refusals.proofs.input.owners_fit.Goals as goal
 
 pub returns-then-not-owner_fits : goal.returns-then-not-owner_fits

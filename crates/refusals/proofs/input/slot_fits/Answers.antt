@@ -1,5 +1,4 @@
 -- By the slot's case.
-use borrow.Author.Rules.{rules}
 use Rattle.refusals.proofs.input.slot_fits.Goals as goal
 
 pub returns-in-Asked : goal.returns-in-Asked

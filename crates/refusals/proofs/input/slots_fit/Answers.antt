@@ -1,8 +1,6 @@
 -- The cores passed fit, so all of them fit if those that are left do.
-use Prim.Native.Nat.{◌≤◌, ◌-◌}
 use borrow.Author.Rules.{rules}
-use lib.ListN.{length}
-use Rattle.protocol.{specs.{Fresh.fresh_core, Refusals.{slot_fits, slots_fit}, declared.Core.Core}, proofs.Scan.{Scanned, scan_on, scan_fails, scan_ends}}
+use Rattle.protocol.{specs.{Fresh.fresh_core, Refusals.{slots_fit}}, proofs.Scan.{scan_on, scan_fails, scan_ends}}
 use Rattle.refusals.proofs.input.slots_fit.Goals as goal
 
 pub returns-then-not-slot_fits : goal.returns-then-not-slot_fits

@@ -1,8 +1,7 @@
 -- The cores passed fit, so all of them fit if those that are left do.
 use Prim.Native.Nat.{◌≤◌, ◌-◌}
-use borrow.Author.Rules.{rules}
 use lib.ListN.{length}
-use Rattle.protocol.{specs.{Fresh.fresh_core, Refusals.{slot_fits, slots_fit}, declared.Core.Core}, proofs.Scan.{Scanned, scan_on, scan_fails, scan_ends}}
+use Rattle.protocol.{specs.{Refusals.{slot_fits}, declared.Core.Core}, proofs.Scan.{Scanned}}
 use Rattle.refusals.proofs.input.slots_fit.Given as goal
 
 abbrev pub invariant-loop-i : goal.invariant-loop-i

@@ -1,5 +1,4 @@
 -- The opening, the owners and the slots, one after the other.
-use borrow.Author.Rules.{rules}
 use Rattle.protocol.{specs.Refusals.state_fits, proofs.{Tests.{was_false, was_true}, Extents.inside}}
 use Rattle.refusals.proofs.input.state_fits.Goals as goal
 

@@ -1,5 +1,4 @@
 -- By what the call does.
-use borrow.Author.Rules.{rules}
 use lib.Dec.{eqb}
 use Rattle.protocol.proofs.Tests.{not_fails}
 use Rattle.refusals.proofs.input.wrong_count.Goals as goal

@@ -1,5 +1,4 @@
 -- The core, where it is found.
-use borrow.Author.Rules.{rules}
 use Rattle.tables.proofs.about.core_of.Goals as goal
 
 pub returns : goal.returns

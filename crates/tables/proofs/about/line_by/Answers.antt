@@ -1,5 +1,4 @@
 -- By which line the call is about.
-use borrow.Author.Rules.{rules}
 use Rattle.tables.proofs.about.line_by.Goals as goal
 
 pub returns-in-Asked : goal.returns-in-Asked

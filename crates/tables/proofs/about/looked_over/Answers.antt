@@ -1,7 +1,6 @@
 -- Whether the call looks over its core's copies, and whether there are so many lines.
-use mathlib.Core.Path.{refl}
 use native.Mathlib.Omega.{arith}
-use borrow.Author.{Rules.rules, Tests.{le-leb, lt-leb}}
+use borrow.Author.{Tests.{le-leb, lt-leb}}
 use Rattle.protocol.proofs.Tests.{was_false, was_true}
 use Rattle.tables.proofs.about.looked_over.Goals as goal
 

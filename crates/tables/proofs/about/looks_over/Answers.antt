@@ -1,5 +1,4 @@
 -- By which line the call is about.
-use borrow.Author.Rules.{rules}
 use Rattle.tables.proofs.about.looks_over.Goals as goal
 
 pub returns-in-Answered : goal.returns-in-Answered

@@ -1,5 +1,4 @@
 -- The line, where it is found.
-use borrow.Author.Rules.{rules}
 use Rattle.tables.proofs.about.named_line.Goals as goal
 
 pub returns : goal.returns

@@ -1,5 +1,4 @@
 -- By the slot.
-use borrow.Author.Rules.{rules}
 use Rattle.tables.proofs.about.slot_line.Goals as goal
 
 pub returns-in-Asked : goal.returns-in-Asked

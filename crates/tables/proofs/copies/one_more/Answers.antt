@@ -1,6 +1,6 @@
 -- Below the greatest number, or there.
 use native.Mathlib.Omega.{arith}
-use borrow.Author.{Rules.rules, Tests.{lt-ltb, le-ltb}}
+use borrow.Author.{Tests.{lt-ltb, le-ltb}}
 use Rattle.tables.proofs.copies.one_more.Goals as goal
 
 pub returns-then-copies-lt-MOST_LINES : goal.returns-then-copies-lt-MOST_LINES

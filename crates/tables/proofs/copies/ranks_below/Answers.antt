@@ -1,6 +1,5 @@
 -- By rts, then by line.
-use mathlib.Core.Path.{refl, sym, ◌∙◌}
-use borrow.Author.Rules.{rules}
+use mathlib.Core.Path.{sym, ◌∙◌}
 use Rattle.protocol.specs.Copies.{below}
 use Rattle.protocol.proofs.Tests.{was_false, was_true}
 use Rattle.tables.proofs.{Looking.last_below}

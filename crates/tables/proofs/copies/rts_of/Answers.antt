@@ -1,5 +1,4 @@
 -- By the copy.
-use borrow.Author.Rules.{rules}
 use Rattle.tables.proofs.copies.rts_of.Goals as goal
 
 pub returns-in-None : goal.returns-in-None

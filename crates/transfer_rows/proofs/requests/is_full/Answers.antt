@@ -1,5 +1,4 @@
 -- A copy that is brought, and the room for it.
-use borrow.Author.Rules.{rules}
 use Rattle.protocol.proofs.Tests.{was_false, both_goes}
 use Rattle.transfer_rows.proofs.requests.is_full.Goals as goal
 

@@ -1,5 +1,4 @@
 -- By the copy.
-use borrow.Author.Rules.{rules}
 use Rattle.transfer_rows.proofs.requests.no_room.Goals as goal
 
 pub returns-in-None : goal.returns-in-None

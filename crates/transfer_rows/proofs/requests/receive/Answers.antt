@@ -1,6 +1,5 @@
 -- By the slot: 22, or the grant in it, which 31 may refuse.
 use mathlib.Core.Path.{sym, ◌∙◌}
-use borrow.Author.Rules.{rules}
 use Rattle.protocol.specs.{Pick.first, Refusals.{state_rules, state_refusal}, Tables.{receive_table, table_of, effect_of}}
 use Rattle.transfer_rows.proofs.requests.receive.Goals as goal
 

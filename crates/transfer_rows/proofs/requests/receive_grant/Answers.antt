@@ -1,5 +1,4 @@
 -- The receive table's rows, by the grant.
-use borrow.Author.Rules.{rules}
 use Rattle.protocol.specs.Tables.{receive_grant}
 use Rattle.transfer_rows.proofs.requests.receive_grant.Goals as goal
 

@@ -1,5 +1,4 @@
 -- A renewal, by the copy.
-use borrow.Author.Rules.{rules}
 use Rattle.protocol.specs.Tables.{receive_renew}
 use Rattle.transfer_rows.proofs.requests.receive_renew.Goals as goal
 

@@ -1,5 +1,4 @@
 -- The versions are equal exactly if their timestamps are.
-use borrow.Author.Rules.{rules}
 use Rattle.transfer_rows.proofs.requests.same_version.Goals as goal
 
 pub returns-in-Version : goal.returns-in-Version

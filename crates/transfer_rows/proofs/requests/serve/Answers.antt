@@ -1,6 +1,5 @@
 -- By the slot: 21, or the request in it.
 use mathlib.Core.Path.{refl}
-use borrow.Author.Rules.{rules}
 use Rattle.protocol.specs.{Machine.pieces, Pick.first, Refusals.{serve_passes, state_rules, state_refusal}, Tables.{serve_table, table_of, effect_of}}
 use Rattle.protocol.{specs.declared.Slot.TheVariants.Asked, proofs.Refusals.ruled}
 use Rattle.transfer_rows.proofs.requests.serve.Goals as goal

@@ -1,6 +1,5 @@
 -- By the manager and the request: the row, or 27.
 use mathlib.Core.Path.{sym, ◌∙◌}
-use borrow.Author.Rules.{rules}
 use Rattle.protocol.{specs.Tables.serve_asked, proofs.Stamps.{sum_at, sum_passes}}
 use Rattle.transfer_rows.proofs.{Laws.owned_passes}
 use Rattle.transfer_rows.proofs.requests.serve_asked.Goals as goal

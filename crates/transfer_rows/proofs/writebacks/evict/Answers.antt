@@ -1,6 +1,5 @@
 -- By the copy: 26, or the row.
 use mathlib.Core.Path.{◌∙◌}
-use borrow.Author.Rules.{rules}
 use Rattle.transfer_rows.proofs.{Laws.evict_effect}
 use Rattle.transfer_rows.proofs.writebacks.evict.Goals as goal
 

@@ -1,5 +1,4 @@
 -- By the copy: 26, or the row.
-use borrow.Author.Rules.{rules}
 use Rattle.protocol.specs.Tables.{evict_table}
 use Rattle.transfer_rows.proofs.writebacks.give_up.Goals as goal
 

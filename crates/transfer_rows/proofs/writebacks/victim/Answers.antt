@@ -1,5 +1,5 @@
 -- By whether the core holds a copy.
-use borrow.Author.{Rules.rules, Tests.{eq-eqb, ne_eqb}}
+use borrow.Author.{Tests.{eq-eqb, ne_eqb}}
 use Rattle.protocol.specs.{Pick.first, Refusals.{state_rules, state_refusal}, Tables.{victim_table, table_of, effect_of}}
 use Rattle.transfer_rows.proofs.writebacks.victim.Goals as goal
 

@@ -1,5 +1,4 @@
 -- By the copy: 26, 30, or the row.
-use borrow.Author.Rules.{rules}
 use Rattle.protocol.specs.{Pick.first, Refusals.{state_rules, state_refusal}, Tables.{evict_table, table_of, effect_of}}
 use Rattle.transfer_rows.proofs.writebacks.writeback.Goals as goal
 

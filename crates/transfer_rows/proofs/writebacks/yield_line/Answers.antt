@@ -1,5 +1,4 @@
 -- By the recall and the owner's copy: 23, 24, or the row.
-use borrow.Author.Rules.{rules}
 use Rattle.protocol.{specs.{Pick.first, Refusals.{state_rules, state_refusal}, Tables.{yield_table, table_of, effect_of}}, proofs.Tests.{was_false, was_true}}
 use Rattle.transfer_rows.proofs.writebacks.yield_line.Goals as goal
 

@@ -1,5 +1,4 @@
 -- What is left of the copy, by the recall.
-use borrow.Author.Rules.{rules}
 use Rattle.transfer_rows.proofs.writebacks.yielded_copy.Goals as goal
 
 pub returns-in-Downgrade : goal.returns-in-Downgrade

@@ -1,6 +1,5 @@
 -- By whether the copy is held, whether one was found, and their ranks.
 use mathlib.Core.Path.{sym, ◌∙◌}
-use borrow.Author.Rules.{rules}
 use Rattle.protocol.proofs.Tests.{was_false, was_true}
 use Rattle.tables.specs.Look.{with_copy}
 use Rattle.tables.proofs.copies.Look.with.Goals as goal
