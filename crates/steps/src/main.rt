@@ -3,24 +3,16 @@
 // A read that fails is no end: nothing is listed then. That a read or a write failed, and why, is one
 // line on standard error.
 #![tactic(auto)]
-use runner::{Input, Ran, Texts};
+use runner::Texts;
 
-// The failing call is the last one before its line is written, so that errno is its own.
-fn main() {
+// The status is 0 also where something failed.
+fn main(rt: HostRuntime) {
     let mut journal = [0u8; 65537];
-    let input = runner::read_input(&mut journal);
-    match input {
-        Input::Read(n) => {
-            let ran = runner::play_whole(&journal[..n], Texts::Written);
-            match ran {
-                Ran::Whole(_) => {}
-                Ran::Cut => {
-                    os::fail(b"steps: cannot write standard output");
-                }
-            }
-        }
-        Input::Failed => {
-            os::fail(b"steps: cannot read standard input");
-        }
+    match runner::read_input(&mut rt.stdin(), &mut journal) {
+        Ok(n) => match runner::play_whole(&journal[..n], Texts::Written, &mut rt.stdout()) {
+            Ok(_) => {}
+            Err(why) => runner::complain(&mut rt.stderr(), b"steps: cannot write standard output", why),
+        },
+        Err(why) => runner::complain(&mut rt.stderr(), b"steps: cannot read standard input", why),
     }
 }

@@ -6,20 +6,19 @@
 ghost use Rattle.playing.specs.Listing.{Tally};
 ghost use Rattle.tally.specs.Line.{LineOf};
 
-use libc::STDOUT_FILENO;
 use protocol::Counts;
-use runner::{Input, Ran, Texts};
+use runner::Texts;
 use spelling::Put;
+use std::io;
 
 // The tally of a journal.
 fn count(journal: &[u8]) -> Counts
     ensures { Tally journal.now result }
 {
-    let ran = runner::play_whole(journal, Texts::Dropped);
-    match ran {
-        Ran::Whole(counts) => counts,
+    match runner::play_whole(journal, Texts::Dropped, &mut io::sink()) {
+        Ok(counts) => counts,
         // No write fails where the listing is dropped.
-        Ran::Cut => Counts::NONE,
+        Err(_) => Counts::NONE,
     }
 }
 
@@ -35,20 +34,18 @@ fn put_line(journal: &[u8], line: &mut [u8; 256]) -> usize
     }
 }
 
-// The failing call is the last one before its line is written, so that errno is its own.
-fn main() {
+// The status is 0 also where something failed.
+fn main(rt: HostRuntime) {
     let mut journal = [0u8; 65537];
     let mut line = [0u8; 256];
-    let input = runner::read_input(&mut journal);
-    match input {
-        Input::Read(n) => {
+    match runner::read_input(&mut rt.stdin(), &mut journal) {
+        Ok(n) => {
             let end = put_line(&journal[..n], &mut line);
-            if !io::write_all(STDOUT_FILENO, &line[0..end]) {
-                os::fail(b"tally: cannot write standard output");
+            match runner::write_all(&mut rt.stdout(), &line[..end]) {
+                Ok(()) => {}
+                Err(why) => runner::complain(&mut rt.stderr(), b"tally: cannot write standard output", why),
             }
         }
-        Input::Failed => {
-            os::fail(b"tally: cannot read standard input");
-        }
+        Err(why) => runner::complain(&mut rt.stderr(), b"tally: cannot read standard input", why),
     }
 }

@@ -5,33 +5,24 @@
 // standard error.
 #![tactic(auto)]
 use convert::Converted;
-use libc::{STDERR_FILENO, STDOUT_FILENO};
-use runner::Input;
 
-// The failing call is the last one before its line is written, so that errno is its own. Where standard error does not take the
-// line of a refusal, there is nothing left to say it with.
-fn main() {
+// The status is 0 also where something failed. Where standard error does not take the line of a refusal, there is nothing left to say it
+// with.
+fn main(rt: HostRuntime) {
     let mut journal = [0u8; 65537];
     let mut out = [0u8; 65536];
     let mut line = [0u8; 32];
-    let input = runner::read_input(&mut journal);
-    match input {
-        Input::Read(n) => {
-            let converted = convert::to2(&journal[..n], &mut out);
-            match converted {
-                Converted::Length(end) => {
-                    if !io::write_all(STDOUT_FILENO, &out[0..end]) {
-                        os::fail(b"to2: cannot write standard output");
-                    }
-                }
-                Converted::Refused(number) => {
-                    let start = converter::put_refusal(&mut line, number);
-                    io::write_all(STDERR_FILENO, &line[start..]);
-                }
+    match runner::read_input(&mut rt.stdin(), &mut journal) {
+        Ok(n) => match convert::to2(&journal[..n], &mut out) {
+            Converted::Length(end) => match runner::write_all(&mut rt.stdout(), &out[..end]) {
+                Ok(()) => {}
+                Err(why) => runner::complain(&mut rt.stderr(), b"to2: cannot write standard output", why),
+            },
+            Converted::Refused(number) => {
+                let start = converter::put_refusal(&mut line, number);
+                let _ = runner::write_all(&mut rt.stderr(), &line[start..]);
             }
-        }
-        Input::Failed => {
-            os::fail(b"to2: cannot read standard input");
-        }
+        },
+        Err(why) => runner::complain(&mut rt.stderr(), b"to2: cannot read standard input", why),
     }
 }
