@@ -7,8 +7,7 @@ use lib.{ListN.{length, drop, length-drop, drop_of_length-le}, Seq.take_all}
 use denote.Ref.{Bor}
 use Rattle.protocol.specs.Buffers.{Bytes, part}
 use Rattle.engine.specs.Calls.{PartOf}
-use Rattle.engine.proofs.part.Statement.{statement}
-use Rattle.engine.proofs.part.Tie as tie
+use Rattle.engine.proofs.part.Goals as goal
 
 past : (xs : Bytes) (a n : ℕ) → length xs ≤ a → part xs a n ≡ []
 past xs a n h = rw (drop_of_length-le xs h) (take_all n [] (omega arith))
@@ -24,31 +23,20 @@ inside :
     → start ≤ length s.now → r.ref_ptr ≡ (s.ref_ptr.0, start + s.ref_ptr.1) → r.now ≡ part s.now start count → PartOf s start count r
 inside {s} {r} {start} {count} h p b = let e : min start (length s.now) ≡ start = omega arith in record { pointer = rw e p; bytes = b }
 
-returns : tie.Need-returns
-returns c =
-    let a = c.before.before.args in
+pub returns-then-length-start : goal.returns-then-length-start
+returns-then-length-start c =
+    let a = c.args in
     let xs = a.bytes.now in
     let e : min a.start (length xs) ≡ length xs = omega arith in
     record { pointer = rw e; bytes = past xs (length xs) (length xs - length xs) (omega arith) ∙ sym (past xs a.start a.count (omega arith)) }
 
-returns-2 : tie.Need-returns-2
-returns-2 c =
-    let a = c.before.before.before.args in
+pub returns-then-length-start-2 : goal.returns-then-length-start-2
+returns-then-length-start-2 c =
+    let a = c.args in
     inside (omega arith) refl (rest a.bytes.now a.start a.count (omega arith))
 
-returns-3 : tie.Need-returns-3
-returns-3 c =
-    let a = c.before.before.before.args in
+pub returns : goal.returns
+returns c =
+    let a = c.args in
     let e : a.start + a.count - a.start ≡ a.count = omega arith in
     inside (omega arith) refl (ap (part a.bytes.now a.start) e)
-
-pub part_spec : {M : Type 1} → statement M
-part_spec =
-    tie.close
-    (tie.spec
-    (λ c. search rules) (λ c. search rules) (λ c. search rules)
-    returns
-    (λ c. search rules) (λ c. search rules)
-    returns-2
-    (λ c. search rules) (λ c. search rules) (λ c. search rules) (λ c. search rules)
-    returns-3)
