@@ -14,6 +14,7 @@ use Rattle.playing.specs.Theorems.{Begun, listed, running, Onward, ends, further
 use Rattle.playing.proofs.{Whole.{whole_theorem, begins_pieces}, Progressing.{start_advances_theorem, play_advances_theorem}, OneReading.one_reading_theorem}
 use Rattle.playing.proofs.Pieces.{PiecesAt, onward as onward_pieces, ended as ended_pieces, joined_append, joined_lines, joined_pieces, pieces_theorem}
 use Rattle.runner.specs.Ran.{more_to_play, Gets, Kept, kept, unwritten, ListingFrom, RanFrom, ended, stopped, RanWhole, whole, part}
+use Rattle.runner.specs.Moved.{Gave}
 use Rattle.runner.specs.declared.Texts.{Texts, TheVariants.{Written, Dropped}}
 
 -- ---- what the writer got
@@ -33,11 +34,16 @@ pub record Begin (old new : Option Bytes) (text : Bytes) : Type 0 where
   pub both : got ++ rest ≡ text
   pub gets : Appends old new got
 
-cut : {T E : Type 0} {old new : Option Bytes} {text : Bytes} {texts : Texts} {e : E} → Kept {T} old new text texts (Err e) → Begin old new text
+cut : {T E : Type 0} {old new : Option Bytes} {text : Bytes} {texts : Texts} {e : E} → Kept {T = T} old new text texts (Err e) → Begin old new text
 cut {text = text} (unwritten (n, h, a)) = record { got = take n text; rest = drop n text; both = take-append-drop n text; gets = a }
 
 got : {T E : Type 0} {old new : Option Bytes} {text : Bytes} {texts : Texts} {v : T} → Kept {E = E} old new text texts (Ok v) → Gets texts old new text
 got (kept g) = g
+
+-- what a write came to
+pub kept_of : {T E : Type 0} {old new : Option Bytes} {text : Bytes} (r : Result T E) → Gave old new r text → Kept old new text Written r
+kept_of (Ok v) g = kept g
+kept_of (Err e) g = unwritten g
 
 -- ---- the listing from a checkpoint on
 
@@ -134,31 +140,41 @@ told :
     → resumable (length j) from ≡ true → After j from p q text
 told {from = from} {p} {q} {text = text} (finished {gs = gs} s l r t) h =
     record { rest = []; is = listing_of (onward_pieces l (ended_pieces r)) (append-nil text ∙ t ∙ sym (joined_pieces (run_from from p q gs).records _)) }
-told {j} {there = there} {p'} {q'} (more s l t y m) h =
-    let w = rest_of j there p' q' (λ e. (resumes (length j) _ h).named (sym l.form ∙ e)) in
+told {j} {from = from} {there = there} {p'} {q'} (more s l t y m) h =
+    let w = rest_of j there p' q' (λ e. (resumes (length j) from h).named (sym l.form ∙ e)) in
     record { rest = joined w.pieces; is = told_more (more s l t y m) refl (listing_of w.at refl) }
-told (unfit s a b d t) h = never (sym s ∙ h)
+told (unfit s a b d t) h = never (sym h ∙ s)
 
-module _ {j : Bytes} {from : Checkpoint} {p₀ q₀ : Bytes} {there : Checkpoint} {p q out p' q' new : Bytes} {r : Played} {texts : Texts} {old now then : Option Bytes}
+-- a write failed after what was met
+cut_from :
+    {j : Bytes} {from : Checkpoint} {p q : Bytes} {T E : Type 0} {e : E} {old now then : Option Bytes} {text : Bytes} {texts : Texts}
+    → Kept {T = T} now then text texts (Err e) → (met rest : Bytes) → Gets texts old now met → ListingFrom j from p q (met ++ (text ++ rest))
+    → RanFrom j from p q old then texts (Err e)
+cut_from {j} {from} {p} {q} {T} {E} {e} {old} {now} {then} (unwritten g) met rest h x =
+    let b = cut {T = T} {E = E} {texts = Written} {e = e} (unwritten g) in
+    stopped (met ++ b.got) (b.rest ++ rest)
+    (subst (ListingFrom j from p q)
+    (ap (λ (t : Bytes). met ++ (t ++ rest)) (sym b.both) ∙ ap (λ (t : Bytes). met ++ t) (append_assoc b.got b.rest rest) ∙ sym (append_assoc met b.got (b.rest ++ rest)))
+    x)
+    (Appends-trans old now then met b.got h b.gets)
+
+module _ {j : Bytes} {from : Checkpoint} {p₀ q₀ : Bytes} {there : Checkpoint} {p q out p' q' new : Bytes} {r : Played} {texts : Texts} {old now : Option Bytes}
     (c : Called j from p₀ q₀ there p q out texts old now) (x : Plays j there p q out p' q' new r) where
   on : Onward j there r.checkpoint r.progress
   on = play_advances_theorem j there p q out p' q' new r x c.resumable c.room
 
+  -- it goes on, further on in the journal
+  pub call_further : more_to_play r.progress ≡ true → (there.at < r.checkpoint.at) × (r.checkpoint.at ≤ length j)
+  call_further e = let o = on_more on e in (o.1, (resumes (length j) r.checkpoint o.2).inside)
+
   -- the writer did not take the call's text
   pub call_cut :
-      {T E : Type 0} {e : E} → Kept {T} now then (take r.written new) texts (Err e) → RanFrom j from p₀ q₀ old then texts (Err e)
-  call_cut (unwritten g) =
-      let b = cut (unwritten g) in
-      let a = told x.tells c.resumable in
-      stopped {xs = c.met ++ b.got} {rest = b.rest ++ a.rest}
-      (subst (ListingFrom j from p₀ q₀)
-      (ap (λ (t : Bytes). c.met ++ (t ++ a.rest)) (sym b.both) ∙ ap (λ (t : Bytes). c.met ++ t) (append_assoc b.got b.rest a.rest) ∙ sym (append_assoc c.met b.got (b.rest ++ a.rest)))
-      (c.listing _ a.is))
-      (Appends-trans old now then c.met b.got c.got b.gets)
+      {T E : Type 0} {e : E} {then : Option Bytes} → Kept {T = T} now then (take r.written new) texts (Err e) → RanFrom j from p₀ q₀ old then texts (Err e)
+  call_cut g = let a = told x.tells c.resumable in cut_from g c.met a.rest c.got (c.listing _ a.is)
 
-  module _ {T E : Type 0} {v : T} (g : Kept {E = E} now then (take r.written new) texts (Ok v)) where
+  module _ {T E : Type 0} {v : T} {then : Option Bytes} (g : Kept {E = E} now then (take r.written new) texts (Ok v)) where
     -- the call was the last
-    pub call_over : more_to_play r.progress ≡ false → RanFrom {E} j from p₀ q₀ old then texts (Ok r.checkpoint.counts)
+    pub call_over : more_to_play r.progress ≡ false → RanFrom {E = E} j from p₀ q₀ old then texts (Ok r.checkpoint.counts)
     unfolding joined
     call_over e =
         let (us, y, same) = c.calls _ _ (last x (on_over on e)) in
@@ -178,10 +194,6 @@ module _ {j : Bytes} {from : Checkpoint} {p₀ q₀ : Bytes} {there : Checkpoint
           calls = λ ts k y. let (us, z, same) = c.calls _ k (next x o.0 y) in (us, z, same ∙ sym (append_assoc c.met (take r.written new) (joined ts)));
           listing = λ t y. subst (ListingFrom j from p₀ q₀) (sym (append_assoc c.met (take r.written new) t)) (c.listing _ (told_more x.tells o.0 y));
         }
-
-  -- it goes on, further on in the journal
-  pub call_further : more_to_play r.progress ≡ true → (there.at < r.checkpoint.at) × (r.checkpoint.at ≤ length j)
-  call_further e = let o = on_more on e in (o.1, (resumes (length j) r.checkpoint o.2).inside)
 
 -- ---- the first call
 
@@ -203,55 +215,53 @@ module _ {j out new : Bytes} {r : Played} (x : Starts j out new r) where
       let w = pieced (rw (ep, eq) at y) in
       subst (λ (t : Bytes). Listing j (take r.written new ++ t)) w.text (pieces_theorem j _ (begins_pieces x.begins e w.at).0)
 
-  module _ {texts : Texts} {old now : Option Bytes} where
-    -- on buffers of zeros the journal is played whole where the calls of `play` come to its end
-    pub whole_played :
-        {T E : Type 0} {v : T} → Kept {E = E} old now (take r.written new) texts (Ok v)
-        → {p q : Bytes} {then : Option Bytes} {b : Result Counts E} → r.progress ≡ More → p ≡ replicate (private_length r.checkpoint.state.opening) 0
-        → q ≡ replicate (shared_length r.checkpoint.state.opening) 0 → RanFrom j r.checkpoint p q now then texts b → RanWhole j old then texts b
+  module _ (h : 246 ≤ length new) where
+    begins : Begun j r.checkpoint r.progress
+    begins = start_advances_theorem j out new r x (omega (arith, h, x.fills.size))
+
+    pub whole_more : more_to_play r.progress ≡ true → (r.progress ≡ More) × (resumable (length j) r.checkpoint ≡ true)
+    whole_more e = begun_more begins e
+
+    -- the listing begins with what the first call wrote
+    begins_in : {g : Progress} → Begun j r.checkpoint g → r.progress ≡ g → (rest : Bytes) × Listing j (take r.written new ++ rest)
     unfolding joined
-    whole_played g {then = then} e ep eq (ended {ts = ts} y h) =
-        let z = begun x e (rw (ep, eq) at y) in
+    begins_in listed e = ([], (whole_theorem j _ _ (over x e)).0)
+    begins_in (running s) e =
+        let w = rest_of j r.checkpoint _ _ (resumes (length j) r.checkpoint s).named in
+        (joined w.pieces, behind e refl refl (listing_of w.at refl))
+
+    -- the writer did not take its text
+    pub whole_cut :
+        {T E : Type 0} {e : E} {texts : Texts} {old now : Option Bytes} → Kept {T = T} old now (take r.written new) texts (Err e) → RanWhole j old now texts (Err e)
+    whole_cut {T} {E} {e} (unwritten g) =
+        let b = cut {T = T} {E = E} {texts = Written} {e = e} (unwritten g) in
+        let l = begins_in begins refl in
+        part b.got (b.rest ++ l.0)
+        (subst (Listing j) (ap (λ (t : Bytes). t ++ l.0) (sym b.both) ∙ append_assoc b.got b.rest l.0) l.1) b.gets
+
+    -- the journal is played whole, or `play` goes on from the checkpoint
+    pub whole_over :
+        {T E : Type 0} {v : T} {texts : Texts} {old now : Option Bytes} → Kept {E = E} old now (take r.written new) texts (Ok v) → more_to_play r.progress ≡ false
+        → RanWhole {E = E} j old now texts (Ok r.checkpoint.counts)
+    unfolding joined
+    whole_over {texts = texts} {old = old} {now = now} g e =
+        let z = over x (begun_over begins e) in
         let w = whole_theorem j _ _ z in
-        whole z w.0 w.1 (gets_both texts old now then _ (joined ts) (got g) h)
-    whole_played g {then = then} e ep eq (stopped {xs = xs} {rest = rest} y h) =
-        part {xs = take r.written new ++ xs} {rest = rest}
-        (subst (Listing j) (sym (append_assoc (take r.written new) xs rest)) (behind e ep eq y)) (Appends-trans old now then _ xs (got g) h)
+        whole z w.0 w.1 (subst (Gets texts old now) (sym (append-nil _)) (got g))
 
-    module _ (h : 246 ≤ length new) where
-      begins : Begun j r.checkpoint r.progress
-      begins = start_advances_theorem j out new r x (omega (arith, h, x.fills.size))
-
-      -- the listing begins with what the first call wrote
-      pub listing_begins : (rest : Bytes) × Listing j (take r.written new ++ rest)
-      listing_begins = begins_in begins refl
-        where
-        begins_in : {g : Progress} → Begun j r.checkpoint g → r.progress ≡ g → (rest : Bytes) × Listing j (take r.written new ++ rest)
-        begins_in listed e = ([], (whole_theorem j _ _ (over x e)).0)
-        begins_in (running s) e =
-            let w = rest_of j r.checkpoint _ _ (resumes (length j) r.checkpoint s).named in
-            (joined w.pieces, behind e refl refl (listing_of w.at refl))
-
-      -- the writer did not take its text
-      pub whole_cut : {T E : Type 0} {e : E} → Kept {T} old now (take r.written new) texts (Err e) → RanWhole j old now texts (Err e)
-      whole_cut (unwritten g) =
-          let b = cut (unwritten g) in
-          let (rest, l) = listing_begins in
-          part {xs = b.got} {rest = b.rest ++ rest}
-          (subst (Listing j) (ap (λ (t : Bytes). t ++ rest) (sym b.both) ∙ append_assoc b.got b.rest rest) l) b.gets
-
-      -- the journal is played whole, or `play` goes on from the checkpoint
-      pub whole_over :
-          {T E : Type 0} {v : T} → Kept {E = E} old now (take r.written new) texts (Ok v) → more_to_play r.progress ≡ false
-          → RanWhole {E} j old now texts (Ok r.checkpoint.counts)
-      unfolding joined
-      whole_over g e =
-          let z = over x (begun_over begins e) in
-          let w = whole_theorem j _ _ z in
-          whole z w.0 w.1 (subst (Gets texts old now) (sym (append-nil _)) (got g))
-
-      pub whole_more : more_to_play r.progress ≡ true → (r.progress ≡ More) × (resumable (length j) r.checkpoint ≡ true)
-      whole_more e = begun_more begins e
+  -- on buffers of zeros the journal is played whole where the calls of `play` come to its end
+  pub whole_played :
+      {T E : Type 0} {v : T} {texts : Texts} {old now : Option Bytes} → Kept {E = E} old now (take r.written new) texts (Ok v)
+      → {p q : Bytes} {then : Option Bytes} {b : Result Counts E} → r.progress ≡ More → p ≡ replicate (private_length r.checkpoint.state.opening) 0
+      → q ≡ replicate (shared_length r.checkpoint.state.opening) 0 → RanFrom j r.checkpoint p q now then texts b → RanWhole j old then texts b
+  unfolding joined
+  whole_played {texts = texts} {old = old} {now = now} g {then = then} e ep eq (ended {ts = ts} y h) =
+      let z = begun x e (rw (ep, eq) at y) in
+      let w = whole_theorem j _ _ z in
+      whole z w.0 w.1 (gets_both texts old now then _ (joined ts) (got g) h)
+  whole_played {old = old} {now = now} g {then = then} e ep eq (stopped xs rest y h) =
+      part (take r.written new ++ xs) rest
+      (subst (Listing j) (sym (append_assoc (take r.written new) xs rest)) (behind e ep eq y)) (Appends-trans old now then _ xs (got g) h)
 
 -- the first of many zeros
 pub part_zeros : (n m : ℕ) → n ≤ m → take {A = ℕ} (n - 0) (replicate m 0) ≡ replicate n 0

@@ -38,7 +38,7 @@ pub data RanFrom {E : Type 0} (journal : Bytes) (from : Checkpoint) (p q : Bytes
       {texts : Texts} {ts : List Bytes} {k : Counts} → PlaysOn journal from p q ts k → Gets texts old new (joined ts)
       → RanFrom journal from p q old new texts (Ok k)
   stopped :
-      {xs rest : Bytes} {e : E} → ListingFrom journal from p q (xs ++ rest) → Appends old new xs
+      (xs rest : Bytes) {e : E} → ListingFrom journal from p q (xs ++ rest) → Appends old new xs
       → RanFrom journal from p q old new Written (Err e)
 
 -- from the start: `start` and calls of `play` wrote texts that, put together, are the journal's listing, which the writer got, and counted its
@@ -47,4 +47,4 @@ pub data RanWhole {E : Type 0} (journal : Bytes) (old new : Option Bytes) : Text
   whole :
       {texts : Texts} {ts : List Bytes} {k : Counts} → Playing journal ts k → Listing journal (joined ts) → Tally journal k
       → Gets texts old new (joined ts) → RanWhole journal old new texts (Ok k)
-  part : {xs rest : Bytes} {e : E} → Listing journal (xs ++ rest) → Appends old new xs → RanWhole journal old new Written (Err e)
+  part : (xs rest : Bytes) {e : E} → Listing journal (xs ++ rest) → Appends old new xs → RanWhole journal old new Written (Err e)
