@@ -105,6 +105,9 @@ class Function:
             word, field = m[2], m[3]
             if word in ("args", "before", "lifetimes", "requires", "ranges", "type_inv", "new"):
                 return f"c.{word}" + (f".{field}" if field else "")
+            field = {"inv": "invariant", "pre": "requires", "left": "false", "right": "true"}.get(field, field)
+            if word == "pre":
+                return "c.requires" + (f".{field}" if field else "")
             new, fields = self.find(place, word)
             if new is None:
                 self.left.append(f"{goal or place}: {m[0]}")
@@ -151,7 +154,7 @@ def items(text):
     lines = text.split("\n")
     head, out, cur = [], [], []
     for i, l in enumerate(lines):
-        if re.match(r"(use |--)", l) and not out and not cur:
+        if not out and not cur and (l.startswith("use ") or (l.startswith("--") and not any(h.startswith("use ") for h in head))):
             head.append(l)
         elif l.strip() == "":
             if cur:

@@ -37,7 +37,7 @@ pub enum Converted {
 #[derive(Clone, Copy)]
 enum Change {
     Same,
-    To,
+    ToDrop,
     ToWriteback,
     FromDrop,
     FromWriteback,

@@ -32,8 +32,8 @@ module _ (to : To) (j old : Bytes) where
   data From : Next → Left → Type 0 where
     refused_first : {n : ℕ} → (Other → ⊥) → From (RefusedLine n) (left (Refused n) old)
     other : {b : Next} → Other → From b (left (Refused 11) old)
-    opens : {o : Sizes} {next : ℕ} {gs : List Entry} {e : Ending} → (Other → ⊥) → ReadAs j (form_from to) next gs e
-        → From (Opening (form_from to) o next) (whole o gs e)
+    opens : {form : ℕ} {o : Sizes} {next : ℕ} {gs : List Entry} {e : Ending} → form ≡ form_from to → (Other → ⊥) → ReadAs j (form_from to) next gs e
+        → From (Opening form o next) (whole o gs e)
 
   -- one answer at the start leaves one thing
   from_same : {b : Next} {x y : Left} → From b x → From b y → x ≡ y
@@ -41,9 +41,9 @@ module _ (to : To) (j old : Bytes) where
   from_same (refused_first n) (other o) = absurd (n o)
   from_same (other o) (refused_first n) = absurd (n o)
   from_same (other o) (other p) = refl
-  from_same (other o) (opens n r) = absurd (n o)
-  from_same (opens n r) (other o) = absurd (n o)
-  from_same (opens {o = o} n r) (opens k t) = let s = reads_same r t in ap₂ (whole o) s.0 s.1
+  from_same (other o) (opens f n r) = absurd (n o)
+  from_same (opens f n r) (other o) = absurd (n o)
+  from_same (opens {o = o} f n r) (opens g k t) = let s = reads_same r t in ap₂ (whole o) s.0 s.1
 
   -- all that converting leaves is left by the answer at the journal's start
   record Start (x : Left) : Type 0 where
@@ -55,7 +55,7 @@ module _ (to : To) (j old : Bytes) where
   start_opens :
       {o : Sizes} {next : ℕ} {gs : List Entry} {e : Ending} → NextOf j 0 0 (Opening (form_from to) o next) → ReadAs j (form_from to) next gs e
       → Start (whole o gs e)
-  start_opens x r = record { next = _; there = x; from = opens (own_named (form_from to) x) r }
+  start_opens x r = record { next = _; there = x; from = opens refl (own_named (form_from to) x) r }
 
   start : {a : Converted} {b : Bytes} → Converts to j old a b → Start (left a b)
   start (malformed (first_line x n)) = record { next = _; there = x; from = refused_first n }

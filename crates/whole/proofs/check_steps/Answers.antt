@@ -8,24 +8,18 @@ use Rattle.journal.specs.{Journal.NextOf, declared.Next.TheVariants.Step}
 use Rattle.driver.proofs.Reading.{known}
 use Rattle.whole.proofs.{Checking.{Passed, passed_none, passed_more, passed_end, passed_refused}}
 use Rattle.whole.proofs.check_steps.Goals as goal
-use Rattle.whole.proofs.check_steps.Goals.{In-Step}
-
-abbrev a_step_lem :
-    (c : In-Step) → NextOf c.args.journal.now c.loop-next.at c.args.form
-    (Step c.next-1.given.0.0 c.next-1.given.0.1.0 c.next-1.given.0.1.1.0 c.next-1.given.0.1.1.1.0)
-a_step_lem c = subst (NextOf _ _ _) c.in-Step.is c.step_at.ensures
 
 pub loop-next-init : goal.loop-next-init
 loop-next-init c = passed_none _ _ _
 
 pub overflow_add-line : goal.overflow_add-line
-overflow_add-line c = omega (arith, c.loop-next.inv.few)
+overflow_add-line c = omega (arith, c.loop-next.invariant.few)
 
 pub loop-next-smaller : goal.loop-next-smaller
-loop-next-smaller c = let k = (known (a_step_lem c)).1 in omega (arith, k.forward, k.inside)
+loop-next-smaller c = let k = (known (subst (NextOf _ _ _) c.in-Step.is c.step_at.ensures)).1 in omega (arith, k.forward, k.inside)
 
 pub loop-next-preserved : goal.loop-next-preserved
-loop-next-preserved c = passed_more c.loop-next.inv c.pre.1 (a_step_lem c)
+loop-next-preserved c = passed_more c.loop-next.invariant c.requires.1 (subst (NextOf _ _ _) c.in-Step.is c.step_at.ensures)
 
 pub returns-in-End : goal.returns-in-End
 returns-in-End c = passed_end c.loop-next.invariant (subst (NextOf _ _ _) c.in-End.is c.step_at.ensures)

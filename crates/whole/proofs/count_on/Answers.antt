@@ -10,16 +10,16 @@ use Rattle.whole.proofs.count_on.Goals as goal
 
 pub returns-then-not-more_to_play : goal.returns-then-not-more_to_play
 returns-then-not-more_to_play c =
-    call_over c.loop-there.inv.3 c.play-played.ensures (was_false c.more_to_play.ensures c.if-not-more_to_play.true-raw)
+    call_over c.loop-there.invariant.3 c.play-played.ensures (was_false c.more_to_play.ensures c.if-not-more_to_play.true-raw)
 
 pub loop-there-smaller : goal.loop-there-smaller
 loop-there-smaller c =
-    let f = call_further c.loop-there.inv.3 c.play-played.ensures (was_true c.more_to_play.ensures c.if-not-more_to_play.false-raw) in
+    let f = call_further c.loop-there.invariant.3 c.play-played.ensures (was_true c.more_to_play.ensures c.if-not-more_to_play.false-raw) in
     omega (arith, f.0, f.1)
 
 pub loop-there-preserved : goal.loop-there-preserved
 loop-there-preserved c =
-    let i = c.loop-there.inv in (
+    let i = c.loop-there.invariant in (
       c.private-1.given ∙ i.0,
       c.shared-1.given ∙ i.1,
       c.out-1.given ∙ i.2,

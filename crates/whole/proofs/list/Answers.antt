@@ -1,6 +1,5 @@
 -- `whole::list` meets its contract: `start` alone, or `start` and `play` on buffers of zeros in what is left of the output; the sizes that were opened lie
 -- inside the limits, so the parts lie in the arrays. Assumes nothing.
--- ---- the points of the function, each from a later one
 use Prim.Native.Nat.{ℕ, ◌≤◌}
 use mathlib.Core.Path.{◌≡◌, sym, ◌∙◌, ap, subst}
 use lib.ListN.{replicate}
@@ -16,19 +15,15 @@ use Rattle.whole.proofs.list.Goals.{After-play-rest, After-shared_length-m, Afte
 goes : (c : After-state-1) → c.start-played.result.progress ≡ More
 goes c = goes_on _ (was_true c.more_to_play.ensures c.if-not-more_to_play.false-raw)
 
--- the sizes of the engine that was opened
-fits : (c : After-state-1) → Inside c.start-played.result.checkpoint.state.opening
-fits c = inside _ (start_fits c.start-played.ensures (goes c))
-
 -- the lengths of the buffers are those of the engine, and the arrays have room for them
 private_room : (c : After-shared_length-m) → c.private_length-n.result ≤ 65536
-private_room c = subst (λ (n : ℕ). n ≤ 65536) (sym c.private_length-n.ensures) (private_most (fits c))
+private_room c = subst (λ (n : ℕ). n ≤ 65536) (sym c.private_length-n.ensures) (private_most (inside _ (start_fits c.start-played.ensures (goes_on _ (was_true c.more_to_play.ensures c.if-not-more_to_play.false-raw)))))
 
 shared_room : (c : After-shared_length-m) → c.shared_length-m.result ≤ 9216
-shared_room c = subst (λ (n : ℕ). n ≤ 9216) (sym c.shared_length-m.ensures) (shared_most (fits c))
+shared_room c = subst (λ (n : ℕ). n ≤ 9216) (sym c.shared_length-m.ensures) (shared_most (inside _ (start_fits c.start-played.ensures (goes_on _ (was_true c.more_to_play.ensures c.if-not-more_to_play.false-raw)))))
 
 -- what the first call ensures
-abbrev first : (c : After-play-rest) → Starts c.args.journal.now c.args.out.now c.start-played.last.1.0 c.start-played.result
+abbrev first : (c : After-play-rest) → Starts c.args.journal.now c.args.out.now c.start-played.new.out c.start-played.result
 first c = c.start-played.ensures
 
 pub returns-then-not-more_to_play : goal.returns-then-not-more_to_play

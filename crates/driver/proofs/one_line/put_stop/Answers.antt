@@ -5,14 +5,6 @@ use Rattle.driver.proofs.{Putting.{first_fits, second_fits, last_within, last_te
 use borrow.Author.Rules.{rules}
 use Rattle.driver.proofs.one_line.put_stop.Goals as goal
 
--- LEFT part_put_text_end : slice-bounds-put-text-end
--- unfolding meaning
--- part_put_text_end c =
---     let e = c.before.before.before in
---     let p = e.before.before.before in
---     let r = p.before.before.before.before.before.before in
---     last_within _ _ refl r.put_record.ensures p.before.before.before.e.given.1 p.put_end.ensures e.e2.given.1
-
 pub returns-in-Short : goal.returns-in-Short
 unfolding meaning
 returns-in-Short c =
