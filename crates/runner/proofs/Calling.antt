@@ -6,9 +6,9 @@ use lib.ListN.{length, take, drop, replicate}
 use Rattle.std.specs.Prelude.{Option, Result, Ok, Err}
 use Rattle.std.specs.Io.KnownBytes.{Appends, Keeps}
 use Rattle.std.proofs.{Common.take-append-drop, KnownBytes.{Appends-nil, Appends-trans, Keeps-refl, Keeps-trans}}
-use Rattle.protocol.{specs.{Buffers.{Bytes, private_length, shared_length}, Machine.machine, Counts.{sum, tally}, declared.Counts.Counts}, proofs.{Tests.never, Bytes.zeros_part}}
+use Rattle.protocol.{specs.{Buffers.{Bytes, private_length, shared_length}, Machine.machine, Counts.{sum, tally}, declared.Counts.Counts}, proofs.{Tests.never, Bytes.zeros_part, Extents.{Inside, inside}}}
 use Rattle.driver.specs.{Play.{run_from, resumable, Plays, Tells, finished, more, unfit, Starts}, declared.Checkpoint.Checkpoint}
-use Rattle.driver.{specs.declared.{Progress.{Progress, TheVariants.{Finished, More}}, Played.Played}, proofs.Resuming.resumes}
+use Rattle.driver.{specs.declared.{Progress.{Progress, TheVariants.{Finished, More}}, Played.Played}, proofs.{Resuming.resumes, Starting.start_fits}}
 use Rattle.playing.specs.{Listing.Listing, Calls.{joined, PlaysOn, last, next, Playing, over, begun}, Pieces.lines_of}
 use Rattle.playing.specs.Theorems.{Begun, listed, running, Onward, ends, further}
 use Rattle.playing.proofs.{Whole.{whole_theorem, begins_pieces}, Progressing.{start_advances_theorem, play_advances_theorem}, OneReading.one_reading_theorem}
@@ -147,9 +147,9 @@ told (unfit s a b d t) h = never (sym h ∙ s)
 
 -- a write failed after what was met
 cut_from :
-    {j : Bytes} {from : Checkpoint} {p q : Bytes} {T E : Type 0} {e : E} {old now then : Option Bytes} {text : Bytes} {texts : Texts}
+    {j : Bytes} {from : Checkpoint} {p q : Bytes} {T E : Type 0} {e e' : E} {old now then : Option Bytes} {text : Bytes} {texts : Texts}
     → Kept {T = T} now then text texts (Err e) → (met rest : Bytes) → Gets texts old now met → ListingFrom j from p q (met ++ (text ++ rest))
-    → RanFrom j from p q old then texts (Err e)
+    → RanFrom j from p q old then texts (Err e')
 cut_from {j} {from} {p} {q} {T} {E} {e} {old} {now} {then} (unwritten g) met rest h x =
     let b = cut {T = T} {E = E} {texts = Written} {e = e} (unwritten g) in
     stopped (met ++ b.got) (b.rest ++ rest)
@@ -169,7 +169,7 @@ module _ {j : Bytes} {from : Checkpoint} {p₀ q₀ : Bytes} {there : Checkpoint
 
   -- the writer did not take the call's text
   pub call_cut :
-      {T E : Type 0} {e : E} {then : Option Bytes} → Kept {T = T} now then (take r.written new) texts (Err e) → RanFrom j from p₀ q₀ old then texts (Err e)
+      {T E : Type 0} {e e' : E} {then : Option Bytes} → Kept {T = T} now then (take r.written new) texts (Err e) → RanFrom j from p₀ q₀ old then texts (Err e')
   call_cut g = let a = told x.tells c.resumable in cut_from g c.met a.rest c.got (c.listing _ a.is)
 
   module _ {T E : Type 0} {v : T} {then : Option Bytes} (g : Kept {E = E} now then (take r.written new) texts (Ok v)) where
@@ -222,6 +222,10 @@ module _ {j out new : Bytes} {r : Played} (x : Starts j out new r) where
     pub whole_more : more_to_play r.progress ≡ true → (r.progress ≡ More) × (resumable (length j) r.checkpoint ≡ true)
     whole_more e = begun_more begins e
 
+    -- then the sizes of the engine that was opened lie inside the limits
+    pub whole_inside : more_to_play r.progress ≡ true → Inside r.checkpoint.state.opening
+    whole_inside e = inside _ (start_fits x (whole_more e).0)
+
     -- the listing begins with what the first call wrote
     begins_in : {g : Progress} → Begun j r.checkpoint g → r.progress ≡ g → (rest : Bytes) × Listing j (take r.written new ++ rest)
     unfolding joined
@@ -232,7 +236,7 @@ module _ {j out new : Bytes} {r : Played} (x : Starts j out new r) where
 
     -- the writer did not take its text
     pub whole_cut :
-        {T E : Type 0} {e : E} {texts : Texts} {old now : Option Bytes} → Kept {T = T} old now (take r.written new) texts (Err e) → RanWhole j old now texts (Err e)
+        {T E : Type 0} {e e' : E} {texts : Texts} {old now : Option Bytes} → Kept {T = T} old now (take r.written new) texts (Err e) → RanWhole j old now texts (Err e')
     whole_cut {T} {E} {e} (unwritten g) =
         let b = cut {T = T} {E = E} {texts = Written} {e = e} (unwritten g) in
         let l = begins_in begins refl in
