@@ -7,7 +7,7 @@ use borrow.Author.Tests.{ltb-false, leb-true, leb-false, lt-ltb, le-ltb, eqb-tru
 use Rattle.protocol.specs.{Pick.{pick, fails, first}, Limits.opening_fits, Buffers.Bytes, Run.Entry, declared.Opening.Opening as Sizes}
 use Rattle.protocol.proofs.Refusals.{passed}
 use Rattle.spelling.specs.{Over.{has_room, over, PutAt}, declared.Put.{Put, TheVariants.{End, Short}}}
-use Rattle.convert.specs.Conversion.{form_from, Reads, unlike, result_of, most_bytes, refusal_of, answer_of, buffer_of, Converts, malformed as ofMalformed, reads as ofReading}
+use Rattle.convert.specs.Conversion.{form_from, Reads, unlike, result_of, most_bytes, refusal_of, answer_of, buffer_of, Converts, malformed as of_malformed, reads as of_reading}
 use Rattle.convert.specs.{Writing.{Writes, malformed, reads}, declared.{To.To, Converted.{Converted, TheVariants.{Length, Refused}}}}
 
 -- ---- by the room
@@ -72,11 +72,11 @@ by_number :
     {to : To} {j old : Bytes} {o : Sizes} {gs : List Entry} → Reads (form_from to) j o gs → (k : ℕ) → refusal_of to o gs (length old) ≡ k
     → Converts to j old (pick (eqb k 0) (Length (length (result_of to o gs))) (Refused k)) (pick (eqb k 0) (over old 0 (result_of to o gs)) old)
 by_number {to} {j} {old} {o} {gs} r k e =
-    subst (λ (k : ℕ). Converts to j old (pick (eqb k 0) (Length (length (result_of to o gs))) (Refused k)) (pick (eqb k 0) (over old 0 (result_of to o gs)) old)) e (ofReading r)
+    subst (λ (k : ℕ). Converts to j old (pick (eqb k 0) (Length (length (result_of to o gs))) (Refused k)) (pick (eqb k 0) (over old 0 (result_of to o gs)) old)) e (of_reading r)
 
 -- a refusal: the buffer is as it was
 pub refused_copied : {to : To} {j buffer : Bytes} {a : Converted} {n : ℕ} (old : Bytes) → Writes to j buffer a → a ≡ Refused n → Converts to j old (Refused n) old
-refused_copied {to} {j} {n = n} old (malformed {n = k} x) e = let q : k ≡ n = cc in subst (λ (i : ℕ). Converts to j old (Refused i) old) q (ofMalformed x)
+refused_copied {to} {j} {n = n} old (malformed {n = k} x) e = let q : k ≡ n = cc in subst (λ (i : ℕ). Converts to j old (Refused i) old) q (of_malformed x)
 refused_copied {to} {j} {n = n} old (reads {o = o} {gs = gs} r t) e =
     let x = answer_refused (refusal_of to o gs most_bytes) n (length (result_of to o gs)) e in
     let h : n ≡ 0 → ⊥ = λ z. x.0 (x.1 ∙ z) in

@@ -7,15 +7,15 @@ use borrow.Author.Tests.{leb-true, leb-false, eq-eqb}
 use Rattle.protocol.specs.{Pick.pick, Buffers.Bytes, Run.Entry, declared.Opening.Opening as Sizes}
 use Rattle.spelling.specs.{Over.{over, PutAt}, declared.Put.TheVariants.{End, Short}}
 use Rattle.spelling.proofs.OverLaws.{put_done, put_short}
-use Rattle.convert.specs.{Conversion.{result_of, most_bytes, refusal_of, answer_of, buffer_of, Converts, malformed as ofMalformed, reads as ofReading}}
+use Rattle.convert.specs.{Conversion.{result_of, most_bytes, refusal_of, answer_of, buffer_of, Converts, malformed as of_malformed, reads as of_reading}}
 use Rattle.convert.specs.{Writing.{Writes, malformed, reads}, declared.{To.To, Converted.{Converted, TheVariants.{Length, Refused}}}}
 use Rattle.convert.proofs.Copying.{refused_copied, Result, length_written, copied, not_copied}
 use Rattle.converting.specs.Theorems.{AnyBuffer, AnyBufferTheorem}
 
 -- what is left in a buffer of the longest journal's length is the result as it is written
 written : {to : To} {j old : Bytes} {a : Converted} {new : Bytes} → length old ≡ most_bytes → Converts to j old a new → Writes to j new a
-written size (ofMalformed x) = malformed x
-written {to} {j} {old} size (ofReading {o} {gs} x) =
+written size (of_malformed x) = malformed x
+written {to} {j} {old} size (of_reading {o} {gs} x) =
     subst (Writes to j (buffer_of to o gs old)) (ap (answer_of to o gs) (sym size)) (reads x laid)
   where
     laid : refusal_of to o gs most_bytes ≡ 0 → take (length (result_of to o gs)) (buffer_of to o gs old) ≡ result_of to o gs

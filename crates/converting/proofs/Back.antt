@@ -14,7 +14,7 @@ use Rattle.spelling.proofs.{Lists.all_append, DecimalLaws.decimal_short, Texts.{
 use Rattle.grammar.specs.Form.{Part, fixed, value, number, pairs, lay, Given, spellings, spell}
 use Rattle.grammar.specs.{Table.{opens, calls, rows_of, row_at}, Line.{LineOf, spelt}, declared.Line.TheVariants.{Opening as OpeningLine, Step as StepLine}}
 use Rattle.grammar.proofs.{Fit.Shaped, Forms.row_shape, Rows.{every, every_at}}
-use Rattle.journal.specs.Journal.{LineAt, ended as atEndOf, a_line as wholeLine}
+use Rattle.journal.specs.Journal.{LineAt, ended as at_end_of, a_line as whole_line}
 use Rattle.driver.{specs.Listing.{Between, no_line, a_line, at_end}, proofs.{Reading.{ends_in, ends_drop, line_data}, Running.entry_of}}
 use Rattle.convert.specs.{Spelling.{row_of, numbers_of, step_line, opening_line, step_lines, journal_of}, Forms.{owns_copy, in_first, in_second, in_form, converted}}
 use Rattle.convert.specs.{Conversion.{form_of, form_from, Reads, is_victim, answers, some, is_unlike, unlike, result_of, refusal_of}, declared.To.{To, TheVariants.{First, Second}}}
@@ -131,7 +131,7 @@ module _ (form : ℕ) (g : Entry) (x : Fits form g) where
       → Between j form at (g ∷ gs) to
   read_step j at next to gs size h b =
       subst (λ (ds : Bytes). Between j form at (entry_of g.call ds ∷ gs) to) (line_data (data_start g) (length (line_of g)) h (omega arith) refl ∙ its_data)
-      (a_line (wholeLine (line_of g) next size h read_line) b)
+      (a_line (whole_line (line_of g) next size h read_line) b)
 
 -- lines of steps, up to the end of a journal
 steps_read :
@@ -204,9 +204,9 @@ reads_back to o gs x a size =
     record {
       next = _;
       to = r.0;
-      first = wholeLine (opening_line to o) _ size l.0 f.read;
+      first = whole_line (opening_line to o) _ size l.0 f.read;
       steps = r.1;
-      ends = at_end (atEndOf size r.2 (some_form to));
+      ends = at_end (at_end_of size r.2 (some_form to));
     }
 
 -- ---- the steps of a journal in the other form

@@ -14,7 +14,7 @@ use Rattle.listing.specs.Record.{record_text}
 use Rattle.tables.{specs.{declared.copies.Look.Look, Found.{Found, effect_with}, Look.{look_to, top_of}}, proofs.Making.{Finds, made, is_step, is_moved, is_inside}}
 use Rattle.driver.specs.Listing.{Ending, EndsAt, lines, last_lines}
 use Rattle.driver.specs.Play.{run_from, few, resumable, Leads, Piece, a_step, the_end, Fills, finished, more, Plays}
-use Rattle.driver.specs.Pieces.{ending_of, IsByte, StepDue, DueAt, a_step as isStep, the_end as isEnd, beside, BesideInside, answer_line, checkpoint_at}
+use Rattle.driver.specs.Pieces.{ending_of, IsByte, StepDue, DueAt, a_step as is_step_here, the_end as is_end, beside, BesideInside, answer_line, checkpoint_at}
 use Rattle.driver.specs.{Pieces.played_by, declared.{Checkpoint.Checkpoint, Played.Played, Last.Last, Due.{Due, TheVariants.{Step, Last as AtLast}}}}
 use Rattle.driver.proofs.{Counting.{same_counts, few_later}, Stepping.{replied, reply_printed}, Running.{entry_of, leads_none, leads_more, lines_more}}
 use Rattle.driver.proofs.{Resuming.{Resumes, leads_on}, Putting.{Written, put_written, put_short, fills_none, fills_more}}
@@ -106,20 +106,20 @@ module _ {j : Bytes} {from : Checkpoint} {p₀ q₀ old : Bytes} {o : Sizes} {ba
 pub step_due :
     {j : Bytes} {at form base : ℕ} {o : Sizes} {u : Due} {call : Call} {n start end next : ℕ} → DueAt j at form base o u
     → u ≡ Step call n start end next → StepDue j at form base o call n start end next
-step_due {j} {at} {form} {base} {o} {call = call} {n} {start} {end} {next} (isStep {call = call'} {n = n'} {start = start'} {end = end'} {next = next'} x) e =
+step_due {j} {at} {form} {base} {o} {call = call} {n} {start} {end} {next} (is_step_here {call = call'} {n = n'} {start = start'} {end = end'} {next = next'} x) e =
     let ec : call' ≡ call = cc in
     let en : n' ≡ n = cc in
     let es : start' ≡ start = cc in
     let ed : end' ≡ end = cc in
     let ex : next' ≡ next = cc in
     rw (← ec, ← en, ← es, ← ed, ← ex) x
-step_due (isEnd x h) e = absurd (let z : ◌≡◌ {A = ℕ} 0 1 = cc in omega arith)
+step_due (is_end x h) e = absurd (let z : ◌≡◌ {A = ℕ} 0 1 = cc in omega arith)
 
 pub end_due :
     {j : Bytes} {at form base : ℕ} {o : Sizes} {u : Due} {w : Last} → DueAt j at form base o u → u ≡ AtLast w
     → EndsAt j form at (ending_of w) × IsByte w
-end_due (isStep x) e = absurd (let z : ◌≡◌ {A = ℕ} 0 1 = cc in omega arith)
-end_due {j} {at} {form} {w = w} (isEnd {w = w'} x h) e = let ew : w' ≡ w = cc in rw (← ew) (x, h)
+end_due (is_step_here x) e = absurd (let z : ◌≡◌ {A = ℕ} 0 1 = cc in omega arith)
+end_due {j} {at} {form} {w = w} (is_end {w = w'} x h) e = let ew : w' ≡ w = cc in rw (← ew) (x, h)
 
 -- a step that is due: the indices v, c and l where the call finds its core and its line, what going through the core's copies found, and the
 -- effect d there

@@ -8,11 +8,11 @@ use Rattle.protocol.specs.declared.{Call.Call, Given.{Given, TheVariants.{Bytes 
 use Rattle.protocol.proofs.{Tests.never, Digits.digits_right}
 use Rattle.spelling.{specs.{Decimal.decimal, Hex.{hex, Spells}}, proofs.HexLaws.unhex_length}
 use Rattle.grammar.specs.Form.{Part, fixed, value, number, pairs, lay, Given as Spelled, spellings, spell}
-use Rattle.grammar.specs.Table.{Numbered, Says, opens as saysOpening, calls, rows_of, row_at}
+use Rattle.grammar.specs.Table.{Numbered, Says, opens as says_opening, calls, rows_of, row_at}
 use Rattle.grammar.specs.Line.{said, Spelt, LineOf, too_long, no_form, wrong_number, wrong_data, spelt}
 use Rattle.grammar.{specs.declared.Line.{Line, TheVariants.{Opening as OpeningLine, Step as StepLine, Refused as RefusedLine}}, proofs.Fit.Shaped}
 use Rattle.grammar.proofs.Forms.{SaysIn, row_says, row_shape, has_data, in_digits, Fed, row_fed}
-use Rattle.journal.specs.Journal.{in_journal, LineAt, NextOf, too_much, empty, ended, unended, a_line as wholeLine}
+use Rattle.journal.specs.Journal.{in_journal, LineAt, NextOf, too_much, empty, ended, unended, a_line as whole_line}
 use Rattle.journal.specs.declared.Next.{Next, TheVariants.{Opening, Step, End, Refused}}
 
 -- ---- a step's data
@@ -66,7 +66,7 @@ LineKnown form s (RefusedLine n) = n ≤ 14
 
 says_known : (form : ℕ) (p : List Part) (s : Bytes) (w : Says) (bs : Bytes) → SaysIn form w → Fed p w → Ends p s bs
     → LineKnown form s (said w (length s - length (hex bs)) (length s))
-says_known form p s (saysOpening f o) bs i h e = i
+says_known form p s (says_opening f o) bs i h e = i
 says_known form p s (calls c) bs i h e = (i, omega arith, refl, rw (ends_drop p s bs e) (ends_right p s bs (given_as (about c).act) e h))
 
 spelt_known : (form : ℕ) (s : Bytes) (a : Line) → Spelt (rows_of form) s a → LineKnown form s a
@@ -139,4 +139,4 @@ known (too_much l) = omega arith
 known (empty l h e) = omega arith
 known (ended l h n) = n
 known (unended l h w) = omega arith
-known {j} {at} {form} (wholeLine {a = a} l next s h o) = placed_known j at form l next a h (line_known form l o)
+known {j} {at} {form} (whole_line {a = a} l next s h o) = placed_known j at form l next a h (line_known form l o)

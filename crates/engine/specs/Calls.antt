@@ -3,7 +3,7 @@ use Rattle.std.specs.Prelude.{ℕ, ◌+◌, ◌-◌, min, length}
 use mathlib.Core.{Path.◌≡◌, List.[]}
 use Rattle.std.specs.Borrow.{Bor}
 use Rattle.protocol.specs.{Buffers.{Bytes, part, copy_start}, Machine.{Machine, machine, core_of, line_of}}
-use Rattle.protocol.specs.{Step.{meaning, open_reply, opened, step, Buffer, inPrivate, inShared, Shown, shown}, declared.Opening.Opening}
+use Rattle.protocol.specs.{Step.{meaning, open_reply, opened, step, Buffer, in_private, in_shared, Shown, shown}, declared.Opening.Opening}
 use Rattle.protocol.specs.declared.{State.State, Call.Call}
 use Rattle.tables.specs.Spans.{span_of}
 use Rattle.engine.specs.declared.{Opened.Opened, Returned.Returned}
@@ -34,8 +34,8 @@ pub record PartOf (s : Bor Bytes) (start count : ℕ) (r : Bor Bytes) : Type 0 w
 
 -- which of the two lent slices a buffer is, the private one p or the shared one q
 abbrev pub lent_as : Buffer → Bor Bytes → Bor Bytes → Bor Bytes
-lent_as inPrivate p q = p
-lent_as inShared p q = q
+lent_as in_private p q = p
+lent_as in_shared p q = q
 
 -- r is the part that x names of the lent slices p and q
 abbrev pub IsPart : Shown → Bor Bytes → Bor Bytes → Bor Bytes → Type 0

@@ -1,7 +1,9 @@
-// What a host simulator calls from C: lines and whole journals, bytes in, bytes out. include/fabric.h declares the functions.
+// What a host simulator calls: lines and whole journals, bytes in, bytes out. The crate `host_c` exports these functions to C, and
+// include/fabric.h declares them.
 //
 // Each one hands its bytes on, to what the programs call too, and says the answer in a number.
 #![tactic(auto)]
+
 ghost use Rattle.std.specs.Prelude.{◌≡◌};
 ghost use Rattle.whole.specs.Whole.{Checks};
 ghost use Rattle.convert.specs.declared.To.TheVariants.{First, Second};
@@ -14,8 +16,7 @@ use spelling::Put;
 const NO_ROOM: usize = 18446744073709551615;
 
 // 0 for a step line of a `fabric=1` journal, and otherwise its refusal: 10, 11, 12 or 13. The newline is not passed.
-#[unsafe(no_mangle)]
-pub extern "C" fn fabric_check_line(line: &[u8]) -> u32
+pub fn fabric_check_line(line: &[u8]) -> u32
     ensures { Verdict line.now result }
 {
     grammar::number_of(grammar::read_line(line, 1))
@@ -23,8 +24,7 @@ pub extern "C" fn fabric_check_line(line: &[u8]) -> u32
 
 // 0 for a journal that reads whole, and otherwise the refusal that ends its listing: 7, 10 to 14. `line` is then the number of
 // the last line, or of the one that is refused.
-#[unsafe(no_mangle)]
-pub extern "C" fn fabric_check(journal: &[u8], line: &mut usize) -> u32
+pub fn fabric_check(journal: &[u8], line: &mut usize) -> u32
     ensures { Checks journal.now result line.new }
 {
     let checked = whole::check(journal);
@@ -43,16 +43,14 @@ fn size_of(put: Put) -> usize
 }
 
 // The listing of a journal, at the start of `out`: its length, or SIZE_MAX where it has no room there.
-#[unsafe(no_mangle)]
-pub extern "C" fn fabric_list(journal: &[u8], out: &mut [u8]) -> usize
+pub fn fabric_list(journal: &[u8], out: &mut [u8]) -> usize
     ensures { ListsFor journal.now out.old out.new result }
 {
     size_of(whole::list(journal, out))
 }
 
 // The line of a journal's tally, at the start of `out`: its length, or SIZE_MAX where it has no room there.
-#[unsafe(no_mangle)]
-pub extern "C" fn fabric_tally(journal: &[u8], out: &mut [u8]) -> usize
+pub fn fabric_tally(journal: &[u8], out: &mut [u8]) -> usize
     ensures { TalliesFor journal.now out.old out.new result }
 {
     let counts = whole::tally(journal);
@@ -73,16 +71,14 @@ fn answer_of(converted: Converted, length: &mut usize) -> u32
 }
 
 // A journal of `fabric=2` as one of `fabric=1`, at the start of `out`: 0, or the refusal.
-#[unsafe(no_mangle)]
-pub extern "C" fn fabric_to1(journal: &[u8], out: &mut [u8], length: &mut usize) -> u32
+pub fn fabric_to1(journal: &[u8], out: &mut [u8], length: &mut usize) -> u32
     ensures { ConvertsFor First journal.now out.old out.new length.old length.new result }
 {
     answer_of(convert::to1(journal, out), length)
 }
 
 // A journal of `fabric=1` as one of `fabric=2`, at the start of `out`: 0, or the refusal.
-#[unsafe(no_mangle)]
-pub extern "C" fn fabric_to2(journal: &[u8], out: &mut [u8], length: &mut usize) -> u32
+pub fn fabric_to2(journal: &[u8], out: &mut [u8], length: &mut usize) -> u32
     ensures { ConvertsFor Second journal.now out.old out.new length.old length.new result }
 {
     answer_of(convert::to2(journal, out), length)

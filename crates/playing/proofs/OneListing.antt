@@ -9,7 +9,7 @@ use Rattle.journal.{specs.{Journal.NextOf, declared.Next.{Next, TheVariants.{Ope
 use Rattle.listing.specs.Record.{record_text}
 use Rattle.driver.{specs.Listing.{Ending, NotOpened, outside, refused_first, not_opened}, proofs.Reading.known}
 use Rattle.playing.specs.{Listing.{ReadAs, listing_from, Opens, Listing, opens, fails, Tally, counted, nothing}}
-use Rattle.playing.specs.Pieces.{Pieces, opens as opensPieces, fails as failsPieces, pieces_from}
+use Rattle.playing.specs.Pieces.{Pieces, opens as opens_pieces, fails as fails_pieces, pieces_from}
 use Rattle.playing.specs.Theorems.{OneListing, OneListingTheorem, OneTally, OneTallyTheorem}
 use Rattle.playing.proofs.OneReading.{same_next, reads_same, one_reading_theorem}
 
@@ -60,12 +60,12 @@ tally_same (nothing n) (counted x) = absurd (not_both x n)
 tally_same (nothing n) (nothing m) = refl
 
 pub pieces_same : {j : Bytes} {ts us : List Bytes} → Pieces j ts → Pieces j us → ts ≡ us
-pieces_same (opensPieces {gs = gs} {e = e} x) (opensPieces {o = o'} y) =
+pieces_same (opens_pieces {gs = gs} {e = e} x) (opens_pieces {o = o'} y) =
     let s = opens_same x y in
     ap (λ (o : Sizes). in_pieces o gs e) s.0 ∙ ap₂ (λ (l : List Entry) (c : Ending). in_pieces o' l c) s.1 s.2
-pieces_same (opensPieces x) (failsPieces n) = absurd (not_both x n)
-pieces_same (failsPieces n) (opensPieces x) = absurd (not_both x n)
-pieces_same (failsPieces n) (failsPieces m) = ap (λ (k : ℕ). not_opened k ∷ []) (refusal_same n m)
+pieces_same (opens_pieces x) (fails_pieces n) = absurd (not_both x n)
+pieces_same (fails_pieces n) (opens_pieces x) = absurd (not_both x n)
+pieces_same (fails_pieces n) (fails_pieces m) = ap (λ (k : ℕ). not_opened k ∷ []) (refusal_same n m)
 
 -- ---- there is one
 

@@ -9,7 +9,7 @@ use Rattle.listing.specs.Record.{record_text}
 use Rattle.driver.specs.{Listing.{Ending, entry_at, no_line, a_line, EndsAt, lines, last_lines}, declared.Checkpoint.Checkpoint}
 use Rattle.driver.specs.Play.{run_from, Leads, Piece, a_step, the_end}
 use Rattle.driver.proofs.{Running.{steps_append, run_records, run_length}, Counting.{plus_assoc, plus_none, tally_append}}
-use Rattle.playing.specs.{Listing.{ReadAs, opens as opensListing, fails as failsListing}, Calls.joined}
+use Rattle.playing.specs.{Listing.{ReadAs, opens as opens_listing, fails as fails_listing}, Calls.joined}
 use Rattle.playing.specs.{Pieces.{lines_of, pieces_from, opens, fails}, Theorems.PiecesTheorem}
 use Rattle.playing.proofs.OneReading.{one_reading_theorem}
 
@@ -42,8 +42,8 @@ joined_pieces rs u = joined_append (lines_of rs) (u ∷ []) ∙ ap₂ (λ (a b :
 pub pieces_theorem : PiecesTheorem
 unfolding joined
 pieces_theorem j ts (opens {o = o} {gs = gs} {e = e} x) =
-    rw (joined_pieces _ _) (opensListing x)
-pieces_theorem j ts (fails {n = n} x) = rw (joined_one _) (failsListing x)
+    rw (joined_pieces _ _) (opens_listing x)
+pieces_theorem j ts (fails {n = n} x) = rw (joined_one _) (fails_listing x)
 
 -- ---- from a checkpoint on
 

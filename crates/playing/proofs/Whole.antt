@@ -7,8 +7,8 @@ use Rattle.protocol.specs.{Buffers.{Bytes, private_length, shared_length}, decla
 use Rattle.driver.specs.declared.{Checkpoint.Checkpoint, Progress.{Progress, TheVariants.{Finished, More}}}
 use Rattle.driver.specs.Play.{run_from, Tells, finished, more, unfit, first_checkpoint, Begins, opens, fails, no_room, no_room_to_end}
 use Rattle.driver.proofs.Counting.{none_plus}
-use Rattle.playing.specs.Listing.{Opens, Listing, fails as failsListing, Tally, counted, nothing}
-use Rattle.playing.specs.{Calls.{joined, PlaysOn, last, next, over, begun}, Pieces.{lines_of, Pieces, opens as opensPieces}, Theorems.WholeTheorem}
+use Rattle.playing.specs.Listing.{Opens, Listing, fails as fails_listing, Tally, counted, nothing}
+use Rattle.playing.specs.{Calls.{joined, PlaysOn, last, next, over, begun}, Pieces.{lines_of, Pieces, opens as opens_pieces}, Theorems.WholeTheorem}
 use Rattle.playing.proofs.Pieces.{joined_append, joined_lines, joined_pieces, pieces_theorem, PiecesAt, onward, ended}
 
 -- ---- from a checkpoint on
@@ -62,7 +62,7 @@ begins_finished :
     {j : Bytes} {there : Checkpoint} {text : Bytes} {room : ℕ} {g : Progress} → Begins j there text room g → g ≡ Finished → Whole j text there.counts
 begins_finished (opens x h t u) e = absurd (let z : ◌≡◌ {A = ℕ} 0 1 = cc in omega arith)
 begins_finished {j} (fails n t u) e =
-    (subst (Listing j) (sym u) (failsListing n), subst (λ (s : Checkpoint). Tally j s.counts) (sym t) (nothing n))
+    (subst (Listing j) (sym u) (fails_listing n), subst (λ (s : Checkpoint). Tally j s.counts) (sym t) (nothing n))
 begins_finished (no_room x h t u r) e = absurd (let z : ◌≡◌ {A = ℕ} 0 1 = cc in omega arith)
 begins_finished (no_room_to_end n t u r) e = absurd (let z : ◌≡◌ {A = ℕ} 0 1 = cc in omega arith)
 
@@ -75,7 +75,7 @@ begins_pieces {j} (opens {form = f} {o = o} {next = n} x h t v) e {ts} {k} y =
     let w : PiecesAt j (first_checkpoint n f o) (replicate (private_length o) 0) (replicate (shared_length o) 0) ts k =
     subst (λ (s : Checkpoint). PiecesAt j s (replicate (private_length s.state.opening) 0) (replicate (shared_length s.state.opening) 0) ts k) t y in
     let r : Opens j o w.steps w.ending = record { form = f; next = n; first = x; accepted = h; reads = w.reads } in
-    (subst (Pieces j) (sym (ap₂ (λ (a : Bytes) (b : List Bytes). a ∷ b) v w.texts)) (opensPieces r), subst (Tally j) (sym (w.counts ∙ none_plus _)) (counted r))
+    (subst (Pieces j) (sym (ap₂ (λ (a : Bytes) (b : List Bytes). a ∷ b) v w.texts)) (opens_pieces r), subst (Tally j) (sym (w.counts ∙ none_plus _)) (counted r))
 begins_pieces (fails n t v) e y = absurd (let z : ◌≡◌ {A = ℕ} 0 1 = cc in omega arith)
 begins_pieces (no_room x h t v r) e y = absurd (let z : ◌≡◌ {A = ℕ} 0 1 = cc in omega arith)
 begins_pieces (no_room_to_end n t v r) e y = absurd (let z : ◌≡◌ {A = ℕ} 0 1 = cc in omega arith)

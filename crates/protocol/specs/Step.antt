@@ -84,7 +84,7 @@ step m call given =
 
 -- one of the two lent buffers
 pub data Buffer : Type 0 where
-  inPrivate inShared : Buffer
+  in_private in_shared : Buffer
 
 -- a part of one of them, from start up to end
 pub record Shown : Type 0 where
@@ -102,6 +102,6 @@ unfoldable pub shown : Machine → ℕ → ℕ → Shown
 shown m c l =
     pick (eqb (show_refusal m c l) 0)
     (pick (is_held (copy_at m.state c l))
-    (record { buffer = inPrivate; start = copy_start m.state.opening c l; end = copy_start m.state.opening c l + m.state.opening.width })
-    (record { buffer = inShared; start = manager_start m.state.opening l; end = manager_start m.state.opening l + m.state.opening.width }))
-    (record { buffer = inShared; start = 0; end = 0 })
+    (record { buffer = in_private; start = copy_start m.state.opening c l; end = copy_start m.state.opening c l + m.state.opening.width })
+    (record { buffer = in_shared; start = manager_start m.state.opening l; end = manager_start m.state.opening l + m.state.opening.width }))
+    (record { buffer = in_shared; start = 0; end = 0 })

@@ -5,7 +5,7 @@ use lib.{Dec.{leb, ltb, eqb}, ListN.{length, take, drop}}
 use borrow.Author.Tests.{leb-true, leb-false, ltb-true, ltb-false, eqb-true, eqb-false}
 use Rattle.protocol.specs.{Buffers.Bytes, Run.Entry, declared.Call.Call}
 use Rattle.spelling.specs.Bytes.{up_to}
-use Rattle.journal.specs.{Journal.{in_journal, NextOf, too_much, empty, ended as atLast, unended}, declared.Next.{Next, TheVariants.{Opening, Step, End, Refused}}}
+use Rattle.journal.specs.{Journal.{in_journal, NextOf, too_much, empty, ended as at_last, unended}, declared.Next.{Next, TheVariants.{Opening, Step, End, Refused}}}
 use Rattle.journal.proofs.Lines.{line_answer, none_here}
 use Rattle.driver.specs.Listing.{Ending, Between, no_line, a_line, EndsAt, at_end, at_refusal}
 use Rattle.reference_points.proofs.Lines.{answer, says}
@@ -40,7 +40,7 @@ look j form at = go (leb (length j) 65536) (ltb at (length j)) (ltb (end j at) (
     go : (a b c d : Bool) → leb (length j) 65536 ≡ a → ltb at (length j) ≡ b → ltb (end j at) (length j) ≡ c → eqb form 0 ≡ d → At j form at
     go false b c d s h e f = record { next = Refused 14; there = too_much (leb-false _ _ s) }
     go true false c true s h e f = record { next = Refused 11; there = empty (leb-true _ _ s) (ltb-false _ _ h) (eqb-true _ _ f) }
-    go true false c false s h e f = record { next = End; there = atLast (leb-true _ _ s) (ltb-false _ _ h) (eqb-false _ _ f) }
+    go true false c false s h e f = record { next = End; there = at_last (leb-true _ _ s) (ltb-false _ _ h) (eqb-false _ _ f) }
     go true true false d s h e f =
         record { next = Refused 10; there = unended (leb-true _ _ s) (ltb-true _ _ h) (none_here j at (end j at) refl (ltb-false _ _ e)) }
     go true true true d s h e f = record { next = _; there = line j form at s e }

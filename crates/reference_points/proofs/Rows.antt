@@ -7,10 +7,10 @@ use Rattle.protocol.specs.{Refusals.{state_refusal, refusal}, Step.{meaning, acc
 use Rattle.protocol.specs.Tables.{load_owned, load_table, store_table, fence_table, advance_table, evict_table, serve_load, serve_asked, serve_table}
 use Rattle.protocol.specs.Tables.{receive_renew, receive_grant, receive_table, yield_table, take_table, victim_table, table_of}
 use Rattle.reference_points.specs.{Rows.{got, told}, Points.{points, PointsTheorem}, Steps.{step_rows, StepsTheorem}}
-use Rattle.reference_points.specs.Numbers.{called, turned_away, refusals, NumbersTheorem, opens, accepted as isAccepted, refused_with_seven}
+use Rattle.reference_points.specs.Numbers.{called, turned_away, refusals, NumbersTheorem, opens, accepted as is_accepted, refused_with_seven}
 use Rattle.reference_points.specs.{Numbers.{inside, outside, OpeningsTheorem}, Show.{is_shown, is_told, looks, ShowTheorem}}
 use Rattle.reference_points.specs.Spelt.{stored, told_of, spelt_rows, digit_refusals, SpeltTheorem}
-use Rattle.reference_points.specs.Capacity.{got as capGot, told as capTold, full_rows, victim_rows, CapacityRowsTheorem}
+use Rattle.reference_points.specs.Capacity.{got as cap_got, told as cap_told, full_rows, victim_rows, CapacityRowsTheorem}
 use Rattle.reference_points.specs.Commits.{narrow}
 use Rattle.protocol.proofs.Capacity.{capacity_theorem}
 use native.Mathlib.Omega.{arith}
@@ -41,7 +41,7 @@ spelt_theorem = record { spelled = refl; rows = agree stored told_of spelt_rows 
 
 pub openings_theorem : OpeningsTheorem
 unfolding calling
-openings_theorem = record { inside = agree opens isAccepted inside refl; outside = agree opens refused_with_seven outside refl }
+openings_theorem = record { inside = agree opens is_accepted inside refl; outside = agree opens refused_with_seven outside refl }
 
 pub show_theorem : ShowTheorem
 unfolding calling
@@ -51,8 +51,8 @@ pub capacity_rows_theorem : CapacityRowsTheorem
 unfolding calling
 capacity_rows_theorem =
     record {
-      full = agree capGot capTold full_rows refl;
-      victims = agree capGot capTold victim_rows refl;
+      full = agree cap_got cap_told full_rows refl;
+      victims = agree cap_got cap_told victim_rows refl;
       fresh = refl;
       outside = refl;
       of_three = refl;

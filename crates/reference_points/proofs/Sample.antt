@@ -6,7 +6,7 @@ use Rattle.protocol.specs.{Pick.how_many, Machine.fresh_machine, Run.{Entry, run
 use Rattle.protocol.specs.declared.Call.TheVariants.{Load, Store, Serve, Receive, Take}
 use Rattle.protocol.specs.declared.Given.TheVariants.{Digits as AsDigits}
 use Rattle.spelling.specs.{Decimal.{decimal, decimal_up_to}, Hex.hex, Text.text}
-use Rattle.journal.specs.{Journal.{NextOf, empty, ended as atLast}, Theorems.{Reached, start, on}, declared.Next.TheVariants.Opening}
+use Rattle.journal.specs.{Journal.{NextOf, empty, ended as at_last}, Theorems.{Reached, start, on}, declared.Next.TheVariants.Opening}
 use Rattle.listing.specs.Record.{record_as, end_text, tally_text}
 use Rattle.driver.specs.Listing.{ended, no_line, a_line, at_end, lines, refused_first}
 use Rattle.playing.specs.Listing.{ReadAs, Opens, opens, counted, nothing}
@@ -33,7 +33,7 @@ reads =
           (a_line (line sample_journal 1 89 refl refl)
           (a_line (line sample_journal 1 107 refl refl)
           (a_line (line sample_journal 1 138 refl refl) (a_line (line sample_journal 1 160 refl refl) no_line)))));
-      ends = at_end (atLast (lit≤ tt) (lit≤ tt) (λ e. omega arith));
+      ends = at_end (at_last (lit≤ tt) (lit≤ tt) (λ e. omega arith));
     }
 
 -- so it opens, and is read

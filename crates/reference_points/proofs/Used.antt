@@ -8,7 +8,7 @@ use Rattle.protocol.specs.declared.{Answer.TheVariants.Done as Named, Name.TheVa
 use Rattle.spelling.specs.Text.{text}
 use Rattle.tables.specs.Spans.{span_of}
 use Rattle.engine.specs.History.{MadeFrom, none, next, records_of, history}
-use Rattle.journal.specs.{Journal.{NextOf, ended as atLast}, declared.Next.TheVariants.Opening}
+use Rattle.journal.specs.{Journal.{NextOf, ended as at_last}, declared.Next.TheVariants.Opening}
 use Rattle.driver.specs.Listing.{ended, no_line, a_line, at_end}
 use Rattle.playing.{specs.Listing.{ReadAs, Opens, opens}, proofs.Printed.printed_theorem}
 use Rattle.reference_points.specs.{Commits.{small, narrow, exchanges, given_up, spelled, filled, repeated, entry_of}, Chain.{Expected, expected, chain}}
@@ -58,7 +58,7 @@ reads =
           (a_line (line pair_journal 1 89 refl refl)
           (a_line (line pair_journal 1 107 refl refl)
           (a_line (line pair_journal 1 138 refl refl) (a_line (line pair_journal 1 160 refl refl) no_line)))));
-      ends = at_end (atLast (lit≤ tt) (lit≤ tt) (λ e. omega arith));
+      ends = at_end (at_last (lit≤ tt) (lit≤ tt) (λ e. omega arith));
     }
 
 opened : Opens pair_journal pair steps ended

@@ -5,7 +5,7 @@ use native.Mathlib.Omega.{arith}
 use lib.ListN.{length, length-append}
 use Rattle.protocol.{specs.{Limits.opening_fits, Buffers.Bytes, Run.Entry, declared.{Opening.Opening as Sizes, Call.Call}}, proofs.Tests.never}
 use Rattle.spelling.specs.One.{One}
-use Rattle.journal.specs.Journal.{NextOf, too_much, empty, ended as atLast, unended, a_line as wholeLine, goes_on}
+use Rattle.journal.specs.Journal.{NextOf, too_much, empty, ended as at_last, unended, a_line as whole_line, goes_on}
 use Rattle.journal.{specs.declared.Next.{Next, TheVariants.{Opening, Step, End, Refused}}, proofs.Lines.{line_read, line_inside}}
 use Rattle.driver.specs.Listing.{Ending, ended, stopped, entry_at, Between, no_line, a_line, at_end, at_refusal, refused_first}
 use Rattle.driver.proofs.{Running.steps_append, Resuming.steps_long, Starting.{open_fits, outside_limits}, Reading.known}
@@ -18,9 +18,9 @@ use Rattle.whole.specs.{Whole.{end_number, end_line, Checks, opens, fails, Check
 read_short : {j : Bytes} {at form : ℕ} {n : Next} → NextOf j at form n → goes_on n ≡ true → length j ≤ 65536
 read_short (too_much l) g = never (sym g)
 read_short (empty l h e) g = never (sym g)
-read_short (atLast l h e) g = never (sym g)
+read_short (at_last l h e) g = never (sym g)
 read_short (unended l h w) g = never (sym g)
-read_short (wholeLine l next s h o) g = s
+read_short (whole_line l next s h o) g = s
 
 -- the second line does not start at the journal's start
 pub first_long : {j : Bytes} {form : ℕ} {o : Sizes} {next : ℕ} → NextOf j 0 0 (Opening form o next) → 1 ≤ next

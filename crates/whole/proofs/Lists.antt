@@ -11,7 +11,7 @@ use Rattle.listing.specs.Record.{record_text}
 use Rattle.driver.specs.{Listing.not_opened, declared.{Checkpoint.Checkpoint, Progress.{Progress, TheVariants.More}, Played.Played}}
 use Rattle.driver.specs.Play.{run_from, resumable, Fills, Tells, finished, more, unfit, Plays, Begins, opens, fails, no_room, no_room_to_end, Starts}
 use Rattle.driver.proofs.{Reading.known, Resuming.leads_on}
-use Rattle.playing.specs.{Calls.{joined, more_to_play}, Pieces.{lines_of, Pieces, opens as opensPieces, fails as failsPieces}}
+use Rattle.playing.specs.{Calls.{joined, more_to_play}, Pieces.{lines_of, Pieces, opens as opens_pieces, fails as fails_pieces}}
 use Rattle.playing.proofs.{OneReading.one_reading_theorem, Writing.text_and_room, Whole.begins_pieces}
 use Rattle.playing.proofs.Pieces.{joined_one, joined_lines, joined_pieces, PiecesAt, onward, ended, piece_first}
 use Rattle.whole.specs.Whole.{end_of, Lists}
@@ -31,16 +31,16 @@ begins_listed :
 unfolding joined
 begins_listed (opens x h t u) e = never e
 begins_listed (fails {n = n} x t u) e =
-    record { pieces = not_opened n ∷ []; listing = failsPieces x; fits = fits_all _ (u ∙ sym (joined_one (not_opened n))) (omega arith) }
+    record { pieces = not_opened n ∷ []; listing = fails_pieces x; fits = fits_all _ (u ∙ sym (joined_one (not_opened n))) (omega arith) }
 begins_listed {j} (no_room {form = f} {o = o} {next = n} x h t u r) e =
     let i = one_reading_theorem j f n (known x).1 in
     record {
       pieces = _;
-      listing = opensPieces (record { form = f; next = n; first = x; accepted = h; reads = i.holds });
+      listing = opens_pieces (record { form = f; next = n; first = x; accepted = h; reads = i.holds });
       fits = fits_some [] (record_text (place 0) (open_reply o)) _ u (omega arith) (omega (arith, r)) refl;
     }
 begins_listed (no_room_to_end {n = n} x t u r) e =
-    record { pieces = not_opened n ∷ []; listing = failsPieces x; fits = fits_some [] (not_opened n) [] u (omega arith) (omega (arith, r)) refl }
+    record { pieces = not_opened n ∷ []; listing = fails_pieces x; fits = fits_some [] (not_opened n) [] u (omega arith) (omega (arith, r)) refl }
 
 pub start_lists : {j old new : Bytes} {r : Played} → Starts j old new r → more_to_play r.progress ≡ false → Lists j old new (end_of r.progress r.written)
 start_lists {j} {old} {new} {r} x e =

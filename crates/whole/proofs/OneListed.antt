@@ -3,7 +3,7 @@ use mathlib.Core.{Path.{◌≡◌, refl, ◌∙◌, ap, ap₂}, List.List}
 use lib.{Dec.leb, ListN.length}
 use Rattle.protocol.specs.{Pick.pick, Buffers.Bytes}
 use Rattle.spelling.specs.{One.One, Over.over, declared.Put.{Put, TheVariants.{End, Short}}}
-use Rattle.playing.specs.{Calls.joined, Pieces.{Pieces, opens as opensPieces, fails as failsPieces}}
+use Rattle.playing.specs.{Calls.joined, Pieces.{Pieces, opens as opens_pieces, fails as fails_pieces}}
 use Rattle.playing.proofs.OneListing.{pieces_same, Opened, one, none, either}
 use Rattle.whole.specs.{Whole.{fitting, PutTexts, Lists}, Theorems.{Listed, OneListedTheorem}}
 
@@ -30,5 +30,5 @@ one_listed_theorem j old = go (either j)
         }
 
     go : Opened j → One (λ (x : Listed). Lists j old x.buffer x.answer)
-    go (one x) = found (opensPieces x)
-    go (none n) = found (failsPieces n)
+    go (one x) = found (opens_pieces x)
+    go (none n) = found (fails_pieces n)

@@ -1,4 +1,5 @@
 -- `driver::play` meets its contract. The loop's invariant: the lengths of both buffers stay, and `Reached`. The measure is what is left of the
+-- journal. A step is one fact, `made`, at the place where its effect is known; what comes later goes by it. Assumes nothing.
 use Prim.Native.Nat.{◌-◌, ◌≤◌, ◌<◌}
 use mathlib.Core.{Path.{◌≡◌, refl, sym, ◌∙◌, ap}, Bool.true}
 use native.Mathlib.Omega.{arith}

@@ -1,5 +1,4 @@
 -- Nothing under a refusal, else the part of the copy or of the manager's line.
--- what `show` is given; `t1` is its state
 use mathlib.Core.Path.{sym, ◌∙◌}
 use native.Mathlib.Omega.{arith}
 use borrow.Author.Rules.{rules}

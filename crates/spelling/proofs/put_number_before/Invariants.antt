@@ -1,4 +1,5 @@
 -- `spelling::put_number_before` meets its contract. The loop's invariant: the digits so far are before the offset, and come after those of `m`.
+-- Assumes nothing.
 use native.Mathlib.Omega.{arith}
 use lib.ListN.{length, length-set}
 use Rattle.spelling.proofs.OverLaws.{Digits, before_not, twenty_few, twenty_past, digits_start, digits_room, digits_next, digits_last}
