@@ -17,3 +17,9 @@ GaveSome old new text = (n : ℕ) × (n ≤ length text) × Appends old new (tak
 -- at Ok the writer got the text; at an error a beginning of it
 abbrev pub Gave : {T E : Type 0} → Option (List ℕ) → Option (List ℕ) → Result T E → List ℕ → Type 0
 Gave old new r text = MatchResult r (λ v. Appends old new text) (λ e. GaveSome old new text)
+
+-- the journal that an input gave: all that it had, or of more than that 65,537 bytes
+pub record Given (old new : Option (List ℕ)) (journal : List ℕ) : Type 0 where
+  pub gave : Consumes old new journal
+  pub most : length journal ≤ 65537
+  pub all : length journal < 65537 → IsAtEnd new

@@ -16,7 +16,7 @@ use driver::{Checkpoint, Progress};
 use protocol::Counts;
 use std::io;
 use std::io::{Read, Write};
-pub use streams::{complain, write_all};
+pub use streams::{Fault, complain, write_all};
 
 // What becomes of a listing: it is written, or dropped.
 #[derive(Clone, Copy)]

@@ -7,6 +7,13 @@ ghost use Rattle.runner.specs.{Input.ReadInto, Moved.{Took, Gave}};
 use std::io;
 use std::io::{Cursor, ErrorKind, Read, Write};
 
+// What failed in a program, and why: reading its input, or writing its output.
+#[derive(Clone, Copy)]
+pub enum Fault {
+    Reading(io::Error),
+    Writing(io::Error),
+}
+
 // How many reads that a signal interrupts are tried again.
 const MOST_RETRIES: usize = 1000;
 
@@ -60,16 +67,20 @@ fn words_end(text: &[u8], why: io::Error) -> usize
     }
 }
 
-// Says in a line what failed, and why: `steps: cannot read standard input: Is a directory`. Where it can't be said, there is nothing left to
-// say that with.
-pub fn complain<W: Write>(err: &mut W, what: &[u8], why: io::Error) {
+// Says in a line which program failed, at what, and why: `steps: cannot read standard input: Is a directory`. Where it can't be said, there is
+// nothing left to say that with.
+pub fn complain<W: Write>(err: &mut W, program: &[u8], fault: Fault) {
+    let (what, why) = match fault {
+        Fault::Reading(why) => (&b": cannot read standard input: "[..], why),
+        Fault::Writing(why) => (&b": cannot write standard output: "[..], why),
+    };
     let mut text = Cursor::new([0u8; 256]);
     let _ = write!(text, "{why}");
     let end = (text.position() as usize).min(256);
     let words = text.into_inner();
     let shown = words_end(&words[..end], why);
+    let _ = write_all(err, program);
     let _ = write_all(err, what);
-    let _ = write_all(err, b": ");
     let _ = write_all(err, &words[..shown]);
     let _ = write_all(err, b"\n");
 }

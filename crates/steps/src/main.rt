@@ -3,16 +3,29 @@
 // A read that fails is no end: nothing is listed then. That a read or a write failed, and why, is one
 // line on standard error.
 #![tactic(auto)]
-use runner::Texts;
+ghost use Rattle.steps.specs.Listed.{Lists};
+
+use runner::{Fault, Texts};
+use std::io::{Read, Write};
+
+// Plays the journal of an input and writes its listing to an output.
+fn list<R: Read, W: Write>(input: &mut R, output: &mut W) -> Result<(), Fault>
+    ensures { Lists (R.remaining input.old) (R.remaining input.new) (W.contents output.old) (W.contents output.new) result }
+{
+    let mut journal = [0u8; 65537];
+    match runner::read_input(input, &mut journal) {
+        Ok(n) => match runner::play_whole(&journal[..n], Texts::Written, output) {
+            Ok(_) => Ok(()),
+            Err(why) => Err(Fault::Writing(why)),
+        },
+        Err(why) => Err(Fault::Reading(why)),
+    }
+}
 
 // The status is 0 also where something failed.
 fn main(rt: HostRuntime) {
-    let mut journal = [0u8; 65537];
-    match runner::read_input(&mut rt.stdin(), &mut journal) {
-        Ok(n) => match runner::play_whole(&journal[..n], Texts::Written, &mut rt.stdout()) {
-            Ok(_) => {}
-            Err(why) => runner::complain(&mut rt.stderr(), b"steps: cannot write standard output", why),
-        },
-        Err(why) => runner::complain(&mut rt.stderr(), b"steps: cannot read standard input", why),
+    match list(&mut rt.stdin(), &mut rt.stdout()) {
+        Ok(()) => {}
+        Err(fault) => runner::complain(&mut rt.stderr(), b"steps", fault),
     }
 }

@@ -4,12 +4,13 @@
 // error.
 #![tactic(auto)]
 ghost use Rattle.playing.specs.Listing.{Tally};
-ghost use Rattle.tally.specs.Line.{LineOf};
+ghost use Rattle.tally.specs.Line.{LineOf, Tallies};
 
 use protocol::Counts;
-use runner::Texts;
+use runner::{Fault, Texts};
 use spelling::Put;
 use std::io;
+use std::io::{Read, Write};
 
 // The tally of a journal.
 fn count(journal: &[u8]) -> Counts
@@ -34,18 +35,28 @@ fn put_line(journal: &[u8], line: &mut [u8; 256]) -> usize
     }
 }
 
-// The status is 0 also where something failed.
-fn main(rt: HostRuntime) {
+// Plays the journal of an input and writes its tally to an output.
+fn tally<R: Read, W: Write>(input: &mut R, output: &mut W) -> Result<(), Fault>
+    ensures { Tallies (R.remaining input.old) (R.remaining input.new) (W.contents output.old) (W.contents output.new) result }
+{
     let mut journal = [0u8; 65537];
     let mut line = [0u8; 256];
-    match runner::read_input(&mut rt.stdin(), &mut journal) {
+    match runner::read_input(input, &mut journal) {
         Ok(n) => {
             let end = put_line(&journal[..n], &mut line);
-            match runner::write_all(&mut rt.stdout(), &line[..end]) {
-                Ok(()) => {}
-                Err(why) => runner::complain(&mut rt.stderr(), b"tally: cannot write standard output", why),
+            match runner::write_all(output, &line[..end]) {
+                Ok(()) => Ok(()),
+                Err(why) => Err(Fault::Writing(why)),
             }
         }
-        Err(why) => runner::complain(&mut rt.stderr(), b"tally: cannot read standard input", why),
+        Err(why) => Err(Fault::Reading(why)),
+    }
+}
+
+// The status is 0 also where something failed.
+fn main(rt: HostRuntime) {
+    match tally(&mut rt.stdin(), &mut rt.stdout()) {
+        Ok(()) => {}
+        Err(fault) => runner::complain(&mut rt.stderr(), b"tally", fault),
     }
 }
