@@ -6,6 +6,7 @@
 // names is no argument but a constant: the compiler puts `step` in line where a program calls it at one
 // place only.
 #![tactic(auto)]
+
 use engine::Returned;
 use protocol::{Answer, Call, Given, Opening, State};
 use spelling::Number;

@@ -4,6 +4,7 @@
 // Every buffer is filled with dots. Of each conversion it prints the answer and the whole buffer after it: a result, dots past it,
 // and only dots where the journal was refused.
 #![tactic(auto)]
+
 ghost use Rattle.std.specs.Prelude.{◌≤◌};
 ghost use Rattle.convert.specs.Conversion.{Converts};
 

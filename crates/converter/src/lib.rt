@@ -1,5 +1,6 @@
 // What the programs `to1` and `to2` have in common: the line that a refused conversion has on standard error.
 #![tactic(auto)]
+
 ghost use Rattle.converter.specs.Refusal.{RefusalLine};
 
 // The line of a refusal, `refused=14`, at the end of a buffer; the answer is where it starts. The digits of a number come last

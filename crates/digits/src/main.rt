@@ -11,6 +11,7 @@
 // M advance by the greatest number, L load, V serve and R receive. The digits are r those of a line, x the same with a wrong one first,
 // o one digit less, l one more, f a byte less, m a byte more, and e none.
 #![tactic(auto)]
+
 ghost use Rattle.std.specs.Prelude.{◌≤◌};
 
 use engine::Returned;
@@ -221,7 +222,11 @@ fn play_all<'a>(rt: &impl Print, width: usize, private: &'a mut [u8], shared: &'
     requires { (1 ≤ width) × (width ≤ 64) }
 {
     let d = play(rt, width, private, shared);
-    print_bytes(rt, b"shown data=", engine::show(d.state, private, shared, 1, 1));
+    print_bytes(
+        rt,
+        b"shown data=",
+        engine::show(d.state, private, shared, 1, 1),
+    );
     one_wrong(rt, d, width, private, shared);
     print_bytes(rt, b"private data=", private);
     print_bytes(rt, b"shared data=", shared);

@@ -1,12 +1,12 @@
 -- Reading on comes nearer to the journal's end, and no more lines are read than bytes passed. Assumes nothing.
 use Prim.Native.Nat.{ℕ, ◌+◌, ◌-◌, ◌≤◌, ◌<◌}
-use mathlib.Core.{Path.{◌≡◌, refl, ap, sym, ◌∙◌, subst}, Bool.{Bool, true, false}, List.List}
+use mathlib.Core.{Path.{◌≡◌, refl, ap, ◌∙◌, subst}, Bool.{Bool, true, false}, List.List}
 use native.Mathlib.Omega.{arith}
 use lib.ListN.{length, length-append, length-drop}
 use Rattle.grammar.specs.declared.Line.{Line, TheVariants.{Opening as OpeningLine, Step as StepLine, Refused as RefusedLine}}
 use Rattle.journal.specs.Journal.{in_journal, LineAt, NextOf, too_much, empty, ended, unended, a_line, goes_on, offset_after}
 use Rattle.journal.specs.{Journal.{form_after, StepOf}, Theorems.{Reached, start, on}, declared.{Next.{Next, TheVariants.{Opening, Step, End, Refused}}, Reader.Reader, Step.Step as Reading}}
-use Rattle.lines.specs.{Count.CountsLines, declared.LineCount.LineCount}
+use Rattle.lines.specs.{Count.CountsLines}
 
 stopped : {A : Type 0} → false ≡ true → A
 stopped e = absurd (let z : ◌≡◌ {A = ℕ} 0 1 = cc in omega arith)

@@ -2,6 +2,7 @@
 // One line is printed: how many lines were read, and the number of the refusal if there is one. It is an example of a walk with
 // the reader; unlike `steps` it takes a read that fails for the end of the input.
 #![tactic(auto)]
+
 ghost use Rattle.std.specs.Prelude.{◌≡◌, ◌≤◌, length};
 ghost use Rattle.journal.specs.Journal.{goes_on};
 ghost use Rattle.lines.specs.Count.{CountsLines};

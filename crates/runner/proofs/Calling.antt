@@ -1,15 +1,15 @@
 -- From one call of the driver to the next, each with room, and what the writer got until then.
 use Prim.Native.Nat.{ℕ, ◌-◌, ◌≤◌, ◌<◌}
-use mathlib.Core.{Path.{◌≡◌, refl, sym, ◌∙◌, ap, ap₂, subst}, Bool.{Bool, true, false}, List.{List, [], ◌∷◌, ◌++◌, append-nil, append_assoc}}
+use mathlib.Core.{Path.{◌≡◌, refl, sym, ◌∙◌, ap, ap₂, subst}, Bool.{true, false}, List.{List, [], ◌++◌, append-nil, append_assoc}}
 use native.Mathlib.Omega.{arith}
 use lib.ListN.{length, take, drop, replicate}
 use Rattle.std.specs.Prelude.{Option, Result, Ok, Err}
-use Rattle.std.specs.Io.KnownBytes.{Appends, Keeps}
+use Rattle.std.specs.Io.KnownBytes.{Appends}
 use Rattle.std.proofs.{Common.take-append-drop, KnownBytes.{Appends-nil, Appends-trans, Keeps-refl, Keeps-trans}}
-use Rattle.protocol.{specs.{Buffers.{Bytes, private_length, shared_length}, Machine.machine, Counts.{sum, tally}, declared.Counts.Counts}, proofs.{Tests.never, Bytes.zeros_part, Extents.{Inside, inside}}}
+use Rattle.protocol.{specs.{Buffers.{Bytes, private_length, shared_length}, declared.Counts.Counts}, proofs.{Tests.never, Bytes.zeros_part, Extents.{Inside, inside}}}
 use Rattle.driver.specs.{Play.{run_from, resumable, Plays, Tells, finished, more, unfit, Starts}, declared.Checkpoint.Checkpoint}
 use Rattle.driver.{specs.declared.{Progress.{Progress, TheVariants.{Finished, More}}, Played.Played}, proofs.{Resuming.resumes, Starting.start_fits}}
-use Rattle.playing.specs.{Listing.Listing, Calls.{joined, PlaysOn, last, next, Playing, over, begun}, Pieces.lines_of}
+use Rattle.playing.specs.{Listing.Listing, Calls.{joined, PlaysOn, last, next, over, begun}, Pieces.lines_of}
 use Rattle.playing.specs.Theorems.{Begun, listed, running, Onward, ends, further}
 use Rattle.playing.proofs.{Whole.{whole_theorem, begins_pieces}, Progressing.{start_advances_theorem, play_advances_theorem}, OneReading.one_reading_theorem}
 use Rattle.playing.proofs.Pieces.{PiecesAt, onward as onward_pieces, ended as ended_pieces, joined_append, joined_lines, joined_pieces, pieces_theorem}

@@ -1,13 +1,13 @@
 -- What was read is the journal that the input gave, and what was written its text or a beginning of it.
 use Prim.Native.Nat.{ℕ, ◌≤◌, ◌<◌}
-use mathlib.Core.{Path.{◌≡◌, sym, subst}, List.{List, ◌++◌}}
+use mathlib.Core.{Path.{◌≡◌, sym, subst}}
 use native.Mathlib.Omega.{arith}
 use lib.ListN.{length, take, drop}
-use Rattle.std.specs.Prelude.{Option, Result, Ok, Err}
-use Rattle.std.specs.Io.KnownBytes.{Appends, Consumes, IsAtEnd}
+use Rattle.std.specs.Prelude.{Option, Err}
+use Rattle.std.specs.Io.KnownBytes.{Consumes, IsAtEnd}
 use Rattle.std.proofs.Common.{take-append-drop}
 use Rattle.protocol.specs.Buffers.{Bytes}
-use Rattle.runner.specs.{Moved.{Given, GaveSome}, Runs.{Runs, done, unwritten}}
+use Rattle.runner.specs.{Moved.{Given, GaveSome}, Runs.{Runs, unwritten}}
 use Rattle.runner.specs.declared.streams.Fault.TheVariants.{Writing}
 
 pub given :

@@ -1,6 +1,6 @@
 -- How a whole journal is played, and what a writer gets of its listing, where the writer's bytes are known.
 use mathlib.Core.{Bool.{Bool, true, false}, List.{List, ◌++◌}}
-use Rattle.std.specs.Prelude.{◌≡◌, ℕ, Option, Result, Ok, Err}
+use Rattle.std.specs.Prelude.{◌≡◌, Option, Result, Ok, Err}
 use Rattle.std.specs.Io.KnownBytes.{Appends, Keeps}
 use Rattle.protocol.specs.{Buffers.Bytes, Machine.machine, Run.Entry, declared.Counts.Counts}
 use Rattle.driver.specs.{Listing.Ending, declared.{Checkpoint.Checkpoint, Progress.{Progress, TheVariants.{Finished, More, Short, Unfit}}}}

@@ -1,5 +1,5 @@
 -- What a program does that reads a journal and writes a text, for an input and an output whose bytes are known.
-use Rattle.std.specs.Prelude.{ℕ, ◌++◌, Option, Result, Ok, Err}
+use Rattle.std.specs.Prelude.{◌++◌, Option, Result, Ok, Err}
 use Rattle.std.specs.Io.KnownBytes.{Appends, Keeps}
 use Rattle.protocol.specs.Buffers.{Bytes}
 use Rattle.runner.specs.Moved.{Given}

@@ -5,6 +5,7 @@
 // The journal comes from a reader and the listing goes to a writer, so that the contracts can speak of their bytes: of those of standard
 // input and standard output no contract can.
 #![tactic(auto)]
+
 mod streams;
 
 ghost use Rattle.std.specs.Prelude.{◌≤◌, length};

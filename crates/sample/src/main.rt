@@ -5,6 +5,7 @@
 // The sample: a store asks for the line, which is served and received, the store and a load commit, and
 // a take finds no writeback.
 #![tactic(auto)]
+
 mod list;
 mod named;
 mod print;

@@ -1,5 +1,5 @@
 -- The journal that the input gave, played whole or until the output takes no more.
-use Rattle.std.specs.Prelude.{Option, Result, Ok, Err}
+use Rattle.std.specs.Prelude.{Option, Ok, Err}
 use Rattle.protocol.specs.{Buffers.Bytes, declared.Counts.Counts}
 use Rattle.runner.specs.{Moved.Given, Ran.{RanWhole, whole, part}, Runs.{done, unwritten}}
 use Rattle.runner.specs.declared.{Texts.TheVariants.Written, streams.Fault.TheVariants.Writing}

@@ -3,6 +3,7 @@
 // A read that fails is no end: nothing is listed then. That a read or a write failed, and why, is one
 // line on standard error.
 #![tactic(auto)]
+
 ghost use Rattle.steps.specs.Listed.{Lists};
 
 use runner::{Fault, Texts};

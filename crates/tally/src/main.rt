@@ -3,6 +3,7 @@
 // A read that fails is no end: nothing is written then. That a read or a write failed, and why, is one line on standard
 // error.
 #![tactic(auto)]
+
 ghost use Rattle.playing.specs.Listing.{Tally};
 ghost use Rattle.tally.specs.Line.{LineOf, Tallies};
 

@@ -1,6 +1,5 @@
 -- The newline ends the line, the digits are before it, and the text is before the digits.
 use native.Mathlib.Omega.{arith}
-use borrow.Author.Rules.{rules}
 use Rattle.converter.proofs.{Writing.{text_room, refusal_line}}
 use Rattle.converter.proofs.put_refusal.Goals as goal
 

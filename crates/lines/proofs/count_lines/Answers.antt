@@ -1,9 +1,8 @@
 -- Where reading goes on there is a line more, and less is left to read.
-use mathlib.Core.Path.{refl, sym, ap, ◌∙◌}
+use mathlib.Core.Path.{sym, ap, ◌∙◌}
 use native.Mathlib.Omega.{arith}
-use lib.ListN.{length}
-use Rattle.journal.specs.Theorems.{Reached, start}
-use Rattle.lines.proofs.Walking.{counted, counted_more, counted_all, left_smaller, lines_fit}
+use Rattle.journal.specs.Theorems.{start}
+use Rattle.lines.proofs.Walking.{counted, counted_more, left_smaller, lines_fit}
 use Rattle.lines.proofs.count_lines.Goals as goal
 
 pub loop-lines-init : goal.loop-lines-init

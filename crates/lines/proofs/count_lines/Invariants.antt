@@ -1,5 +1,4 @@
 -- So many lines were read on from the start, and the reader is past what was found last. What is left to read falls with each line.
-use Rattle.std.proofs.Common.{◌+◌, ◌-◌, length}
 use Rattle.lines.proofs.Walking.{Counted, left}
 use Rattle.lines.proofs.count_lines.Given as goal
 

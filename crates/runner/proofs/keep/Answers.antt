@@ -1,5 +1,4 @@
 -- A text that is dropped is no write that fails.
-use Rattle.std.specs.Prelude.{Result, Ok, Err}
 use Rattle.std.proofs.KnownBytes.{Keeps-refl}
 use Rattle.runner.proofs.Calling.{kept_of}
 use Rattle.runner.specs.Ran.{kept}

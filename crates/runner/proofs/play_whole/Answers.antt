@@ -1,8 +1,6 @@
 -- The first call plays the journal whole, or the calls of `play` do on buffers of zeros: the sizes that were opened lie inside the limits, so the parts
 -- lie in the arrays.
-use mathlib.Core.{Path.◌≡◌, Bool.true}
 use native.Mathlib.Omega.{arith}
-use lib.ListN.{length}
 use Rattle.std.proofs.lemmas.Result.{err_from_is_err_and}
 use Rattle.protocol.proofs.{Tests.{was_true, was_false}, Extents.{copies_most, private_most, rows_most, shared_most}}
 use Rattle.runner.proofs.Calling.{whole_cut, whole_over, whole_more, whole_inside, whole_played, part_zeros}

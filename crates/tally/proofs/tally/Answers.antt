@@ -1,5 +1,4 @@
 -- What was read is played, and what the output got is the line of its tally, or a beginning of it.
-use mathlib.Core.Path.{refl}
 use Rattle.std.proofs.KnownBytes.{Keeps-refl}
 use Rattle.runner.specs.Runs.{unread, done}
 use Rattle.runner.proofs.Reading.{given, stopped_at}

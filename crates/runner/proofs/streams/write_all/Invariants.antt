@@ -1,5 +1,5 @@
 -- What was given so far is the text's beginning.
-use Rattle.std.proofs.Common.{◌≡◌, ◌-◌, ◌≤◌, length, take}
+use Rattle.std.proofs.Common.{◌-◌, ◌≤◌, length, take}
 use Rattle.std.specs.Io.KnownBytes.{Appends}
 use Rattle.runner.proofs.streams.write_all.Given as goal
 
