@@ -10,7 +10,7 @@
 # make memcheck                 the C test of the library under valgrind
 # make install [PREFIX=path]    all programs, libraries, the header, the Python module, the kit, manual pages (default: /usr/local; DESTDIR is heeded)
 # make uninstall [PREFIX=path]  remove these files
-# make clean                    remove what was built
+# make clean                    remove what was built, and what rt keeps of proofs
 # make help                     this list
 
 PREFIX = /usr/local
@@ -30,25 +30,6 @@ export PREFIX DESTDIR JOURNAL
 # What a parent make was told is not for the programs that run here.
 unexport MAKEFLAGS MFLAGS
 
-# $(call prove,WORDS) runs `rt WORDS`, which proves and builds only what changed: on standard error one line for each crate that it
-# proves, all of its output in a log, of which the last lines are shown where it fails. The status is rt's.
-# $(call prove,WORDS,TEST) does so only where the test fails.
-define prove
-@$(if $(2),[ $(2) ] || {) mkdir -p target && log='target/rt-$(firstword $(1)).log' && \
-{ rt $(1) </dev/null 2>&1; echo "rt ended with status $$?"; } | { \
-    while IFS= read -r line; do \
-        status=$${line##* }; \
-        printf '%s\n' "$$line" >&3; \
-        case $$line in \
-        'rt: '*'(unchanged since it was last proved)') ;; \
-        'rt: '*) printf '%s\n' "$$line" >&2 ;; \
-        esac; \
-    done 3>"$$log"; \
-    [ "$$status" = 0 ] || { tail -n 20 "$$log"; echo "make: rt failed; all that it said is in $$log"; } >&2; \
-    exit "$$status"; \
-}$(if $(2),; })
-endef
-
 NEEDED = need-rt need-gcc need-python3 need-cargo need-valgrind
 need-rt: what = the Rattle toolchain
 need-gcc: what = a C compiler
@@ -62,24 +43,23 @@ help:
 	@sed -n 's/^# \(make .*\)/\1/p' Makefile
 
 run: journal need-rt
-	$(call prove,check steps)
+	@lib/prove steps
 	@target/bin/steps <"$$JOURNAL"
 
 run-tally: journal need-rt
-	$(call prove,check tally)
+	@lib/prove tally
 	@target/bin/tally <"$$JOURNAL"
 
 run-to1: journal need-rt
-	$(call prove,check to1)
+	@lib/prove to1
 	@target/bin/to1 <"$$JOURNAL"
 
 run-to2: journal need-rt
-	$(call prove,check to2)
+	@lib/prove to2
 	@target/bin/to2 <"$$JOURNAL"
 
 build: need-rt need-gcc
-	$(call prove,check steps tally to1 to2 host)
-	$(call prove,staticlib host,target/staticlib/libhost.a -nt target/rlib/host.rlib)
+	@lib/prove steps tally to1 to2 host_c
 	@lib/build
 
 test: need-rt need-gcc need-python3 need-cargo
@@ -106,7 +86,7 @@ uninstall:
 	@lib/install uninstall
 
 clean:
-	@rm -rf target tests/reference/target python/__pycache__
+	@rm -rf target tests/reference/target python/__pycache__ crates/*/out
 
 # The journal can be read: looked at before anything is proved.
 journal:
