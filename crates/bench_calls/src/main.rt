@@ -6,10 +6,11 @@
 // names is no argument but a constant: the compiler puts `step` in line where a program calls it at one
 // place only.
 #![tactic(auto)]
+
 use engine::Returned;
-use libc::{STDERR_FILENO, STDOUT_FILENO};
 use protocol::{Answer, Call, Given, Opening, State};
 use spelling::Number;
+use std::rt::Env;
 
 // A pseudo-random number after another.
 fn next(x: u64) -> u64 {
@@ -99,7 +100,7 @@ fn calls(count: u64, opening: Opening, private: &mut [u8], shared: &mut [u8], gi
     while i < count {
         i += 1;
         let a = d.answer;
-        refused = std::num::wrapping_add_u64(refused, refusals(a));
+        refused = refused.wrapping_add(refusals(a));
         x = next(x);
         let kind = (x % 4294967296) % 20;
         let core = below(x >> 32, cores);
@@ -112,34 +113,31 @@ fn calls(count: u64, opening: Opening, private: &mut [u8], shared: &mut [u8], gi
         }
     }
     let a = d.answer;
-    std::num::wrapping_add_u64(refused, refusals(a))
+    refused.wrapping_add(refusals(a))
 }
 
 // One more than the greatest number of an argument.
 const WRONG: u64 = 4294967296;
 
 // The number that an argument spells, or WRONG.
-fn argument(i: usize) -> u64 {
+fn argument(rt: &impl Env, i: usize) -> u64 {
     let mut text = [0u8; 16];
-    let n = os::arg(i, &mut text);
-    match spelling::read_number(&text[0..n]) {
+    let n = rt.arg(i, &mut text).unwrap_or(0);
+    match spelling::read_number(&text[..n]) {
         Number::Value(value) => value as u64,
         Number::Wrong => WRONG,
     }
 }
 
-// Says how the program is called.
-fn usage() {
-    io::write_all(
-        STDERR_FILENO,
-        b"usage: bench_calls CALLS CORES LINES WIDTH\n",
-    );
+// Says how the program is called. A write that fails is passed over.
+fn usage(rt: &impl Eprint) {
+    let _ = eprintln!(rt; "usage: bench_calls CALLS CORES LINES WIDTH");
 }
 
 // Makes `count` calls on an engine of an opening, and prints how many of them were refused.
-fn run(count: u64, opening: Opening) {
+fn run(rt: &(impl Print + Eprint), count: u64, opening: Opening) {
     if !opening.fits() {
-        usage();
+        usage(rt);
         return;
     }
     let cores = opening.cores;
@@ -157,23 +155,22 @@ fn run(count: u64, opening: Opening) {
         &mut shared[0..places],
         &given[0..width],
     );
-    io::print_decimal(STDOUT_FILENO, refused);
-    io::write_all(STDOUT_FILENO, b"\n");
+    let _ = println!(rt; "{refused}");
 }
 
-fn main() {
-    let count = argument(1);
-    let lines = argument(3) as usize;
+fn main(rt: HostRuntime) {
+    let count = argument(&rt, 1);
+    let lines = argument(&rt, 3) as usize;
     let opening = Opening {
-        cores: argument(2) as usize,
+        cores: argument(&rt, 2) as usize,
         lines,
-        width: argument(4) as usize,
+        width: argument(&rt, 4) as usize,
         lease: 10,
         cap: lines,
     };
     if count == WRONG {
-        usage();
+        usage(&rt);
         return;
     }
-    run(count, opening);
+    run(&rt, count, opening);
 }

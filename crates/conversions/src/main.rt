@@ -4,11 +4,11 @@
 // Every buffer is filled with dots. Of each conversion it prints the answer and the whole buffer after it: a result, dots past it,
 // and only dots where the journal was refused.
 #![tactic(auto)]
+
 ghost use Rattle.std.specs.Prelude.{◌≤◌};
 ghost use Rattle.convert.specs.Conversion.{Converts};
 
 use convert::{Converted, To};
-use libc::STDOUT_FILENO;
 
 // The longest buffer.
 const MOST: usize = 200;
@@ -26,54 +26,44 @@ fn put_in_form(to: To, journal: &[u8], out: &mut [u8]) -> Converted
     }
 }
 
-// Prints a number behind its key.
-fn print_number(key: &[u8], number: u64) {
-    io::write_all(STDOUT_FILENO, key);
-    io::print_decimal(STDOUT_FILENO, number);
-    io::write_all(STDOUT_FILENO, b"\n");
-}
-
-// Prints an answer.
-fn print_answer(answer: Converted) {
-    match answer {
-        Converted::Length(n) => {
-            print_number(b"length=", n as u64);
-        }
-        Converted::Refused(n) => {
-            print_number(b"refused=", n as u64);
-        }
-    }
+// Prints an answer. A write that fails is passed over.
+fn print_answer(rt: &impl Print, answer: Converted) {
+    let _ = match answer {
+        Converted::Length(n) => println!(rt; "length={n}"),
+        Converted::Refused(n) => println!(rt; "refused={n}"),
+    };
 }
 
 // Converts a journal into a lent buffer, and prints the answer and the buffer.
-fn print_converted(to: To, journal: &[u8], out: &mut [u8]) {
+fn print_converted(rt: &impl Print, to: To, journal: &[u8], out: &mut [u8]) {
     let answer = put_in_form(to, journal, out);
-    print_answer(answer);
-    io::write_all(STDOUT_FILENO, out);
-    io::write_all(STDOUT_FILENO, b"\n");
+    print_answer(rt, answer);
+    let _ = rt.write_all(out);
+    let _ = println!(rt;);
 }
 
 // The same with a buffer of so many bytes.
-fn play(to: To, journal: &[u8], room: usize)
+fn play(rt: &impl Print, to: To, journal: &[u8], room: usize)
     requires { room ≤ 200 }
 {
     let mut buffer = [b'.'; MOST];
-    print_converted(to, journal, &mut buffer[0..room]);
+    print_converted(rt, to, journal, &mut buffer[0..room]);
 }
 
 // Converts a journal whose result has so many bytes into four buffers.
-fn play_around(to: To, journal: &[u8], length: usize)
+fn play_around(rt: &impl Print, to: To, journal: &[u8], length: usize)
     requires { (1 ≤ length) × (length ≤ 199) }
 {
-    play(to, journal, 0);
-    play(to, journal, length - 1);
-    play(to, journal, length);
-    play(to, journal, length + 1);
+    play(rt, to, journal, 0);
+    play(rt, to, journal, length - 1);
+    play(rt, to, journal, length);
+    play(rt, to, journal, length + 1);
 }
 
 // An evict before the line has come, which is a drop, and one after, which is a writeback.
-fn to_second() {
+fn to_second(rt: &impl Print) {
     play_around(
+        rt,
         To::Second,
         b"fabric=1 cores=1 lines=1 width=1 lease=1\n\
           op=store core=0 line=0 data=07\n\
@@ -86,8 +76,9 @@ fn to_second() {
 }
 
 // A drop, and a writeback of a copy that is gone.
-fn to_first() {
+fn to_first(rt: &impl Print) {
     play_around(
+        rt,
         To::First,
         b"fabric=2 cores=1 lines=1 width=1 lease=1 cap=1\n\
           op=load core=0 line=0\n\
@@ -100,24 +91,28 @@ fn to_first() {
 }
 
 // 10 for a last line without its newline; 11 for nothing, and for a first line of the other form; 12 behind sizes that are 7; 7.
-fn refused_to_second() {
+fn refused_to_second(rt: &impl Print) {
     play(
+        rt,
         To::Second,
         b"fabric=1 cores=1 lines=1 width=1 lease=1\nop=serve core=0",
         SHORT,
     );
-    play(To::Second, b"", SHORT);
+    play(rt, To::Second, b"", SHORT);
     play(
+        rt,
         To::Second,
         b"fabric=2 cores=1 lines=1 width=1 lease=1 cap=1\n",
         SHORT,
     );
     play(
+        rt,
         To::Second,
         b"fabric=1 cores=17 lines=1 width=1 lease=1\nop=serve core=00\n",
         SHORT,
     );
     play(
+        rt,
         To::Second,
         b"fabric=1 cores=17 lines=1 width=1 lease=1\n",
         SHORT,
@@ -125,10 +120,11 @@ fn refused_to_second() {
 }
 
 // A drop of a copy that is owned.
-fn play_thirty(room: usize)
+fn play_thirty(rt: &impl Print, room: usize)
     requires { room ≤ 200 }
 {
     play(
+        rt,
         To::First,
         b"fabric=2 cores=1 lines=1 width=1 lease=1 cap=1\n\
           op=store core=0 line=0 data=07\n\
@@ -141,34 +137,38 @@ fn play_thirty(room: usize)
 
 // 11 for a first line of the other form; 7 for a cap over lines; 32 for a cap below lines, for a victim, and for a step that answers
 // 30, also with room for the lines before it.
-fn refused_to_first() {
+fn refused_to_first(rt: &impl Print) {
     play(
+        rt,
         To::First,
         b"fabric=1 cores=1 lines=1 width=1 lease=1\n",
         SHORT,
     );
     play(
+        rt,
         To::First,
         b"fabric=2 cores=1 lines=1 width=1 lease=1 cap=2\n",
         SHORT,
     );
     play(
+        rt,
         To::First,
         b"fabric=2 cores=1 lines=2 width=1 lease=1 cap=1\n",
         SHORT,
     );
     play(
+        rt,
         To::First,
         b"fabric=2 cores=1 lines=1 width=1 lease=1 cap=1\nop=victim core=0\n",
         SHORT,
     );
-    play_thirty(SHORT);
-    play_thirty(MOST);
+    play_thirty(rt, SHORT);
+    play_thirty(rt, MOST);
 }
 
-fn main() {
-    to_second();
-    to_first();
-    refused_to_second();
-    refused_to_first();
+fn main(rt: HostRuntime) {
+    to_second(&rt);
+    to_first(&rt);
+    refused_to_second(&rt);
+    refused_to_first(&rt);
 }

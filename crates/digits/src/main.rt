@@ -11,10 +11,10 @@
 // M advance by the greatest number, L load, V serve and R receive. The digits are r those of a line, x the same with a wrong one first,
 // o one digit less, l one more, f a byte less, m a byte more, and e none.
 #![tactic(auto)]
+
 ghost use Rattle.std.specs.Prelude.{◌≤◌};
 
 use engine::Returned;
-use libc::STDOUT_FILENO;
 use protocol::{Answer, Call, Given, Opening, Place};
 use spelling::Put;
 
@@ -33,12 +33,12 @@ const LIST: [u8; 5 * CALLS] =
     *b"S11r V1.. R1.. S11r S11x S11o S11l S11e S11f S11m S21r S21x S12r S12x S01r S01r S01x B11r B11x T11r \
       T11x M1.. S11r S11r S11x S10r V1.. R1.. L10. S10r S10x R0.. ";
 
-// Writes what was put at the start of a buffer.
-fn write(out: &[u8], put: Put) {
+// Writes what was put at the start of a buffer. A write that fails is passed over.
+fn write(rt: &impl Print, out: &[u8], put: Put) {
     match put {
         Put::End(end) => {
             if end <= out.len() {
-                io::write_all(STDOUT_FILENO, &out[0..end]);
+                let _ = rt.write_all(&out[..end]);
             }
         }
         Put::Short => {}
@@ -46,21 +46,21 @@ fn write(out: &[u8], put: Put) {
 }
 
 // Prints the record of the n-th call, with the bytes of its commit.
-fn print_record(n: u64, d: Returned, private: &[u8]) {
+fn print_record(rt: &impl Print, n: u64, d: Returned, private: &[u8]) {
     let answer = d.answer;
     let start = d.start;
     let count = d.count;
     let mut out = [0u8; 256];
     let bytes = engine::commit_bytes(private, start, count);
     let record = listing::put_record(&mut out, 0, Place(n), answer, Given::Bytes, bytes);
-    write(&out, record);
+    write(rt, &out, record);
 }
 
 // Prints a text and bytes behind it.
-fn print_bytes(text: &[u8], bytes: &[u8]) {
+fn print_bytes(rt: &impl Print, text: &[u8], bytes: &[u8]) {
     let mut out = [0u8; 1024];
     let line = listing::put_with_data(&mut out, 0, text, Given::Bytes, bytes);
-    write(&out, line);
+    write(rt, &out, line);
 }
 
 // A call of a kind that is no store.
@@ -161,7 +161,7 @@ fn number(b: u8) -> usize {
 }
 
 // Plays the list on a fresh engine of this width, and prints each answer.
-fn play(width: usize, private: &mut [u8], shared: &mut [u8]) -> Returned
+fn play(rt: &impl Print, width: usize, private: &mut [u8], shared: &mut [u8]) -> Returned
     requires { (1 ≤ width) × (width ≤ 64) }
 {
     let o = engine::open(Opening {
@@ -190,14 +190,14 @@ fn play(width: usize, private: &mut [u8], shared: &mut [u8]) -> Returned
         let mut digits = spell(width + i);
         digits[0] = first_digit(which, digits[0]);
         d = make(d, private, shared, kind, core, line, &digits[0..count]);
-        print_record(i as u64 + 1, d, private);
+        print_record(rt, i as u64 + 1, d, private);
         i += 1;
     }
     d
 }
 
 // Stores with one wrong digit, at each position of a line's in turn, and prints how many were refused with 13.
-fn one_wrong(from: Returned, width: usize, private: &mut [u8], shared: &mut [u8])
+fn one_wrong(rt: &impl Print, from: Returned, width: usize, private: &mut [u8], shared: &mut [u8])
     requires { (1 ≤ width) × (width ≤ 64) }
 {
     let count = 2 * width;
@@ -211,43 +211,43 @@ fn one_wrong(from: Returned, width: usize, private: &mut [u8], shared: &mut [u8]
         d = engine::store_digits(d.state, private, shared, 1, 1, &digits[0..count]);
         digits[i] = right[i];
         let answer = d.answer;
-        refused = std::num::wrapping_add_u64(refused, thirteen(answer));
+        refused = refused.wrapping_add(thirteen(answer));
         i += 1;
     }
-    io::write_all(STDOUT_FILENO, b"one wrong digit, refused=13: ");
-    io::print_decimal(STDOUT_FILENO, refused);
-    io::write_all(STDOUT_FILENO, b"\n");
+    let _ = println!(rt; "one wrong digit, refused=13: {refused}");
 }
 
 // The list and the wrong digits, on an engine of this width and its buffers.
-fn play_all<'a>(width: usize, private: &'a mut [u8], shared: &'a mut [u8])
+fn play_all<'a>(rt: &impl Print, width: usize, private: &'a mut [u8], shared: &'a mut [u8])
     requires { (1 ≤ width) × (width ≤ 64) }
 {
-    let d = play(width, private, shared);
-    print_bytes(b"shown data=", engine::show(d.state, private, shared, 1, 1));
-    one_wrong(d, width, private, shared);
-    print_bytes(b"private data=", private);
-    print_bytes(b"shared data=", shared);
+    let d = play(rt, width, private, shared);
+    print_bytes(
+        rt,
+        b"shown data=",
+        engine::show(d.state, private, shared, 1, 1),
+    );
+    one_wrong(rt, d, width, private, shared);
+    print_bytes(rt, b"private data=", private);
+    print_bytes(rt, b"shared data=", shared);
 }
 
 // All of it at one width.
-fn at_width(width: usize)
+fn at_width(rt: &impl Print, width: usize)
     requires { (1 ≤ width) × (width ≤ 64) }
 {
     let mut private = [0u8; 4 * WIDEST];
     let mut shared = [0u8; 6 * WIDEST];
     let np = 4 * width;
     let nq = 6 * width;
-    io::write_all(STDOUT_FILENO, b"width=");
-    io::print_decimal(STDOUT_FILENO, width as u64);
-    io::write_all(STDOUT_FILENO, b"\n");
-    play_all(width, &mut private[0..np], &mut shared[0..nq]);
+    let _ = println!(rt; "width={width}");
+    play_all(rt, width, &mut private[0..np], &mut shared[0..nq]);
 }
 
-fn main() {
+fn main(rt: HostRuntime) {
     let mut width: usize = 1;
     while width <= WIDEST {
-        at_width(width);
+        at_width(&rt, width);
         width += 1;
     }
 }

@@ -2,12 +2,13 @@
 // One line is printed: how many lines were read, and the number of the refusal if there is one. It is an example of a walk with
 // the reader; unlike `steps` it takes a read that fails for the end of the input.
 #![tactic(auto)]
-ghost use Rattle.std.specs.Prelude.{◌≡◌};
+
+ghost use Rattle.std.specs.Prelude.{◌≡◌, ◌≤◌, length};
 ghost use Rattle.journal.specs.Journal.{goes_on};
 ghost use Rattle.lines.specs.Count.{CountsLines};
 
 use journal::{Next, Reader};
-use libc::{STDIN_FILENO, STDOUT_FILENO};
+use std::io::Read;
 
 // How many lines were read, and what is after them: the end, or a refusal.
 #[derive(Clone, Copy)]
@@ -44,22 +45,32 @@ fn count_lines(journal: &[u8]) -> LineCount
     }
 }
 
-// One byte more than the longest journal that is taken suffices to tell one that is too long.
-fn main() {
-    let mut journal = [0u8; 65537];
-    let n = io::read_full(STDIN_FILENO, &mut journal);
-    let t = count_lines(&journal[..n]);
-    io::write_all(STDOUT_FILENO, b"lines=");
-    io::print_decimal(STDOUT_FILENO, t.lines as u64);
-    let last = t.last;
-    match last {
-        Next::Refused(number) => {
-            io::write_all(STDOUT_FILENO, b" refused=");
-            io::print_decimal(STDOUT_FILENO, number as u64);
+// Reads a journal to its end, or to a read that fails: how many bytes it has. One byte more than the longest journal that is taken suffices
+// to tell one that is too long.
+fn read_journal<R: Read>(input: &mut R, journal: &mut [u8; 65537]) -> usize
+    ensures { result ≤ length journal.new }
+{
+    let mut done = 0;
+    while done < journal.len() {
+        match input.read(&mut journal[done..]) {
+            Ok(0) => break,
+            Ok(n) => done += n,
+            Err(_) => break,
         }
-        Next::End => {}
-        Next::Opening { .. } => {}
-        Next::Step { .. } => {}
     }
-    io::write_all(STDOUT_FILENO, b"\n");
+    done
+}
+
+// A write that fails is passed over.
+fn main(rt: HostRuntime) {
+    let mut journal = [0u8; 65537];
+    let n = read_journal(&mut rt.stdin(), &mut journal);
+    let t = count_lines(&journal[..n]);
+    let lines = t.lines;
+    let _ = match t.last {
+        Next::Refused(number) => println!(rt; "lines={lines} refused={number}"),
+        Next::End => println!(rt; "lines={lines}"),
+        Next::Opening { .. } => println!(rt; "lines={lines}"),
+        Next::Step { .. } => println!(rt; "lines={lines}"),
+    };
 }

@@ -1,2 +1,3 @@
 -- Laws that more than one proof cites.
 pub mod Calling
+pub mod Reading

@@ -1,2 +1,4 @@
 pub mod Ran
 pub mod Input
+pub mod Moved
+pub mod Runs

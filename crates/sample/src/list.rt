@@ -69,7 +69,7 @@ fn digit(b: u8) -> usize {
 }
 
 // Plays a list on an engine of three cores, two lines of two bytes, a lease of 2, and this capacity.
-fn play(cap: usize, list: &[u8]) {
+fn play(rt: &impl Print, cap: usize, list: &[u8]) {
     let mut private = [0u8; 12];
     let mut shared = [0u8; 14];
     let o = engine::open(Opening {
@@ -81,7 +81,7 @@ fn play(cap: usize, list: &[u8]) {
     });
     let answer = o.answer;
     let state = o.state;
-    print::record(0, answer, b"");
+    print::record(rt, 0, answer, b"");
     let mut d = Returned {
         answer,
         start: 0,
@@ -99,7 +99,7 @@ fn play(cap: usize, list: &[u8]) {
         let line = digit(list[at + 2]);
         let value = list[at + 3];
         d = make(d, &mut private, &mut shared, kind, core, line, value);
-        print::call(n, d, &private, &shared, core, line);
+        print::call(rt, n, d, &private, &shared, core, line);
         at += 5;
         n += 1;
     }
@@ -120,8 +120,9 @@ fn play(cap: usize, list: &[u8]) {
 // twice, with the slot in use.
 // Then, with room for one copy, calls 1 to 12: core 0 has no victim; it shares line 0, which is its victim, and
 // has no room for line 1 until it drops it. On the way 26 and 31.
-pub(crate) fn play_all() {
+pub(crate) fn play_all(rt: &impl Print) {
     play(
+        rt,
         2,
         b"L00. L01. R00. V00. V00. R00. L00. S10a V10. R10. S10a L00. A003 L00. V00. Y10. Y10. T20. \
           T20. V00. R00. L00. \
@@ -133,21 +134,22 @@ pub(crate) fn play_all() {
           H21e H21z H21- V21. R21. H21e L21. ",
     );
     play(
+        rt,
         1,
         b"C00. L00. V00. R00. C00. L01. V00. R00. D00. R01. L01. C01. ",
     );
-    outside();
+    outside(rt);
 }
 
 // A load of line 0 by core 0, and what is shown then.
-fn load<'a>(n: u64, s: State, private: &'a mut [u8], shared: &'a mut [u8]) {
+fn load<'a>(rt: &impl Print, n: u64, s: State, private: &'a mut [u8], shared: &'a mut [u8]) {
     let d = engine::load(s, private, shared, 0, 0);
-    print::call(n, d, private, shared, 0, 0);
+    print::call(rt, n, d, private, shared, 0, 0);
 }
 
 // 7; and on the state that a refused opening returns, 2 with a shared buffer that is too short,
 // and 1 with a lease of 0.
-fn outside() {
+fn outside(rt: &impl Print) {
     let o = engine::open(Opening {
         cores: 17,
         lines: 1,
@@ -157,12 +159,12 @@ fn outside() {
     });
     let answer = o.answer;
     let mut s = o.state;
-    print::record(0, answer, b"");
+    print::record(rt, 0, answer, b"");
     let mut private = [0u8; 1];
     let mut short = [0u8; 2];
-    load(1, s, &mut private, &mut short);
+    load(rt, 1, s, &mut private, &mut short);
     s.opening.lease = 0;
     let mut copy = [0u8; 1];
     let mut shared = [0u8; 3];
-    load(2, s, &mut copy, &mut shared);
+    load(rt, 2, s, &mut copy, &mut shared);
 }

@@ -5,6 +5,7 @@
 // The sample: a store asks for the line, which is served and received, the store and a load commit, and
 // a take finds no writeback.
 #![tactic(auto)]
+
 mod list;
 mod named;
 mod print;
@@ -13,11 +14,11 @@ use engine::Returned;
 use protocol::Opening;
 
 // Prints the record of the n-th call, and line 0 as core 0 sees it.
-fn shown<'a>(n: u64, d: Returned, private: &'a [u8], shared: &'a [u8]) {
-    print::call(n, d, private, shared, 0, 0);
+fn shown<'a>(rt: &impl Print, n: u64, d: Returned, private: &'a [u8], shared: &'a [u8]) {
+    print::call(rt, n, d, private, shared, 0, 0);
 }
 
-fn main() {
+fn main(rt: HostRuntime) {
     let mut private = [0u8; 1];
     let mut shared = [0u8; 3];
     let o = engine::open(Opening {
@@ -28,19 +29,19 @@ fn main() {
         cap: 1,
     });
     let answer = o.answer;
-    print::record(0, answer, b"");
+    print::record(&rt, 0, answer, b"");
     let mut d = engine::store(o.state, &mut private, &mut shared, 0, 0, b"\x07");
-    shown(1, d, &private, &shared);
+    shown(&rt, 1, d, &private, &shared);
     d = engine::serve(d.state, &mut private, &mut shared, 0);
-    shown(2, d, &private, &shared);
+    shown(&rt, 2, d, &private, &shared);
     d = engine::receive(d.state, &mut private, &mut shared, 0);
-    shown(3, d, &private, &shared);
+    shown(&rt, 3, d, &private, &shared);
     d = engine::store(d.state, &mut private, &mut shared, 0, 0, b"\x07");
-    shown(4, d, &private, &shared);
+    shown(&rt, 4, d, &private, &shared);
     d = engine::load(d.state, &mut private, &mut shared, 0, 0);
-    shown(5, d, &private, &shared);
+    shown(&rt, 5, d, &private, &shared);
     d = engine::take(d.state, &mut private, &mut shared, 0);
-    shown(6, d, &private, &shared);
-    named::play_all();
-    list::play_all();
+    shown(&rt, 6, d, &private, &shared);
+    named::play_all(&rt);
+    list::play_all(&rt);
 }

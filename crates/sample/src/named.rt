@@ -4,8 +4,8 @@ use engine::{Opened, Returned};
 use protocol::Opening;
 
 // Prints the record of the n-th call, and line 0 as core 1 sees it.
-fn shown<'a>(n: u64, d: Returned, private: &'a [u8], shared: &'a [u8]) {
-    print::call(n, d, private, shared, 1, 0);
+fn shown<'a>(rt: &impl Print, n: u64, d: Returned, private: &'a [u8], shared: &'a [u8]) {
+    print::call(rt, n, d, private, shared, 1, 0);
 }
 
 // A fresh engine.
@@ -20,7 +20,7 @@ fn opened() -> Opened {
 }
 
 // Core 1 shares line 0, which is its victim, and evicts it.
-fn evict() {
+fn evict(rt: &impl Print) {
     let mut private = [0u8; 2];
     let mut shared = [0u8; 4];
     let o = opened();
@@ -28,34 +28,34 @@ fn evict() {
     d = engine::serve(d.state, &mut private, &mut shared, 1);
     d = engine::receive(d.state, &mut private, &mut shared, 1);
     d = engine::victim(d.state, &mut private, &mut shared, 1);
-    shown(4, d, &private, &shared);
+    shown(rt, 4, d, &private, &shared);
     d = engine::evict(d.state, &mut private, &mut shared, 1, 0);
-    shown(5, d, &private, &shared);
+    shown(rt, 5, d, &private, &shared);
 }
 
 // Core 1 advances, makes a fence, and owns line 0, which it does not drop (30), does not yield without a recall (23), and writes
 // back.
-fn others() {
+fn others(rt: &impl Print) {
     let mut private = [0u8; 2];
     let mut shared = [0u8; 4];
     let o = opened();
     let mut d = engine::advance(o.state, &mut private, &mut shared, 1, 5);
-    shown(1, d, &private, &shared);
+    shown(rt, 1, d, &private, &shared);
     d = engine::fence(d.state, &mut private, &mut shared, 1);
-    shown(2, d, &private, &shared);
+    shown(rt, 2, d, &private, &shared);
     d = engine::store(d.state, &mut private, &mut shared, 1, 0, b"\x07");
     d = engine::serve(d.state, &mut private, &mut shared, 1);
     d = engine::receive(d.state, &mut private, &mut shared, 1);
     d = engine::drop(d.state, &mut private, &mut shared, 1, 0);
-    shown(6, d, &private, &shared);
+    shown(rt, 6, d, &private, &shared);
     d = engine::yield_line(d.state, &mut private, &mut shared, 0);
-    shown(7, d, &private, &shared);
+    shown(rt, 7, d, &private, &shared);
     d = engine::writeback(d.state, &mut private, &mut shared, 1, 0);
-    shown(8, d, &private, &shared);
+    shown(rt, 8, d, &private, &shared);
 }
 
 // Core 1 owns line 0 and stores to it by the digits of its byte; by a digit that is none (13), and by one digit (13), it does not.
-fn digits() {
+fn digits(rt: &impl Print) {
     let mut private = [0u8; 2];
     let mut shared = [0u8; 4];
     let o = opened();
@@ -63,15 +63,15 @@ fn digits() {
     d = engine::serve(d.state, &mut private, &mut shared, 1);
     d = engine::receive(d.state, &mut private, &mut shared, 1);
     d = engine::store_digits(d.state, &mut private, &mut shared, 1, 0, b"1f");
-    shown(4, d, &private, &shared);
+    shown(rt, 4, d, &private, &shared);
     d = engine::store_digits(d.state, &mut private, &mut shared, 1, 0, b"2g");
-    shown(5, d, &private, &shared);
+    shown(rt, 5, d, &private, &shared);
     d = engine::store_digits(d.state, &mut private, &mut shared, 1, 0, b"2");
-    shown(6, d, &private, &shared);
+    shown(rt, 6, d, &private, &shared);
 }
 
-pub(crate) fn play_all() {
-    evict();
-    others();
-    digits();
+pub(crate) fn play_all(rt: &impl Print) {
+    evict(rt);
+    others(rt);
+    digits(rt);
 }

@@ -3,24 +3,30 @@
 // A read that fails is no end: nothing is listed then. That a read or a write failed, and why, is one
 // line on standard error.
 #![tactic(auto)]
-use runner::{Input, Ran, Texts};
 
-// The failing call is the last one before its line is written, so that errno is its own.
-fn main() {
+ghost use Rattle.steps.specs.Listed.{Lists};
+
+use runner::{Fault, Texts};
+use std::io::{Read, Write};
+
+// Plays the journal of an input and writes its listing to an output.
+fn list<R: Read, W: Write>(input: &mut R, output: &mut W) -> Result<(), Fault>
+    ensures { Lists (R.remaining input.old) (R.remaining input.new) (W.contents output.old) (W.contents output.new) result }
+{
     let mut journal = [0u8; 65537];
-    let input = runner::read_input(&mut journal);
-    match input {
-        Input::Read(n) => {
-            let ran = runner::play_whole(&journal[..n], Texts::Written);
-            match ran {
-                Ran::Whole(_) => {}
-                Ran::Cut => {
-                    os::fail(b"steps: cannot write standard output");
-                }
-            }
-        }
-        Input::Failed => {
-            os::fail(b"steps: cannot read standard input");
-        }
+    match runner::read_input(input, &mut journal) {
+        Ok(n) => match runner::play_whole(&journal[..n], Texts::Written, output) {
+            Ok(_) => Ok(()),
+            Err(why) => Err(Fault::Writing(why)),
+        },
+        Err(why) => Err(Fault::Reading(why)),
+    }
+}
+
+// The status is 0 also where something failed.
+fn main(rt: HostRuntime) {
+    match list(&mut rt.stdin(), &mut rt.stdout()) {
+        Ok(()) => {}
+        Err(fault) => runner::complain(&mut rt.stderr(), b"steps", fault),
     }
 }

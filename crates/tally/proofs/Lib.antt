@@ -1,3 +1,2 @@
--- Laws about the counts of a run whose listing is dropped, and about the tally's line.
-pub mod Dropped
+-- Laws about the tally's line.
 pub mod Putting

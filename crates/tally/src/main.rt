@@ -3,23 +3,24 @@
 // A read that fails is no end: nothing is written then. That a read or a write failed, and why, is one line on standard
 // error.
 #![tactic(auto)]
-ghost use Rattle.playing.specs.Listing.{Tally};
-ghost use Rattle.tally.specs.Line.{LineOf};
 
-use libc::STDOUT_FILENO;
+ghost use Rattle.playing.specs.Listing.{Tally};
+ghost use Rattle.tally.specs.Line.{LineOf, Tallies};
+
 use protocol::Counts;
-use runner::{Input, Ran, Texts};
+use runner::{Fault, Texts};
 use spelling::Put;
+use std::io;
+use std::io::{Read, Write};
 
 // The tally of a journal.
 fn count(journal: &[u8]) -> Counts
     ensures { Tally journal.now result }
 {
-    let ran = runner::play_whole(journal, Texts::Dropped);
-    match ran {
-        Ran::Whole(counts) => counts,
+    match runner::play_whole(journal, Texts::Dropped, &mut io::sink()) {
+        Ok(counts) => counts,
         // No write fails where the listing is dropped.
-        Ran::Cut => Counts::NONE,
+        Err(_) => Counts::NONE,
     }
 }
 
@@ -35,20 +36,28 @@ fn put_line(journal: &[u8], line: &mut [u8; 256]) -> usize
     }
 }
 
-// The failing call is the last one before its line is written, so that errno is its own.
-fn main() {
+// Plays the journal of an input and writes its tally to an output.
+fn tally<R: Read, W: Write>(input: &mut R, output: &mut W) -> Result<(), Fault>
+    ensures { Tallies (R.remaining input.old) (R.remaining input.new) (W.contents output.old) (W.contents output.new) result }
+{
     let mut journal = [0u8; 65537];
     let mut line = [0u8; 256];
-    let input = runner::read_input(&mut journal);
-    match input {
-        Input::Read(n) => {
+    match runner::read_input(input, &mut journal) {
+        Ok(n) => {
             let end = put_line(&journal[..n], &mut line);
-            if !io::write_all(STDOUT_FILENO, &line[0..end]) {
-                os::fail(b"tally: cannot write standard output");
+            match runner::write_all(output, &line[..end]) {
+                Ok(()) => Ok(()),
+                Err(why) => Err(Fault::Writing(why)),
             }
         }
-        Input::Failed => {
-            os::fail(b"tally: cannot read standard input");
-        }
+        Err(why) => Err(Fault::Reading(why)),
+    }
+}
+
+// The status is 0 also where something failed.
+fn main(rt: HostRuntime) {
+    match tally(&mut rt.stdin(), &mut rt.stdout()) {
+        Ok(()) => {}
+        Err(fault) => runner::complain(&mut rt.stderr(), b"tally", fault),
     }
 }

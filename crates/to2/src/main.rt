@@ -4,34 +4,46 @@
 // A read that fails is no end: nothing is converted then. That a read or a write failed, and why, is one line on
 // standard error.
 #![tactic(auto)]
-use convert::Converted;
-use libc::{STDERR_FILENO, STDOUT_FILENO};
-use runner::Input;
 
-// The failing call is the last one before its line is written, so that errno is its own. Where standard error does not take the
-// line of a refusal, there is nothing left to say it with.
-fn main() {
+ghost use Rattle.convert.specs.declared.To.TheVariants.{Second};
+ghost use Rattle.converter.specs.Written.{IsConversion};
+ghost use Rattle.runner.specs.Runs.{Runs};
+
+use convert::Converted;
+use runner::Fault;
+use std::io::{Read, Write};
+
+// Converts the journal of an input, and writes the result to an output.
+fn convert_journal<R: Read, W: Write>(input: &mut R, output: &mut W) -> Result<Converted, Fault>
+    ensures { Runs (IsConversion Second) (R.remaining input.old) (R.remaining input.new) (W.contents output.old) (W.contents output.new) result }
+{
     let mut journal = [0u8; 65537];
     let mut out = [0u8; 65536];
-    let mut line = [0u8; 32];
-    let input = runner::read_input(&mut journal);
-    match input {
-        Input::Read(n) => {
+    match runner::read_input(input, &mut journal) {
+        Ok(n) => {
             let converted = convert::to2(&journal[..n], &mut out);
             match converted {
-                Converted::Length(end) => {
-                    if !io::write_all(STDOUT_FILENO, &out[0..end]) {
-                        os::fail(b"to2: cannot write standard output");
-                    }
-                }
-                Converted::Refused(number) => {
-                    let start = converter::put_refusal(&mut line, number);
-                    io::write_all(STDERR_FILENO, &line[start..]);
-                }
+                Converted::Length(end) => match runner::write_all(output, &out[..end]) {
+                    Ok(()) => Ok(converted),
+                    Err(why) => Err(Fault::Writing(why)),
+                },
+                Converted::Refused(_) => Ok(converted),
             }
         }
-        Input::Failed => {
-            os::fail(b"to2: cannot read standard input");
+        Err(why) => Err(Fault::Reading(why)),
+    }
+}
+
+// The status is 0 also where something failed. Where standard error does not take the line of a refusal, there is nothing left to say it
+// with.
+fn main(rt: HostRuntime) {
+    match convert_journal(&mut rt.stdin(), &mut rt.stdout()) {
+        Ok(Converted::Length(_)) => {}
+        Ok(Converted::Refused(number)) => {
+            let mut line = [0u8; 32];
+            let start = converter::put_refusal(&mut line, number);
+            let _ = runner::write_all(&mut rt.stderr(), &line[start..]);
         }
+        Err(fault) => runner::complain(&mut rt.stderr(), b"to2", fault),
     }
 }

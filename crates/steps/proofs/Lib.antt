@@ -1,0 +1,2 @@
+-- What a run of the journal means for the output.
+pub mod Listed
