@@ -1,8 +1,8 @@
 // The programs' way to standard input, standard output and standard error: bytes that a reader gives are read into a buffer, bytes of a
 // buffer are written to a writer, and what failed is said in a line. Over a reader and a writer whose bytes are known the contracts say
 // which bytes were taken and given, also where a read or a write fails.
-ghost use Rattle.std.specs.Prelude.{◌≤◌, length};
-ghost use Rattle.runner.specs.{Input.ReadInto, Moved.{Took, Gave}};
+ghost use Rattle.std.specs.Prelude.{◌≤◌, ◌++◌, length};
+ghost use Rattle.runner.specs.{Input.ReadInto, Moved.{Took, Gave}, Complaint.{said, line, SaysWhy}};
 
 use std::io;
 use std::io::{Cursor, ErrorKind, Read, Write};
@@ -67,20 +67,34 @@ fn words_end(text: &[u8], why: io::Error) -> usize
     }
 }
 
-// Says in a line which program failed, at what, and why: `steps: cannot read standard input: Is a directory`. Where it can't be said, there is
-// nothing left to say that with.
-pub fn complain<W: Write>(err: &mut W, program: &[u8], fault: Fault) {
-    let (what, why) = match fault {
-        Fault::Reading(why) => (&b": cannot read standard input: "[..], why),
-        Fault::Writing(why) => (&b": cannot write standard output: "[..], why),
-    };
+// A line of three parts: nothing more is written after a write that fails.
+fn say<W: Write>(err: &mut W, program: &[u8], what: &[u8], words: &[u8]) -> io::Result<()>
+    ensures { Gave (W.contents err.old) (W.contents err.new) result (line (program.now ++ what.now) words.now) }
+{
+    write_all(err, program)?;
+    write_all(err, what)?;
+    write_all(err, words)?;
+    write_all(err, b"\n")
+}
+
+// Says in a line which program failed, at what, and why. Where it can't be said, there is nothing left to say that with.
+fn say_why<W: Write>(err: &mut W, program: &[u8], what: &[u8], why: io::Error)
+    ensures { SaysWhy (W.contents err.old) (W.contents err.new) (program.now ++ what.now) }
+{
     let mut text = Cursor::new([0u8; 256]);
     let _ = write!(text, "{why}");
     let end = (text.position() as usize).min(256);
     let words = text.into_inner();
     let shown = words_end(&words[..end], why);
-    let _ = write_all(err, program);
-    let _ = write_all(err, what);
-    let _ = write_all(err, &words[..shown]);
-    let _ = write_all(err, b"\n");
+    let _ = say(err, program, what, &words[..shown]);
+}
+
+// Says in a line which program failed, at what, and why: `steps: cannot read standard input: Is a directory`.
+pub fn complain<W: Write>(err: &mut W, program: &[u8], fault: Fault)
+    ensures { SaysWhy (W.contents err.old) (W.contents err.new) (program.now ++ said fault) }
+{
+    match fault {
+        Fault::Reading(why) => say_why(err, program, b": cannot read standard input: ", why),
+        Fault::Writing(why) => say_why(err, program, b": cannot write standard output: ", why),
+    }
 }
