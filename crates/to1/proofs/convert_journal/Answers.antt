@@ -25,9 +25,8 @@ returns-in-Err-write_all g c =
 
 pub returns-in-Refused : goal.returns-in-Refused
 returns-in-Refused g c =
-    rw c.in-Refused.is
-    (done _ _ (given _ _ c.in-Ok.ensures.count c.in-Ok.ensures.bytes c.read_input.array_long)
-    (record { buffer = c.to1-converted.new.out; converts = c.in-Refused.ensures; is = refl }) (Appends-nil _))
+    done _ _ (given _ _ c.in-Ok.ensures.count c.in-Ok.ensures.bytes c.read_input.array_long)
+    (record { buffer = c.to1-converted.new.out; converts = c.to1-converted.ensures; is = rw c.in-Refused.is refl }) (Appends-nil _)
 
 pub returns-in-Err : goal.returns-in-Err
 returns-in-Err g c = unread (Keeps-refl _)
