@@ -17,7 +17,8 @@ import shutil
 import subprocess
 import sys
 
-KIT = "/opt/rattle"
+# The folder of the toolchain: `rt doc` prints the path of a page in it.
+KIT = os.path.dirname(subprocess.run(["rt", "doc"], capture_output=True, text=True, check=True).stdout.strip())
 APART = 8
 WORD = re.compile(r"[^\W_][\w'′]*(?:-[^\W_][\w'′]*)*|\S")
 NAMES = re.compile(r"(?<![\w-])[a-z]+(?:-[a-z]+)+(?![\w-])")
