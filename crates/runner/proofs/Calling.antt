@@ -1,12 +1,12 @@
 -- From one call of the driver to the next, each with room, and what the writer got until then.
-use Prim.Native.Nat.{ℕ, ◌-◌, ◌≤◌, ◌<◌}
+use Prim.Native.Nat.{ℕ, ◌≤◌, ◌<◌}
 use mathlib.Core.{Path.{◌≡◌, refl, sym, ◌∙◌, ap, ap₂, subst}, Bool.{true, false}, List.{List, [], ◌++◌, append-nil, append_assoc}}
 use native.Mathlib.Omega.{arith}
 use lib.ListN.{length, take, drop, replicate}
 use Rattle.std.specs.Prelude.{Option, Result, Ok, Err}
 use Rattle.std.specs.Io.KnownBytes.{Appends}
 use Rattle.std.proofs.{Common.take-append-drop, KnownBytes.{Appends-nil, Appends-trans, Keeps-refl, Keeps-trans}}
-use Rattle.protocol.{specs.{Buffers.{Bytes, private_length, shared_length}, declared.Counts.Counts}, proofs.{Tests.never, Bytes.zeros_part, Extents.{Inside, inside}}}
+use Rattle.protocol.{specs.{Buffers.{Bytes, private_length, shared_length}, declared.Counts.Counts}, proofs.{Tests.never, Extents.{Inside, inside}}}
 use Rattle.driver.specs.{Play.{run_from, resumable, Plays, Tells, finished, more, unfit, Starts}, declared.Checkpoint.Checkpoint}
 use Rattle.driver.{specs.declared.{Progress.{Progress, TheVariants.{Finished, More}}, Played.Played}, proofs.{Resuming.resumes, Starting.start_fits}}
 use Rattle.playing.specs.{Listing.Listing, Calls.{joined, PlaysOn, last, next, over, begun}, Pieces.lines_of}
@@ -266,7 +266,3 @@ module _ {j out new : Bytes} {r : Played} (x : Starts j out new r) where
   whole_played {old = old} {now = now} g {then = then} e ep eq (stopped xs rest y h) =
       part (take r.written new ++ xs) rest
       (subst (Listing j) (sym (append_assoc (take r.written new) xs rest)) (behind e ep eq y)) (Appends-trans old now then _ xs (got g) h)
-
--- the first of many zeros
-pub part_zeros : (n m : ℕ) → n ≤ m → take {A = ℕ} (n - 0) (replicate m 0) ≡ replicate n 0
-part_zeros n m h = let k : n - 0 ≡ n = omega arith in rw k (zeros_part m 0 n (omega arith))

@@ -1,7 +1,7 @@
 -- What writes of one part after another gave of the whole.
 use Rattle.std.proofs.Common.{false, true, ◌≡◌, ℕ, ◌+◌, List, ◌++◌, arith, length, take, sym, subst, length-append}
 use Rattle.std.proofs.lemmas.List.{take-append-le}
-use Rattle.std.proofs.Math.Seq.{take-append-add, take-length}
+use Rattle.std.proofs.Math.Seq.{take-append-add}
 use Rattle.std.specs.Prelude.{Option, Result, Ok, Err, IsErr}
 use Rattle.std.specs.Io.KnownBytes.{Appends}
 use Rattle.std.proofs.KnownBytes.{Appends-trans}
@@ -21,11 +21,6 @@ pub gave_then :
     {T E : Type 0} (old mid new : Option (List ℕ)) (a b : List ℕ) (r : Result T E) → Appends old mid a → Gave mid new r b → Gave old new r (a ++ b)
 gave_then old mid new a b (Ok v) x y = Appends-trans old mid new a b x y
 gave_then old mid new a b (Err e) x y = some_then old mid new a b x y
-
--- whatever became of it, a beginning was given
-pub some_of : {T E : Type 0} (old new : Option (List ℕ)) (a : List ℕ) (r : Result T E) → Gave old new r a → GaveSome old new a
-some_of old new a (Ok v) x = (length a, omega arith, subst (Appends old new) (sym (take-length a)) x)
-some_of old new a (Err e) x = x
 
 -- where a write failed, a beginning of the whole was given
 pub gave_err : {T E : Type 0} (old new : Option (List ℕ)) (a : List ℕ) (r : Result T E) → IsErr r → GaveSome old new a → Gave old new r a

@@ -77,21 +77,21 @@ fn say<W: Write>(err: &mut W, program: &[u8], what: &[u8], words: &[u8]) -> io::
     write_all(err, b"\n")
 }
 
-// Says in a line which program failed, at what, and why. Where it can't be said, there is nothing left to say that with.
-fn say_why<W: Write>(err: &mut W, program: &[u8], what: &[u8], why: io::Error)
-    ensures { SaysWhy (W.contents err.old) (W.contents err.new) (program.now ++ what.now) }
+// Says in a line which program failed, at what, and why.
+fn say_why<W: Write>(err: &mut W, program: &[u8], what: &[u8], why: io::Error) -> io::Result<()>
+    ensures { SaysWhy (W.contents err.old) (W.contents err.new) result (program.now ++ what.now) }
 {
     let mut text = Cursor::new([0u8; 256]);
     let _ = write!(text, "{why}");
     let end = (text.position() as usize).min(256);
     let words = text.into_inner();
     let shown = words_end(&words[..end], why);
-    let _ = say(err, program, what, &words[..shown]);
+    say(err, program, what, &words[..shown])
 }
 
 // Says in a line which program failed, at what, and why: `steps: cannot read standard input: Is a directory`.
-pub fn complain<W: Write>(err: &mut W, program: &[u8], fault: Fault)
-    ensures { SaysWhy (W.contents err.old) (W.contents err.new) (program.now ++ said fault) }
+pub fn complain<W: Write>(err: &mut W, program: &[u8], fault: Fault) -> io::Result<()>
+    ensures { SaysWhy (W.contents err.old) (W.contents err.new) result (program.now ++ said fault) }
 {
     match fault {
         Fault::Reading(why) => say_why(err, program, b": cannot read standard input: ", why),

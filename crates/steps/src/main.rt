@@ -23,10 +23,12 @@ fn list<R: Read, W: Write>(input: &mut R, output: &mut W) -> Result<(), Fault>
     }
 }
 
-// The status is 0 also where something failed.
+// The status is 0 also where something failed. Where standard error does not take the line, there is nothing left to say it with.
 fn main(rt: HostRuntime) {
     match list(&mut rt.stdin(), &mut rt.stdout()) {
         Ok(()) => {}
-        Err(fault) => runner::complain(&mut rt.stderr(), b"steps", fault),
+        Err(fault) => {
+            let _ = runner::complain(&mut rt.stderr(), b"steps", fault);
+        }
     }
 }

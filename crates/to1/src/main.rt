@@ -34,8 +34,7 @@ fn convert_journal<R: Read, W: Write>(input: &mut R, output: &mut W) -> Result<C
     }
 }
 
-// The status is 0 also where something failed. Where standard error does not take the line of a refusal, there is nothing left to say it
-// with.
+// The status is 0 also where something failed. Where standard error does not take a line, there is nothing left to say it with.
 fn main(rt: HostRuntime) {
     match convert_journal(&mut rt.stdin(), &mut rt.stdout()) {
         Ok(Converted::Length(_)) => {}
@@ -44,6 +43,8 @@ fn main(rt: HostRuntime) {
             let start = converter::put_refusal(&mut line, number);
             let _ = runner::write_all(&mut rt.stderr(), &line[start..]);
         }
-        Err(fault) => runner::complain(&mut rt.stderr(), b"to1", fault),
+        Err(fault) => {
+            let _ = runner::complain(&mut rt.stderr(), b"to1", fault);
+        }
     }
 }

@@ -3,7 +3,8 @@
 use native.Mathlib.Omega.{arith}
 use Rattle.std.proofs.lemmas.Result.{err_from_is_err_and}
 use Rattle.protocol.proofs.{Tests.{was_true, was_false}, Extents.{copies_most, private_most, rows_most, shared_most}}
-use Rattle.runner.proofs.Calling.{whole_cut, whole_over, whole_more, whole_inside, whole_played, part_zeros}
+use Rattle.runner.proofs.Calling.{whole_cut, whole_over, whole_more, whole_inside, whole_played}
+use Rattle.playing.proofs.Calling.{part_zeros}
 use Rattle.runner.proofs.play_whole.Goals as goal
 
 pub returns-in_err-keep : goal.returns-in_err-keep

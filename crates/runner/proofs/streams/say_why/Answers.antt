@@ -1,6 +1,5 @@
--- What was said is a beginning of the line.
-use Rattle.runner.proofs.Saying.{some_of}
+-- The words are those of the reason, as far as they are shown.
 use Rattle.runner.proofs.streams.say_why.Goals as goal
 
 pub returns : goal.returns
-returns g c = (_, some_of _ _ _ _ c.say.ensures)
+returns g c = (_, c.say.ensures)
