@@ -1,14 +1,14 @@
 -- A move whose places and lengths fit: each place lies in its buffer, and the buffers after it are those of the definition.
 use Prim.Native.Nat.{ℕ, ◌+◌, ◌≤◌}
-use mathlib.Core.{Path.{◌≡◌, refl, sym}, Bool.{Bool, true, false}}
+use mathlib.Core.{Path.{◌≡◌, refl}, Bool.{Bool, true, false}}
 use lib.{Dec.eqb, ListN.length}
 use borrow.Author.Tests.{eqb-true}
 use Rattle.protocol.specs.{Pick.pick, Limits.opening_fits}
 use Rattle.protocol.specs.Buffers.{Bytes, private_length, shared_length, copy_start, manager_start, writeback_start, answer_start, There, given_fits}
-use Rattle.protocol.specs.{Buffers.{moved_private, moved_shared}, Refusals.buffers_fit, declared.{Opening.Opening, Move.{Move, TheVariants.{Still, Store, Answer, Receive, Writeback, Take}}}}
-use Rattle.protocol.proofs.{Tests.{never, both_true}, Extents.{copy_ends, manager_ends, writeback_ends, answer_ends}}
+use Rattle.protocol.specs.{Buffers.{moved_private, moved_shared}, Refusals.buffers_fit, declared.{Opening.Opening, Move.{Move, TheVariants.{Still, Store}}}}
+use Rattle.protocol.proofs.{Tests.{both_true}, Extents.{copy_ends, manager_ends, writeback_ends, answer_ends}}
 use Rattle.refusals.specs.Input.{lengths_fit}
-use Rattle.buffers.specs.Moves.{is_there, is_still, move_fits, Moves}
+use Rattle.buffers.specs.{Moves.{is_there, move_fits, Moves}, declared.places.Places.Places}
 use Rattle.buffers.proofs.Laws.{to_there}
 
 -- lengths np, nq and n of the buffers and of a store's bytes that fit
@@ -50,26 +50,28 @@ fitting v o c l given p q h =
     }
 
 -- where no bytes move, the buffers stay whether the places fit or not
-still_is : (v : Move) → is_still v ≡ true → v ≡ Still
-still_is Still e = refl
-still_is Store e = never (sym e)
-still_is Answer e = never (sym e)
-still_is Receive e = never (sym e)
-still_is Writeback e = never (sym e)
-still_is Take e = never (sym e)
-
 stays : (t : Bool) (x : Bytes) → x ≡ pick t x x
 stays true x = refl
 stays false x = refl
 
-pub as_still : {v : Move} {o : Opening} {c l : ℕ} {given p q : Bytes} → is_still v ≡ true → Moves v o c l given p q p q
+pub as_still : {v : Move} {o : Opening} {c l : ℕ} {given p q : Bytes} → v ≡ Still → Moves v o c l given p q p q
 unfolding moved_private moved_shared
 as_still {v} {o} {c} {l} {given} {p} {q} e =
     let t : Bool = move_fits Still o (length p) (length q) c l (length given) in
-    rw (still_is v e) (record { private = stays t p; shared = stays t q })
+    rw e (record { private = stays t p; shared = stays t q })
 
 -- the buffers are as the move leaves them
 pub as_moved :
     {v : Move} {o : Opening} {c l : ℕ} {given p q : Bytes} → Fitting v o c l given p q → (p' q' : Bytes)
     → p' ≡ moved_private v o c l given p q → q' ≡ moved_shared v o c l p q → Moves v o c l given p q p' q'
 as_moved f p' q' a b = record { private = rw f.tested a; shared = rw f.tested b }
+
+-- where the lines of bytes of core c and line l start
+pub record Starts (p : Places) (o : Opening) (c l : ℕ) : Type 0 where
+  pub copy : copy_start p.opening p.core p.line ≡ copy_start o c l
+  pub manager : manager_start p.opening p.line ≡ manager_start o l
+  pub writeback : writeback_start p.opening p.line ≡ writeback_start o l
+  pub answer : answer_start p.opening p.core ≡ answer_start o c
+
+pub starts : {p : Places} {o : Opening} {c l : ℕ} → p.opening ≡ o → p.core ≡ c → p.line ≡ l → Starts p o c l
+starts a b d = record { copy = rw (a, b, d); manager = rw (a, d); writeback = rw (a, d); answer = rw (a, b) }

@@ -1,23 +1,14 @@
 -- Moving one line of bytes between its places, for every opening, core, line and buffer.
 use Rattle.std.specs.Prelude.{ℕ}
-use mathlib.Core.{Path.◌≡◌, Bool.{Bool, true, false}}
+use mathlib.Core.{Path.◌≡◌, Bool.Bool}
 use lib.{Dec.ltb, ListN.length}
 use Rattle.protocol.specs.{Pick.{pick, both}, Limits.opening_fits, Buffers.{Bytes, given_fits, moved_private, moved_shared}, Given.bytes_as}
-use Rattle.protocol.specs.declared.{Opening.Opening, Given.Given, Move.{Move, TheVariants.{Still, Store, Answer, Receive, Writeback, Take}}}
+use Rattle.protocol.specs.declared.{Opening.Opening, Given.Given, Move.Move}
 use Rattle.refusals.specs.Input.{lengths_fit}
 
 -- the opening lies inside the limits, and core c and line l are there
 abbrev pub is_there : Opening → ℕ → ℕ → Bool
 is_there o c l = both (opening_fits o) (both (ltb c o.cores) (ltb l o.lines))
-
--- no bytes move
-abbrev pub is_still : Move → Bool
-is_still Still = true
-is_still Store = false
-is_still Answer = false
-is_still Receive = false
-is_still Writeback = false
-is_still Take = false
 
 -- the places and lengths of a move fit: the core and the line are there, both buffers have their exact lengths, and a store's bytes are one
 -- line's

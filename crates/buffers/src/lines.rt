@@ -1,33 +1,19 @@
 // Copying one line's bytes to its place in a lent buffer.
 //
-// `copy_line` is the one function that copies a line, into the middle part of a buffer that is lent to it;
-// the bytes that digits spell are decoded straight into such a part. Each function `requires` that the line
-// and its place lie in the buffer: `move_bytes`, which calls them, has looked.
-ghost use Rattle.std.specs.Prelude.{◌≡◌, ◌+◌, ◌≤◌, length, replicate};
+// The bytes that digits spell are decoded straight into the middle part of a buffer that is lent. Each function `requires` that the
+// line and its place lie in the buffer: `move_bytes`, which calls them, has looked.
+ghost use Rattle.std.specs.Prelude.{◌≡◌, ◌+◌, ◌≤◌, length};
 ghost use Rattle.spelling.specs.{Over.over, Hex.unhex};
 ghost use Rattle.protocol.specs.{Limits.most_width, Buffers.part, Given.bytes_as};
 
 use protocol::{Given, Opening};
-
-// Copies src over dst, which is as long.
-fn copy_line(dst: &mut [u8], src: &[u8])
-    requires { length dst.old ≡ length src.now }
-    ensures { dst.new ≡ src.now }
-{
-    let mut i = 0;
-    while i < src.len() {
-        dst[i] = src[i];
-        i += 1;
-    }
-}
 
 // Writes src over the bytes of buf from `at`.
 fn put_line(buf: &mut [u8], at: usize, src: &[u8])
     requires { at + length src.now ≤ length buf.old }
     ensures { buf.new ≡ over buf.old at src.now }
 {
-    let e = at + src.len();
-    copy_line(&mut buf[at..e], src);
+    buf[at..at + src.len()].copy_from_slice(src);
 }
 
 // Writes the bytes that digits spell over those of buf from `at`.
@@ -55,24 +41,15 @@ pub(crate) fn move_line(dst: &mut [u8], at: usize, src: &[u8], from: usize, n: u
     requires { (from + n ≤ length src.now) × (at + n ≤ length dst.old) }
     ensures { dst.new ≡ over dst.old at (part src.now from n) }
 {
-    let e = from + n;
-    put_line(dst, at, &src[from..e]);
+    put_line(dst, at, &src[from..from + n]);
 }
 
-// Copies the n bytes of buf from `from` over those from `to`, by way of a line of its own.
+// Copies the n bytes of buf from `from` over those from `to`, by way of a line of its own: the library has no `copy_within`.
 pub(crate) fn shift_line(buf: &mut [u8], to: usize, from: usize, n: usize)
     requires { (n ≤ most_width) × (from + n ≤ length buf.old) × (to + n ≤ length buf.old) }
     ensures { buf.new ≡ over buf.old to (part buf.old from n) }
 {
-    let mut line = blank();
-    let e = from + n;
-    copy_line(&mut line[0..n], &buf[from..e]);
-    put_line(buf, to, &line[0..n]);
-}
-
-// Room for the widest line.
-fn blank() -> [u8; Opening::MOST_WIDTH]
-    ensures { result ≡ replicate most_width 0 }
-{
-    [0u8; Opening::MOST_WIDTH]
+    let mut line = [0u8; Opening::MOST_WIDTH];
+    line[..n].copy_from_slice(&buf[from..from + n]);
+    put_line(buf, to, &line[..n]);
 }

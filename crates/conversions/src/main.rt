@@ -6,9 +6,9 @@
 #![tactic(auto)]
 
 ghost use Rattle.std.specs.Prelude.{◌≤◌};
-ghost use Rattle.convert.specs.Conversion.{Converts};
 
-use convert::{Converted, To};
+use convert::To;
+use grammar::Refusal;
 
 // The longest buffer.
 const MOST: usize = 200;
@@ -16,48 +16,35 @@ const MOST: usize = 200;
 // A buffer that has no room for any result.
 const SHORT: usize = 8;
 
-// A journal in a form, into a lent buffer.
-fn put_in_form(to: To, journal: &[u8], out: &mut [u8]) -> Converted
-    ensures { Converts to journal.now out.old result out.new }
-{
-    match to {
-        To::First => convert::to1(journal, out),
-        To::Second => convert::to2(journal, out),
-    }
-}
-
 // Prints an answer. A write that fails is passed over.
-fn print_answer(rt: &impl Print, answer: Converted) {
+fn print_answer(rt: &impl Print, answer: Result<usize, Refusal>) {
     let _ = match answer {
-        Converted::Length(n) => println!(rt; "length={n}"),
-        Converted::Refused(n) => println!(rt; "refused={n}"),
+        Ok(n) => println!(rt; "length={n}"),
+        Err(refusal) => {
+            let n = refusal.number();
+            println!(rt; "refused={n}")
+        }
     };
 }
 
-// Converts a journal into a lent buffer, and prints the answer and the buffer.
-fn print_converted(rt: &impl Print, to: To, journal: &[u8], out: &mut [u8]) {
-    let answer = put_in_form(to, journal, out);
-    print_answer(rt, answer);
-    let _ = rt.write_all(out);
-    let _ = println!(rt;);
-}
-
-// The same with a buffer of so many bytes.
+// Converts a journal into a buffer of so many bytes, and prints the answer and the buffer.
 fn play(rt: &impl Print, to: To, journal: &[u8], room: usize)
     requires { room ≤ 200 }
 {
     let mut buffer = [b'.'; MOST];
-    print_converted(rt, to, journal, &mut buffer[0..room]);
+    let out = &mut buffer[..room];
+    print_answer(rt, convert::convert(to, journal, out));
+    let _ = rt.write_all(out);
+    let _ = println!(rt;);
 }
 
 // Converts a journal whose result has so many bytes into four buffers.
 fn play_around(rt: &impl Print, to: To, journal: &[u8], length: usize)
     requires { (1 ≤ length) × (length ≤ 199) }
 {
-    play(rt, to, journal, 0);
-    play(rt, to, journal, length - 1);
-    play(rt, to, journal, length);
-    play(rt, to, journal, length + 1);
+    for room in [0, length - 1, length, length + 1] {
+        play(rt, to, journal, room);
+    }
 }
 
 // An evict before the line has come, which is a drop, and one after, which is a writeback.
@@ -92,78 +79,39 @@ fn to_first(rt: &impl Print) {
 
 // 10 for a last line without its newline; 11 for nothing, and for a first line of the other form; 12 behind sizes that are 7; 7.
 fn refused_to_second(rt: &impl Print) {
-    play(
-        rt,
-        To::Second,
+    let journals: [&[u8]; 5] = [
         b"fabric=1 cores=1 lines=1 width=1 lease=1\nop=serve core=0",
-        SHORT,
-    );
-    play(rt, To::Second, b"", SHORT);
-    play(
-        rt,
-        To::Second,
+        b"",
         b"fabric=2 cores=1 lines=1 width=1 lease=1 cap=1\n",
-        SHORT,
-    );
-    play(
-        rt,
-        To::Second,
         b"fabric=1 cores=17 lines=1 width=1 lease=1\nop=serve core=00\n",
-        SHORT,
-    );
-    play(
-        rt,
-        To::Second,
         b"fabric=1 cores=17 lines=1 width=1 lease=1\n",
-        SHORT,
-    );
+    ];
+    for journal in journals {
+        play(rt, To::Second, journal, SHORT);
+    }
 }
 
 // A drop of a copy that is owned.
-fn play_thirty(rt: &impl Print, room: usize)
-    requires { room ≤ 200 }
-{
-    play(
-        rt,
-        To::First,
-        b"fabric=2 cores=1 lines=1 width=1 lease=1 cap=1\n\
-          op=store core=0 line=0 data=07\n\
-          op=serve core=0\n\
-          op=receive core=0\n\
-          op=drop core=0 line=0\n",
-        room,
-    );
-}
+const THIRTY: &[u8] = b"fabric=2 cores=1 lines=1 width=1 lease=1 cap=1\n\
+                        op=store core=0 line=0 data=07\n\
+                        op=serve core=0\n\
+                        op=receive core=0\n\
+                        op=drop core=0 line=0\n";
 
 // 11 for a first line of the other form; 7 for a cap over lines; 32 for a cap below lines, for a victim, and for a step that answers
 // 30, also with room for the lines before it.
 fn refused_to_first(rt: &impl Print) {
-    play(
-        rt,
-        To::First,
+    let journals: [&[u8]; 5] = [
         b"fabric=1 cores=1 lines=1 width=1 lease=1\n",
-        SHORT,
-    );
-    play(
-        rt,
-        To::First,
         b"fabric=2 cores=1 lines=1 width=1 lease=1 cap=2\n",
-        SHORT,
-    );
-    play(
-        rt,
-        To::First,
         b"fabric=2 cores=1 lines=2 width=1 lease=1 cap=1\n",
-        SHORT,
-    );
-    play(
-        rt,
-        To::First,
         b"fabric=2 cores=1 lines=1 width=1 lease=1 cap=1\nop=victim core=0\n",
-        SHORT,
-    );
-    play_thirty(rt, SHORT);
-    play_thirty(rt, MOST);
+        THIRTY,
+    ];
+    for journal in journals {
+        play(rt, To::First, journal, SHORT);
+    }
+    play(rt, To::First, THIRTY, MOST);
 }
 
 fn main(rt: HostRuntime) {

@@ -5,75 +5,74 @@ use native.Mathlib.Omega.{arith}
 use lib.{Dec.leb, ListN.{length, take, drop, length-append, length-drop, drop_of_length-le}, Seq.take_all}
 use borrow.Author.Tests.{le-leb, lt-leb, leb-true, leb-false}
 use Rattle.protocol.specs.{Buffers.Bytes, declared.Opening.Opening as Sizes}
-use Rattle.spelling.{specs.{Text.text, Decimal.decimal, Over.{PutAt, PutBefore}, declared.Put.{Put, TheVariants.{End, Short}}}, proofs.OverLaws.{before_end, before_from}}
+use Rattle.spelling.{specs.{Text.text, Decimal.decimal, Over.{PutAt, PutBefore}}, proofs.OverLaws.{before_end, before_from}}
+use Rattle.std.specs.Prelude.{Option, Some, None}
 use Rattle.driver.proofs.Putting.{put_written, put_short}
 use Rattle.grammar.specs.Form.{lay, spellings}
-use Rattle.convert.specs.{Spelling.opening_line, Conversion.most_bytes, Writing.{Holds, Appends, sizes_text}, declared.To.TheVariants.{First, Second}}
+use Rattle.convert.specs.{Spelling.opening_line, Conversion.most_bytes, Writing.{Holds, Appends, sizes_text}, declared.{text.Text.Text, To.TheVariants.{First, Second}}}
 
--- a text that has room ends where it is long, and one that has none past the buffer's end
-module _ {buffer : Bytes} {used : ℕ} {t : Bytes} (h : Holds buffer used t) where
-  pub holds_end : length t ≤ most_bytes → used ≡ length t
+-- a text that has room ends where it is long, and one that has none has no end
+module _ {x : Text} {t : Bytes} (h : Holds x t) where
+  pub holds_end : length t ≤ most_bytes → x.end ≡ Some (length t)
   holds_end i = rw (le-leb _ _ i) at h.end
 
-  pub holds_past : most_bytes < length t → used ≡ most_bytes + 1
+  pub holds_past : most_bytes < length t → x.end ≡ None
   holds_past i = rw (lt-leb _ _ i) at h.end
 
--- nothing is written yet
-pub holds_none : (buffer : Bytes) → Holds buffer 0 []
-holds_none buffer = record { end = refl; text = λ i. refl }
+  -- what its end tells
+  ends_at : {e : ℕ} → x.end ≡ Some e → (length t ≤ most_bytes) × (e ≡ length t)
+  ends_at {e} f = go (leb (length t) most_bytes) refl
+    where
+      go : (b : Bool) → leb (length t) most_bytes ≡ b → (length t ≤ most_bytes) × (e ≡ length t)
+      go true i = let k = leb-true _ _ i in let q : Some e ≡ Some (length t) = sym f ∙ holds_end k in (k, cc)
+      go false i = let q : Some e ≡ None = sym f ∙ holds_past (leb-false _ _ i) in let z : ◌≡◌ {A = ℕ} 0 1 = cc in absurd (omega arith)
+
+  past_at : x.end ≡ None → most_bytes < length t
+  past_at f = go (leb (length t) most_bytes) refl
+    where
+      go : (b : Bool) → leb (length t) most_bytes ≡ b → most_bytes < length t
+      go true i = let q : Some (length t) ≡ None = sym (holds_end (leb-true _ _ i)) ∙ f in let z : ◌≡◌ {A = ℕ} 0 1 = cc in absurd (omega arith)
+      go false i = leb-false _ _ i
 
 -- a text that fits, or that does not
-fits : {buffer : Bytes} {used : ℕ} {t : Bytes} → used ≡ length t → length t ≤ most_bytes → take used buffer ≡ t → Holds buffer used t
-fits {buffer} {used} {t} e i x = record { end = e ∙ rw (le-leb _ _ i) refl; text = λ k. subst (λ (n : ℕ). take n buffer ≡ t) e x }
+fits : {x : Text} {t : Bytes} {e : ℕ} → x.end ≡ Some e → e ≡ length t → length t ≤ most_bytes → take e x.bytes ≡ t → Holds x t
+fits {x} {t} f e i h =
+    record { end = f ∙ ap Some e ∙ rw (le-leb _ _ i) refl; text = λ k. subst (λ (n : ℕ). take n x.bytes ≡ t) e h }
 
-over_long : {buffer : Bytes} {used : ℕ} {t : Bytes} → used ≡ most_bytes + 1 → most_bytes < length t → Holds buffer used t
+over_long : {x : Text} {t : Bytes} → x.end ≡ None → most_bytes < length t → Holds x t
 over_long e i = record { end = e ∙ rw (lt-leb _ _ i) refl; text = λ k. absurd (omega arith) }
 
 -- ---- a text that is put
 
-module _ {old : Bytes} {used : ℕ} {t new : Bytes} {r : Put} (size : length old ≡ most_bytes) (p : PutAt old used t new r) where
-  -- it was put
-  pub put_appends : {e : ℕ} → r ≡ End e → Appends old used t new e
-  put_appends {e} x s h = after (leb (length s) most_bytes) refl
-    where
-      after : (b : Bool) → leb (length s) most_bytes ≡ b → Holds new e (s ++ t)
-      after true i =
-          let w = put_written p x in
-          let a : used ≡ length s = holds_end h (leb-true _ _ i) in
-          let n : length (s ++ t) ≡ length s + length t = length-append s t in
-          let before : take used old ≡ s = subst (λ (k : ℕ). take k old ≡ s) (sym a) (h.text (leb-true _ _ i)) in
-          fits (omega (arith, w.end)) (omega (arith, w.room)) (w.before ∙ ap (λ (l : Bytes). l ++ t) before)
-      after false i =
-          let w = put_written p x in
-          let a = holds_past h (leb-false _ _ i) in
-          absurd (omega (arith, w.room))
+-- behind one that has an end, whether it has room or not
+pub put_appends : {x y : Text} {e : ℕ} {t : Bytes} → length x.bytes ≡ most_bytes → x.end ≡ Some e → PutAt x.bytes e t y.bytes y.end → Appends x t y
+put_appends {x} {y} {e} {t} size f p s h = go y.end refl
+  where
+    at : (length s ≤ most_bytes) × (e ≡ length s)
+    at = ends_at h f
 
-  -- it had no room
-  pub short_appends : r ≡ Short → Appends old used t new (most_bytes + 1)
-  short_appends x s h = after (leb (length s) most_bytes) refl
-    where
-      after : (b : Bool) → leb (length s) most_bytes ≡ b → Holds new (most_bytes + 1) (s ++ t)
-      after true i =
-          let w = put_short p x in
-          let a : used ≡ length s = holds_end h (leb-true _ _ i) in
-          let n : length (s ++ t) ≡ length s + length t = length-append s t in
-          over_long refl (omega (arith, w.0))
-      after false i =
-          let a : most_bytes < length s = leb-false _ _ i in
-          let n : length (s ++ t) ≡ length s + length t = length-append s t in
-          over_long refl (omega arith)
+    long : length (s ++ t) ≡ length s + length t
+    long = length-append s t
+
+    go : (r : Option ℕ) → y.end ≡ r → Holds y (s ++ t)
+    go (Some k) g =
+        let w = put_written p g in
+        let before : take e x.bytes ≡ s = subst (λ (n : ℕ). take n x.bytes ≡ s) (sym at.1) (h.text at.0) in
+        fits g (omega (arith, w.end, at.1, long)) (omega (arith, w.room, at.1, long)) (w.before ∙ ap (λ (l : Bytes). l ++ t) before)
+    go None g = let w = put_short p g in over_long g (omega (arith, w.0, at.1, long))
+
+-- behind one that has none
+pub past_appends : {x : Text} (t : Bytes) → x.end ≡ None → Appends x t x
+past_appends {x} t f s h = over_long f (omega (arith, past_at h f, length-append s t))
 
 -- ---- one after another
 
-pub append_more :
-    {old : Bytes} {used : ℕ} {t mid : Bytes} {k : ℕ} {u new : Bytes} {r : ℕ} → Appends old used t mid k → Appends mid k u new r
-    → Appends old used (t ++ u) new r
-append_more {t = t} {u = u} {new = new} {r = r} a b =
-    λ s h. subst (Holds new r) (append_assoc s t u) (b (s ++ t) (a s h))
+pub append_more : {x y z : Text} {t u : Bytes} → Appends x t y → Appends y u z → Appends x (t ++ u) z
+append_more {z = z} {t = t} {u = u} a b = λ s h. subst (Holds z) (append_assoc s t u) (b (s ++ t) (a s h))
 
 -- the same text, written otherwise
-pub append_same : {old : Bytes} {used : ℕ} {t u new : Bytes} {r : ℕ} → t ≡ u → Appends old used t new r → Appends old used u new r
-append_same {old} {used} {new = new} {r = r} e a = subst (λ (x : Bytes). Appends old used x new r) e a
+pub append_same : {x y : Text} {t u : Bytes} → t ≡ u → Appends x t y → Appends x u y
+append_same {x} {y} e a = subst (λ (t : Bytes). Appends x t y) e a
 
 -- ---- a number
 
@@ -84,18 +83,13 @@ digits_alone {old} n {new} {r} size p =
     let f : drop r new ≡ decimal n = before_from old 20 n new r p (omega arith) (omega arith) ∙ ap (λ (l : Bytes). decimal n ++ l) (drop_of_length-le old {i = 20} (omega arith)) ∙ append-nil (decimal n) in
     take_all (20 - r) (drop r new) (rw f (omega arith)) ∙ f
 
--- ---- from the buffer's start
+-- ---- behind a text
 
--- a first text
-pub holds_first : {old t new : Bytes} {r : ℕ} → Appends old 0 t new r → Holds new r t
-holds_first {old} a = a [] (holds_none old)
-
--- one more
-pub holds_more : {old : Bytes} {used : ℕ} {t u new : Bytes} {r : ℕ} → Holds old used t → Appends old used u new r → Holds new r (t ++ u)
+pub holds_more : {x y : Text} {t u : Bytes} → Holds x t → Appends x u y → Holds y (t ++ u)
 holds_more {t = t} h a = a t h
 
-pub holds_same : {buffer : Bytes} {used : ℕ} {t u : Bytes} → t ≡ u → Holds buffer used t → Holds buffer used u
-holds_same {buffer} {used} e h = subst (Holds buffer used) e h
+pub holds_same : {x : Text} {t u : Bytes} → t ≡ u → Holds x t → Holds x u
+holds_same {x} e h = subst (Holds x) e h
 
 -- the part of a line from an offset on
 pub from_on : (kind : Bytes) (n : ℕ) (line : Bytes) → kind ++ take (length line - n) (drop n line) ≡ kind ++ drop n line

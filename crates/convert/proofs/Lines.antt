@@ -10,9 +10,10 @@ use Rattle.spelling.{specs.{Bytes.{All, Byte}, Hex.{hex, unhex}}, proofs.HexLaws
 use Rattle.grammar.specs.Form.{Part, fixed, value, number, pairs, Given, spell}
 use Rattle.grammar.specs.Table.{Numbered, Says, opens, calls, Row, rows_of, no_row, row_at}
 use Rattle.grammar.specs.Line.{said, LineOf, too_long, no_form, wrong_number, wrong_data, spelt}
-use Rattle.grammar.{specs.declared.Line.{Line, TheVariants.{Opening as OpeningLine, Step as StepLine, Refused as RefusedLine}}, proofs.Forms.row_shape}
-use Rattle.journal.specs.Journal.{in_journal, LineAt, NextOf, too_much, empty, ended, unended, a_line}
-use Rattle.journal.specs.declared.Next.{Next, TheVariants.{Opening, Step, End, Refused}}
+use Rattle.std.specs.Prelude.{Some, None, Result, Ok, Err}
+use Rattle.grammar.{specs.declared.{Line.{Line, TheVariants.{Opening as OpeningLine, Step as StepLine}}, Refusal.Refusal}, proofs.Forms.row_shape}
+use Rattle.journal.specs.Journal.{Next, in_journal, LineAt, NextOf, too_much, empty, ended, unended, a_line}
+use Rattle.journal.specs.declared.Item.TheVariants.{Opening, Step}
 use Rattle.driver.proofs.Reading.{ends_in, ends_drop, line_data}
 use Rattle.convert.specs.{Spelling.{row_of, numbers_of, step_line}, Conversion.is_victim}
 
@@ -129,11 +130,15 @@ call_spelt form h s k listed ns bs call e g same =
       plain = λ z. ap of_victim (sym e) ∙ row_plain form k n z listed;
     }
 
--- what is known of a line's answer: its data are at its end, and a step is spelt by its call
+-- what is known of a line that is read: its data are at its end, and a step is spelt by its call
 abbrev LineSpelt : ℕ → Bytes → Line → Type 0
 LineSpelt form s (OpeningLine f o) = f ≡ 1 → o.cap ≡ o.lines
 LineSpelt form s (StepLine call start end) = (length s ≤ 200) × (start ≤ end) × (end ≡ length s) × ((form ≡ 0 → ⊥) → StepSpelt form call (drop start s) s)
-LineSpelt form s (RefusedLine n) = Unit
+
+-- the same of a line's answer
+abbrev AnswerSpelt : ℕ → Bytes → Result Line Refusal → Type 0
+AnswerSpelt form s (Ok a) = LineSpelt form s a
+AnswerSpelt form s (Err r) = Unit {0}
 
 -- the capacity that a first line of `fabric=1` says, and its lines
 abbrev cap_said : Says → ℕ
@@ -169,26 +174,26 @@ says_spelt form s k short listed ns bs g e (calls call) i =
     (short, omega arith, refl, λ h. rw d (call_spelt form h s k listed ns bs call i g e))
 
 -- a line that is read
-line_spelt : (form : ℕ) (s : Bytes) {a : Line} → LineOf (rows_of form) s a → LineSpelt form s a
+line_spelt : (form : ℕ) (s : Bytes) {a : Result Line Refusal} → LineOf (rows_of form) s a → AnswerSpelt form s a
 line_spelt form s (too_long l) = tt
 line_spelt form s (no_form l n) = tt
 line_spelt form s (wrong_number k vs l f n) = tt
 line_spelt form s (wrong_data k vs l f n d) = tt
-line_spelt form s {a} (spelt l x) = subst (LineSpelt form s) (sym x.answer) (says_spelt form s x.k l x.listed x.numbers x.bytes x.given x.same _ refl)
+line_spelt form s (spelt l x) = subst (LineSpelt form s) (sym x.answer) (says_spelt form s x.k l x.listed x.numbers x.bytes x.given x.same _ refl)
 
 -- what is known of an answer at an offset
 abbrev NextSpelt : Bytes → ℕ → ℕ → Next → Type 0
-NextSpelt j at form (Opening f o next) = f ≡ 1 → o.cap ≡ o.lines
-NextSpelt j at form (Step call start end next) = (form ≡ 0 → ⊥) → StepAt j at form call start end next
-NextSpelt j at form End = Unit
-NextSpelt j at form (Refused n) = Unit
+NextSpelt j at form (Ok (Some (Opening f o next))) = f ≡ 1 → o.cap ≡ o.lines
+NextSpelt j at form (Ok (Some (Step call start end next))) = (form ≡ 0 → ⊥) → StepAt j at form call start end next
+NextSpelt j at form (Ok None) = Unit
+NextSpelt j at form (Err r) = Unit
 
 -- a line at an offset
-line_placed : (j : Bytes) (at form : ℕ) (l : Bytes) (next : ℕ) (a : Line) → LineAt j at l next → LineSpelt form l a → NextSpelt j at form (in_journal a at next)
-line_placed j at form l next (OpeningLine f o) h x = x
-line_placed j at form l next (StepLine call start end) h x = λ z.
+line_placed : (j : Bytes) (at form : ℕ) (l : Bytes) (next : ℕ) (a : Result Line Refusal) → LineAt j at l next → AnswerSpelt form l a → NextSpelt j at form (in_journal a at next)
+line_placed j at form l next (Ok (OpeningLine f o)) h x = x
+line_placed j at form l next (Ok (StepLine call start end)) h x = λ z.
     record { text = l; placed = h; short = x.0; spelt = rw (line_data start end h x.1 x.2) (x.3 z) }
-line_placed j at form l next (RefusedLine n) h x = tt
+line_placed j at form l next (Err r) h x = tt
 
 -- any answer
 next_spelt : {j : Bytes} {at form : ℕ} {b : Next} → NextOf j at form b → NextSpelt j at form b
@@ -200,13 +205,9 @@ next_spelt {j} {at} {form} (a_line {a = a} l next s h o) = line_placed j at form
 
 -- a step at an offset of a journal
 pub step_at :
-    (form : ℕ) → (form ≡ 0 → ⊥) → {j : Bytes} {at : ℕ} {call : Call} {start end next : ℕ} → NextOf j at form (Step call start end next)
+    (form : ℕ) → (form ≡ 0 → ⊥) → {j : Bytes} {at : ℕ} {call : Call} {start end next : ℕ} → NextOf j at form (Ok (Some (Step call start end next)))
     → StepAt j at form call start end next
 step_at form h x = next_spelt x h
-
--- the first line of `fabric=1`
-pub opening_cap : {j : Bytes} {o : Sizes} {next : ℕ} → NextOf j 0 0 (Opening 1 o next) → o.cap ≡ o.lines
-opening_cap x = next_spelt x refl
 
 -- a line with its newline is a part of the journal; that the part lies inside it is `line_inside`
 pub line_part : {j : Bytes} {at : ℕ} {s : Bytes} {next : ℕ} → LineAt j at s next → take (next - at) (drop at j) ≡ s ++ (10 ∷ [])

@@ -3,10 +3,12 @@ use Prim.Native.Nat.{ℕ, zero, suc, ◌+◌}
 use mathlib.Core.{Path.{◌≡◌, refl, sym, ◌∙◌, ap}, Bool.{Bool, true, false}, List.{List, [], ◌∷◌, ◌++◌, append_assoc}}
 use native.Mathlib.Omega.{arith}
 use lib.{Dec.eqb, ListN.{length, take, replicate, length-replicate}}
-use borrow.Author.Tests.{eq-eqb, eqb-true}
-use Rattle.protocol.specs.{Pick.{pick, fails, every, first, ◌gives◌}, Limits.opening_fits, Fresh.{fresh_core, fresh_line}, Buffers.{Bytes, private_length, shared_length}, Machine.{Machine, fresh_machine}}
+use borrow.Author.Tests.{eq-eqb}
+use Rattle.protocol.specs.{Pick.{pick, fails, every, first}, Limits.opening_fits, Fresh.{fresh_core, fresh_line}, Buffers.{Bytes, private_length, shared_length}, Machine.{Machine, fresh_machine}}
 use Rattle.protocol.specs.{Refusals.{machine_refusal, state_fits, owner_fits, slot_fits, owners_fit, slots_fit, buffers_fit}, Step.{step}, Run.{Entry, Record, place, run}}
-use Rattle.protocol.{specs.declared.{Core.Core, ManagerLine.ManagerLine, Opening.Opening as Sizes, Call.Call}, proofs.{Tests.never, Refusals.{not-true, passed}}}
+use Rattle.protocol.{specs.declared.{Core.Core, ManagerLine.ManagerLine, Opening.Opening as Sizes, Call.Call}, proofs.{Tests.never, Refusals.{not-true}}}
+use Rattle.std.specs.Prelude.{Option, Some, None}
+use Rattle.grammar.specs.declared.Refusal.{Refusal, TheVariants.{Unfit, Unlike}}
 use Rattle.driver.proofs.Running.{run_records, run_last, entry_of}
 use Rattle.convert.specs.{Spelling.{step_line, opening_line, step_lines}, Forms.{in_form, converted}}
 use Rattle.convert.specs.Conversion.{some, is_unlike, unlike, result_of}
@@ -66,39 +68,35 @@ result_more to o gs call given =
 
 -- ---- 7 and 32
 
+-- a test that does not refuse, and the tests after it
+pub passed : (a : Bool) (r : Refusal) (rest : Option Refusal) → pick a (Some r) rest ≡ None → (a ≡ false) × (rest ≡ None)
+passed true r rest e = absurd (let z : ◌≡◌ {A = ℕ} 0 1 = cc in omega arith)
+passed false r rest e = (refl, e)
+
 -- those of the steps so far
-unfoldable pub refusal_so_far : To → Sizes → List Entry → ℕ
-refusal_so_far to o gs = first ((fails (opening_fits o) gives 7) ∷ (unlike to o gs gives 32) ∷ [])
+unfoldable pub refusal_so_far : To → Sizes → List Entry → Option Refusal
+refusal_so_far to o gs = pick (fails (opening_fits o)) (Some Unfit) (pick (unlike to o gs) (Some Unlike) None)
 
 -- none of them applies
 pub record Passed (to : To) (o : Sizes) (gs : List Entry) : Type 0 where
   pub fits : opening_fits o ≡ true
   pub like : unlike to o gs ≡ false
 
-pub so_far_passed : (to : To) (o : Sizes) (gs : List Entry) → refusal_so_far to o gs ≡ 0 → Passed to o gs
+pub so_far_passed : (to : To) (o : Sizes) (gs : List Entry) → refusal_so_far to o gs ≡ None → Passed to o gs
 unfolding refusal_so_far
 so_far_passed to o gs e =
-    let a = passed (fails (opening_fits o)) 7 _ (omega arith) e in
-    record { fits = not-true (opening_fits o) a.0; like = (passed (unlike to o gs) 32 _ (omega arith) a.1).0 }
+    let a = passed (fails (opening_fits o)) _ _ e in
+    record { fits = not-true (opening_fits o) a.0; like = (passed (unlike to o gs) _ _ a.1).0 }
 
 -- one of them decides
-pub so_far : (to : To) (o : Sizes) (gs : List Entry) (b : Bool) → opening_fits o ≡ true → unlike to o gs ≡ b → refusal_so_far to o gs ≡ pick b 32 0
-unfolding refusal_so_far first
+pub so_far : (to : To) (o : Sizes) (gs : List Entry) (b : Bool) → opening_fits o ≡ true → unlike to o gs ≡ b → refusal_so_far to o gs ≡ pick b (Some Unlike) None
+unfolding refusal_so_far
 so_far to o gs b e h = rw (e, h) refl
-
--- where 32 does not apply, cap is lines
-pub like_cap : (o : Sizes) (gs : List Entry) → unlike First o gs ≡ false → o.cap ≡ o.lines
-unfolding unlike
-like_cap o gs h = go (eqb o.cap o.lines) refl (some is_unlike (records o gs)) h
-  where
-    go : (b : Bool) → eqb o.cap o.lines ≡ b → (c : Bool) → pick (fails b) true c ≡ false → o.cap ≡ o.lines
-    go true q c i = eqb-true _ _ q
-    go false q c i = never i
 
 -- of no step
 pub so_far_none : (to : To) (o : Sizes) → opening_refusal to o ≡ refusal_so_far to o []
 unfolding opening_refusal refusal_so_far unlike run some
-so_far_none First o = ap (λ (b : Bool). first ((fails (opening_fits o) gives 7) ∷ (b gives 32) ∷ [])) (go (fails (eqb o.cap o.lines)))
+so_far_none First o = ap (λ (b : Bool). pick (fails (opening_fits o)) (Some Unfit) (pick b (Some Unlike) None)) (go (fails (eqb o.cap o.lines)))
   where
     go : (b : Bool) → b ≡ pick b true false
     go true = refl
@@ -153,8 +151,8 @@ module _ (o : Sizes) (gs : List Entry) (call : Call) (given : Bytes) where
       go false false c h = never (sym h)
 
   -- where one of 7 and 32 applies, it stays
-  pub so_far_still : (to : To) → (refusal_so_far to o gs ≡ 0 → ⊥) → refusal_so_far to o gs ≡ refusal_so_far to o (more gs call given)
-  unfolding refusal_so_far first
+  pub so_far_still : (to : To) → (refusal_so_far to o gs ≡ None → ⊥) → refusal_so_far to o gs ≡ refusal_so_far to o (more gs call given)
+  unfolding refusal_so_far
   so_far_still to h = go (opening_fits o) refl (unlike to o gs) refl
     where
       go : (a : Bool) → opening_fits o ≡ a → (b : Bool) → unlike to o gs ≡ b → refusal_so_far to o gs ≡ refusal_so_far to o (more gs call given)

@@ -1,60 +1,66 @@
 -- The loop over the lines of a journal: what holds at its head, that each line keeps it, and what it gives where the loop is left.
-use Prim.Native.Nat.{ℕ, ◌+◌, ◌-◌, ◌/◌, ◌≤◌, ◌<◌}
+use Prim.Native.Nat.{ℕ, ◌-◌, ◌/◌, ◌≤◌, ◌<◌}
 use mathlib.Core.{Path.{◌≡◌, refl, sym, ◌∙◌, ap, subst}, Bool.{Bool, true, false}, List.{List, [], ◌∷◌, ◌++◌}}
-use native.Mathlib.{Omega.arith, Decide.ℕ_discrete}
-use lib.{Dec.{ltb, leb, eqb}, ListN.{length, take, drop, length-append}}
-use borrow.Author.Tests.{lt-ltb, le-ltb, leb-true, leb-false, ne_eqb}
+use native.Mathlib.Omega.{arith}
+use lib.{Dec.{ltb, leb}, ListN.{length, take, drop, length-append}}
+use borrow.Author.Tests.{lt-ltb, le-ltb, leb-true, leb-false}
 use Rattle.protocol.specs.{Pick.{pick, both, first}, Limits.{most_cores, most_lines, opening_fits}, Fresh.fresh_state, Buffers.{Bytes, part}}
-use Rattle.protocol.specs.{About.{about, named_line}, Given.{bytes_given}}
-use Rattle.protocol.specs.Machine.{Machine, core_at, copy_at, line_at, pieces, the_core, the_line, written, applied}
+use Rattle.protocol.specs.{About.about, Given.{bytes_given}}
+use Rattle.protocol.specs.Machine.{Machine, written, applied}
 use Rattle.protocol.specs.{Refusals.{machine_refusal, call_rules, call_refusal}, Step.{meaning, Outcome, accepted, step}, Run.{Entry, run}}
 use Rattle.protocol.specs.declared.{Opening.Opening as Sizes, State.State, About.About, Effect.Effect}
-use Rattle.protocol.specs.declared.Which.{Which, TheVariants.{Named as NamedLine, Asked, Answered, Nothing, Victim as OfVictim}}
 use Rattle.protocol.specs.declared.Answer.{Answer, TheVariants.{Refused as RefusedWith, Done, Commit}}
 use Rattle.protocol.specs.declared.Call.{Call, TheVariants.{Load, Store, Fence, Evict, Drop, Writeback, Advance, Serve, Receive, Yield, Take, Victim}}
 use Rattle.protocol.proofs.{Tests.never, Keep.still, Extents.inside}
-use Rattle.refusals.specs.Input.{input_refusal}
-use Rattle.tables.{specs.{Found.{Found, found_at, effect_with}, Look.{nothing_found, look_to, looks_over}}, proofs.Making.{Finds, found_there, made, is_step}}
+use Rattle.refusals.specs.Input.{input_refusal, applies}
+use Rattle.tables.{specs.{declared.seen.Seen.Seen, Found.{effect_with}, Seen.{core_seen, line_seen, pieces_seen, Sees}}, proofs.Making.{found_there, is_step}}
 use Rattle.spelling.specs.Text.{text}
 use Rattle.grammar.specs.Form.{lay, spellings}
-use Rattle.journal.specs.{Journal.{NextOf}, declared.Next.{TheVariants.{Opening, Step, End, Refused as RefusedLine}}}
+use Rattle.std.specs.Prelude.{Option, Some, None, is_some, Result, Ok, Err}
+use Rattle.grammar.specs.declared.Refusal.{Refusal, TheVariants.{TooMuch, Unlike}}
+use Rattle.journal.specs.{Journal.{NextOf}, declared.Item.TheVariants.{Opening, Step}}
 use Rattle.driver.{specs.Listing.{Between, no_line, a_line, at_end, at_refusal}, proofs.{Reading.known, Running.{steps_append}}}
 use Rattle.convert.specs.{Spelling.{step_line, step_lines}, Forms.{owns_copy, in_form, converted}}
-use Rattle.convert.specs.Conversion.{form_from, Reads, later_line, is_victim, answers, is_unlike, unlike, result_of, most_bytes, refusal_of}
+use Rattle.convert.specs.Conversion.{form_from, Reads, later_line, is_victim, answers, is_unlike, unlike, result_of, most_bytes, refusal_of, answer_by}
 use Rattle.convert.specs.Writing.{Holds, Appends, change_of_evict, change_of, changed, skip_of, owns_with, refuses, unlike_step, opening_refusal, FirstWritten, Writes, malformed, reads, last_answer}
-use Rattle.convert.specs.declared.{To.{To, TheVariants.{First, Second}}, Change.TheVariants.{FromDrop, FromWriteback}, Converted.{Converted, TheVariants.{Length, Refused}}}
+use Rattle.convert.specs.declared.{text.Text.Text, To.{To, TheVariants.{First, Second}}, Change.TheVariants.{FromDrop, FromWriteback}}
 use Rattle.convert.proofs.Appending.{holds_end, holds_past, holds_more, holds_same}
-use Rattle.convert.proofs.Lines.{StepAt, step_at, opening_cap, line_part}
-use Rattle.convert.proofs.Longer.{after, more, after_more, newest, result_more, refusal_so_far, Passed, so_far_passed, so_far, so_far_none, like_cap, unlike_now, like_still, so_far_still, fresh_fits}
+use Rattle.convert.proofs.Lines.{StepAt, step_at, line_part}
+use Rattle.convert.proofs.Longer.{after, more, after_more, newest, result_more, refusal_so_far, Passed, so_far_passed, so_far, so_far_none, unlike_now, like_still, so_far_still, fresh_fits}
 
 -- the form of the journal that is converted is one
 pub form_named : (to : To) → form_from to ≡ 0 → ⊥
 form_named First e = omega arith
 form_named Second e = omega arith
 
+-- where a refusal was looked for, and none found
+pub none_found : (n : Option Refusal) → false ≡ is_some n → n ≡ None
+none_found None e = refl
+none_found (Some r) e = never (sym e)
+
 -- ---- what holds at the loop's head
 
 -- where neither 7 nor 32 applies: the state is the one after the steps, and their lines are written in the other form
-pub record Good (to : To) (o : Sizes) (gs : List Entry) (s : State) (buffer : Bytes) (used : ℕ) : Type 0 where
+pub record Good (to : To) (o : Sizes) (gs : List Entry) (s : State) (out : Text) : Type 0 where
   pub state : (after o gs).state ≡ s
   pub opening : s.opening ≡ o
   pub fit : machine_refusal (after o gs) ≡ 0
-  pub text : Holds buffer used (result_of to o gs)
+  pub text : Holds out (result_of to o gs)
 
 -- the lines up to an offset spell the steps gs, and n is the first of 7 and 32 that applies so far
-pub record Reached (to : To) (j : Bytes) (o : Sizes) (from at : ℕ) (s : State) (buffer : Bytes) (used n : ℕ) : Type 0 where
-  pub first : NextOf j 0 0 (Opening (form_from to) o from)
+pub record Reached (to : To) (j : Bytes) (o : Sizes) (from at : ℕ) (s : State) (out : Text) (n : Option Refusal) : Type 0 where
+  pub first : NextOf j 0 0 (Ok (Some (Opening (form_from to) o from)))
   pub gs : List Entry
   pub steps : Between j (form_from to) from gs at
   pub number : n ≡ refusal_so_far to o gs
-  pub good : n ≡ 0 → Good to o gs s buffer used
+  pub good : n ≡ None → Good to o gs s out
 
 -- before the first step
 pub reached_start :
-    (to : To) (j : Bytes) (o : Sizes) (from : ℕ) (s : State) (buffer : Bytes) (used n : ℕ) → FirstWritten to j o from buffer used → s ≡ fresh_state o
-    → n ≡ opening_refusal to o → Reached to j o from from s buffer used n
+    (to : To) (j : Bytes) (o : Sizes) (from : ℕ) (s : State) (out : Text) (n : Option Refusal) → FirstWritten to j o from out → s ≡ fresh_state o
+    → n ≡ opening_refusal to o → Reached to j o from from s out n
 unfolding run converted step_lines
-reached_start to j o from s buffer used n f es en =
+reached_start to j o from s out n f es en =
     record {
       first = f.first;
       gs = [];
@@ -65,20 +71,20 @@ reached_start to j o from s buffer used n f es en =
           record { state = sym es; opening = rw es refl; fit = fresh_fits o p.fits; text = f.text };
     }
 
-module _ {to : To} {j : Bytes} {o : Sizes} {from at : ℕ} {s : State} {buffer : Bytes} {used n : ℕ} (g : Reached to j o from at s buffer used n) where
+module _ {to : To} {j : Bytes} {o : Sizes} {from at : ℕ} {s : State} {out : Text} {n : Option Refusal} (g : Reached to j o from at s out n) where
   -- ---- the loop is left
 
   -- a line is malformed
-  pub later_line_lem : {k : ℕ} → NextOf j at (form_from to) (RefusedLine k) → Writes to j buffer (Refused k)
+  pub later_line_lem : {k : Refusal} → NextOf j at (form_from to) (Err k) → Writes to j out.bytes (Err k)
   later_line_lem x = malformed (later_line g.first g.steps (at_refusal x))
 
   -- the journal ends
-  whole : NextOf j at (form_from to) End → Reads (form_from to) j o g.gs
+  whole : NextOf j at (form_from to) (Ok None) → Reads (form_from to) j o g.gs
   whole x = record { next = from; to = at; first = g.first; steps = g.steps; ends = at_end x }
 
   -- 7 or 32 applies
-  refused_answer : (n ≡ 0 → ⊥) → refusal_of to o g.gs most_bytes ≡ n
-  unfolding refusal_of refusal_so_far first
+  refused_answer : (n ≡ None → ⊥) → refusal_of to o g.gs most_bytes ≡ n
+  unfolding refusal_of refusal_so_far
   refused_answer h = go (opening_fits o) refl (unlike to o g.gs) refl
     where
       go : (a : Bool) → opening_fits o ≡ a → (b : Bool) → unlike to o g.gs ≡ b → refusal_of to o g.gs most_bytes ≡ n
@@ -87,50 +93,52 @@ module _ {to : To} {j : Bytes} {o : Sizes} {from at : ℕ} {s : State} {buffer :
       go true e false f = absurd (h (rw (e, f) at g.number))
 
   -- neither does
-  module _ (z : n ≡ 0) where
+  module _ (z : n ≡ None) where
     passes : Passed to o g.gs
     passes = so_far_passed to o g.gs (sym g.number ∙ z)
 
-    room_answer : length (result_of to o g.gs) ≤ most_bytes → refusal_of to o g.gs most_bytes ≡ 0
-    unfolding refusal_of first
+    room_answer : length (result_of to o g.gs) ≤ most_bytes → refusal_of to o g.gs most_bytes ≡ None
+    unfolding refusal_of
     room_answer h = rw (passes.fits, passes.like, le-ltb most_bytes (length (result_of to o g.gs)) h) refl
 
-    long_answer : most_bytes < length (result_of to o g.gs) → refusal_of to o g.gs most_bytes ≡ 14
-    unfolding refusal_of first
+    long_answer : most_bytes < length (result_of to o g.gs) → refusal_of to o g.gs most_bytes ≡ Some TooMuch
+    unfolding refusal_of
     long_answer h = rw (passes.fits, passes.like, lt-ltb most_bytes (length (result_of to o g.gs)) h) refl
 
   -- the last answer is the definition's
-  pub ends_with : NextOf j at (form_from to) End → {r : Converted} → r ≡ last_answer n used → Writes to j buffer r
-  ends_with x {r} e = go (ℕ_discrete n 0)
+  pub ends_with : NextOf j at (form_from to) (Ok None) → {r : Result ℕ Refusal} → r ≡ last_answer n out.end → Writes to j out.bytes r
+  ends_with x {r} e = go n refl
     where
       size_of : ℕ
       size_of = length (result_of to o g.gs)
 
-      -- the answer by its number, and the text where there is one
-      answers_with : {k : ℕ} → refusal_of to o g.gs most_bytes ≡ k → r ≡ pick (eqb k 0) (Length size_of) (Refused k)
-          → (k ≡ 0 → take size_of buffer ≡ result_of to o g.gs) → Writes to j buffer r
+      -- the answer by its refusal, or none, and the text where there is none
+      answers_with : {k : Option Refusal} → refusal_of to o g.gs most_bytes ≡ k → r ≡ answer_by k size_of
+          → (k ≡ None → take size_of out.bytes ≡ result_of to o g.gs) → Writes to j out.bytes r
       answers_with {k} i q t =
-          subst (Writes to j buffer) (sym (q ∙ ap (λ (m : ℕ). pick (eqb m 0) (Length size_of) (Refused m)) (sym i)))
+          subst (Writes to j out.bytes) (sym (q ∙ ap (λ (m : Option Refusal). answer_by m size_of) (sym i)))
           (reads (whole x) (λ z. t (sym i ∙ z)))
 
-      fits : (z : n ≡ 0) → (b : Bool) → leb size_of most_bytes ≡ b → Writes to j buffer r
+      fits : (z : n ≡ None) → (b : Bool) → leb size_of most_bytes ≡ b → Writes to j out.bytes r
       fits z true h =
           let t = (g.good z).text in
           let k : size_of ≤ most_bytes = leb-true _ _ h in
-          let u : used ≡ size_of = holds_end t k in
-          answers_with (room_answer z k) (e ∙ rw (z, u, h) refl) (λ i. t.text k)
+          let u : out.end ≡ Some size_of = holds_end t k in
+          answers_with (room_answer z k) (e ∙ rw (z, u) refl) (λ i. t.text k)
       fits z false h =
           let k : most_bytes < size_of = leb-false _ _ h in
-          let u : used ≡ most_bytes + 1 = holds_past (g.good z).text k in
-          answers_with (long_answer z k) (e ∙ rw (z, u) refl) (λ i. absurd (omega (arith, i)))
+          let u : out.end ≡ None = holds_past (g.good z).text k in
+          answers_with (long_answer z k) (e ∙ rw (z, u) refl) (λ i. absurd (let z : ◌≡◌ {A = ℕ} 0 1 = cc in omega arith))
 
-      go : Dec (n ≡ 0) → Writes to j buffer r
-      go (yes z) = fits z (leb size_of most_bytes) refl
-      go (no h) = answers_with (refused_answer h) (e ∙ rw (ne_eqb n 0 h) refl) (λ i. absurd (h i))
+      go : (k : Option Refusal) → n ≡ k → Writes to j out.bytes r
+      go None z = fits z (leb size_of most_bytes) refl
+      go (Some k) z =
+          let h : n ≡ None → ⊥ = λ i. let q : ◌≡◌ {A = ℕ} 0 1 = cc in omega arith in
+          answers_with (refused_answer h ∙ z) (e ∙ ap (λ (m : Option Refusal). last_answer m out.end) z) (λ i. absurd (h (z ∙ i)))
 
   -- ---- a line more
 
-  module _ {call : Call} {start end next : ℕ} (x : NextOf j at (form_from to) (Step call start end next)) where
+  module _ {call : Call} {start end next : ℕ} (x : NextOf j at (form_from to) (Ok (Some (Step call start end next)))) where
     abbrev digits : Bytes
     digits = part j start (end - start)
 
@@ -138,7 +146,7 @@ module _ {to : To} {j : Bytes} {o : Sizes} {from at : ℕ} {s : State} {buffer :
     steps_more = steps_append g.steps (a_line x no_line)
 
     -- it is only read, where 7 or 32 applies
-    pub passed_over : (n ≡ 0 → ⊥) → Reached to j o from next s buffer used n
+    pub passed_over : (n ≡ None → ⊥) → Reached to j o from next s out n
     passed_over h =
         record {
           first = g.first;
@@ -260,43 +268,39 @@ line_skip Second (Victim c) ds b = omega arith
 -- an evict that is not refused by 3 or 4 is about its core and its line
 module _ (o : Sizes) (s : State) (es : s.opening ≡ o) (fits : opening_fits o ≡ true) where
   evict_owns :
-      (c l n k i a : ℕ) → k ≡ call_refusal (Evict c l) o n → i ≡ found_at c o.cores most_cores → a ≡ found_at l o.lines most_lines
-      → owns_with k (copy_at s i a) ≡ owns_copy s c l
-  unfolding call_refusal call_rules first
-  evict_owns c l n k i a ek ei ea = go (leb o.cores c) refl (leb o.lines l) refl
+      (c l n : ℕ) {k : Option ℕ} {y : Seen} → k ≡ applies (call_refusal (Evict c l) o n) → Sees (Evict c l) s y
+      → owns_with k y.pieces.copy ≡ owns_copy s c l
+  unfolding call_refusal call_rules first core_seen line_seen pieces_seen
+  evict_owns c l n {k} {y} ek f = go (leb o.cores c) refl (leb o.lines l) refl
     where
       never_both : (b : Bool) → both b false ≡ false
       never_both true = refl
       never_both false = refl
 
-      go : (x : Bool) → leb o.cores c ≡ x → (y : Bool) → leb o.lines l ≡ y → owns_with k (copy_at s i a) ≡ owns_copy s c l
-      go true p y q = let z : k ≡ 3 = ek ∙ rw p refl in rw (z, es, le-ltb c o.cores (leb-true _ _ p)) refl
-      go false p true q = let z : k ≡ 4 = ek ∙ rw (p, q) refl in rw (z, es, le-ltb l o.lines (leb-true _ _ q)) (sym (never_both (ltb c o.cores)))
+      go : (a : Bool) → leb o.cores c ≡ a → (b : Bool) → leb o.lines l ≡ b → owns_with k y.pieces.copy ≡ owns_copy s c l
+      go true p b q = let z : k ≡ Some 3 = ek ∙ rw p refl in rw (z, es, le-ltb c o.cores (leb-true _ _ p)) refl
+      go false p true q = let z : k ≡ Some 4 = ek ∙ rw (p, q) refl in rw (z, es, le-ltb l o.lines (leb-true _ _ q)) (sym (never_both (ltb c o.cores)))
       go false p false q =
-          let z : k ≡ 0 = ek ∙ rw (p, q) refl in
+          let z : k ≡ None = ek ∙ rw (p, q) refl in
           let b = inside o fits in
           let c-in = leb-false _ _ p in
           let l-in = leb-false _ _ q in
-          let ic : i ≡ c = ei ∙ found_there c o.cores most_cores c-in b.most_cores in
-          let al : a ≡ l = ea ∙ found_there l o.lines most_lines l-in b.most_lines in
-          rw (z, ic, al, es, lt-ltb _ _ c-in, lt-ltb _ _ l-in) refl
+          rw (z, f.pieces, es, found_there c o.cores most_cores c-in b.most_cores, found_there l o.lines most_lines l-in b.most_lines, lt-ltb _ _ c-in, lt-ltb _ _ l-in) refl
 
   -- for every call
-  owns_right :
-      (call : Call) (n k v i a : ℕ) → k ≡ call_refusal call o n → i ≡ found_at (the_core (about call).core (line_at s v).manager) o.cores most_cores
-      → a ≡ found_at (the_line (about call).line (core_at s i).slot 0) o.lines most_lines → EvictOwns s call (owns_with k (copy_at s i a))
-  owns_right (Load c l) n k v i a ek ei ea = tt
-  owns_right (Store g c l) n k v i a ek ei ea = tt
-  owns_right (Fence c) n k v i a ek ei ea = tt
-  owns_right (Evict c l) n k v i a ek ei ea = evict_owns c l n k i a ek ei ea
-  owns_right (Drop c l) n k v i a ek ei ea = tt
-  owns_right (Writeback c l) n k v i a ek ei ea = tt
-  owns_right (Advance c by) n k v i a ek ei ea = tt
-  owns_right (Serve c) n k v i a ek ei ea = tt
-  owns_right (Receive c) n k v i a ek ei ea = tt
-  owns_right (Yield l) n k v i a ek ei ea = tt
-  owns_right (Take l) n k v i a ek ei ea = tt
-  owns_right (Victim c) n k v i a ek ei ea = tt
+  owns_right : (call : Call) (n : ℕ) {k : Option ℕ} {y : Seen} → k ≡ applies (call_refusal call o n) → Sees call s y → EvictOwns s call (owns_with k y.pieces.copy)
+  owns_right (Load c l) n e f = tt
+  owns_right (Store g c l) n e f = tt
+  owns_right (Fence c) n e f = tt
+  owns_right (Evict c l) n e f = evict_owns c l n e f
+  owns_right (Drop c l) n e f = tt
+  owns_right (Writeback c l) n e f = tt
+  owns_right (Advance c by) n e f = tt
+  owns_right (Serve c) n e f = tt
+  owns_right (Receive c) n e f = tt
+  owns_right (Yield l) n e f = tt
+  owns_right (Take l) n e f = tt
+  owns_right (Victim c) n e f = tt
 
 -- ---- a step
 
@@ -307,41 +311,36 @@ answers_refuses n (RefusedWith k) bytes = refl
 answers_refuses n (Done d) bytes = refl
 answers_refuses n (Commit c t k) bytes = refl
 
--- a call that is not about a victim does not look over its core's copies, where cap is lines
-not_over : (w : Which) (o : Sizes) → o.cap ≡ o.lines → is_victim w ≡ false → looks_over w o ≡ false
-not_over (NamedLine l) o e h = refl
-not_over Asked o e h = refl
-not_over Answered o e h = rw e (le-ltb o.lines o.lines (omega arith))
-not_over Nothing o e h = refl
-not_over OfVictim o e h = never h
+-- the law of one call, for what is seen of the machine's state
+step_seen : (m : Machine) (call : Call) (given : Bytes) {k : Option ℕ} {y : Seen} {d : Effect}
+    → k ≡ applies (input_refusal m call given) → Sees call m.state y → d ≡ effect_with k call y.pieces m.state.opening
+    → step m call given ≡ accepted m call (bytes_given call given) y.core y.pieces.number d
+unfolding pieces_seen
+step_seen m call given ek f ed =
+    let e = rw (ek, f.pieces) at ed in
+    rw (e, f.core, f.pieces) (is_step m call given _ refl)
 
--- the step of a line, where neither 7 nor 32 applies so far: k is the first of 3 to 6 that applies, v, c and l are where its call finds its core and
--- its line, without going through any copies, and d is the effect there
+-- the step of a line, where neither 7 nor 32 applies so far: k is the first of 3 to 6 that applies, y is what its call sees, and d the effect on that
 pub record StepInPlace (to : To) (j : Bytes) (o : Sizes) (from : ℕ) : Type 0 where
   pub at : ℕ
   pub s : State
-  pub buffer : Bytes
-  pub used : ℕ
-  pub n : ℕ
+  pub out : Text
+  pub n : Option Refusal
   pub call : Call
   pub start : ℕ
   pub end : ℕ
   pub next : ℕ
   pub w : About
-  pub k : ℕ
-  pub v : ℕ
-  pub c : ℕ
-  pub l : ℕ
+  pub k : Option ℕ
+  pub y : Seen
   pub d : Effect
-  pub reached : Reached to j o from at s buffer used n
-  pub none : n ≡ 0
-  pub line : NextOf j at (form_from to) (Step call start end next)
+  pub reached : Reached to j o from at s out n
+  pub none : n ≡ None
+  pub line : NextOf j at (form_from to) (Ok (Some (Step call start end next)))
   pub about : w ≡ about call
-  pub number : k ≡ call_refusal call o ((end - start) / 2)
-  pub named : Found (named_line w.line) o.lines most_lines v
-  pub core : Found (the_core w.core (line_at s v).manager) o.cores most_cores c
-  pub place : Found (the_line w.line (core_at s c).slot 0) o.lines most_lines l
-  pub effect : d ≡ effect_with k call (pieces l (core_at s c) (copy_at s c l) (line_at s l) 0) o
+  pub number : k ≡ applies (call_refusal call o ((end - start) / 2))
+  pub sees : Sees call s y
+  pub effect : d ≡ effect_with k call y.pieces o
 
 module _ {to : To} {j : Bytes} {o : Sizes} {from : ℕ} (x : StepInPlace to j o from) where
   abbrev gs : List Entry
@@ -354,7 +353,7 @@ module _ {to : To} {j : Bytes} {o : Sizes} {from : ℕ} (x : StepInPlace to j o 
   abbrev given : Bytes
   given = part j x.start (x.end - x.start)
 
-  good : Good to o gs x.s x.buffer x.used
+  good : Good to o gs x.s x.out
   good = x.reached.good x.none
 
   passes_so_far : Passed to o gs
@@ -363,77 +362,53 @@ module _ {to : To} {j : Bytes} {o : Sizes} {from : ℕ} (x : StepInPlace to j o 
   spelt : StepAt j x.at (form_from to) x.call x.start x.end x.next
   spelt = step_at (form_from to) (form_named to) x.line
 
-  input : x.k ≡ input_refusal m x.call given
-  input =
-      let r = (known x.line).1 in
-      let e : m.state.opening ≡ o = ap (λ (t : State). t.opening) good.state ∙ good.opening in
-      rw (r.right, good.fit, e, r.count) x.number
+  opening_is : m.state.opening ≡ o
+  opening_is = ap (λ (t : State). t.opening) good.state ∙ good.opening
 
-  -- ---- a step that is not about a victim
+  input : x.k ≡ applies (input_refusal m x.call given)
+  input = let r = (known x.line).1 in rw (r.right, good.fit, opening_is, r.count) x.number
 
-  module _ (h : is_victim x.w.line ≡ false) (cap : o.cap ≡ o.lines) where
-    finds : Finds m x.call x.v x.c nothing_found x.l
-    unfolding look_to
-    finds =
-        let e = x.about in
-        let q = good.opening in
-        let u : looks_over x.w.line o ≡ false = not_over x.w.line o cap h in
-        record {
-          named = rw (good.state, q, ← e) x.named.is;
-          core = rw (good.state, q, ← e) x.core.is;
-          look = rw (good.state, q, ← e, u) refl;
-          line = rw (good.state, q, ← e) x.place.is;
-        }
+  -- ---- what the step makes
 
-    effect_is : x.d ≡ made m x.call given x.k input x.v x.c nothing_found x.l finds
-    effect_is =
-        let on : State → Sizes → Effect = λ t q. effect_with x.k x.call (pieces x.l (core_at t x.c) (copy_at t x.c x.l) (line_at t x.l) 0) q in
-        x.effect ∙ sym (ap (λ (t : State). on t t.opening) good.state ∙ ap (on x.s) good.opening)
+  step_is : step m x.call given ≡ accepted m x.call (bytes_given x.call given) x.y.core x.y.pieces.number x.d
+  step_is =
+      step_seen m x.call given input (subst (λ (t : State). Sees x.call t x.y) (sym good.state) x.sees)
+      (subst (λ (q : Sizes). x.d ≡ effect_with x.k x.call x.y.pieces q) (sym opening_is) x.effect)
 
-    step_is : step m x.call given ≡ accepted m x.call (bytes_given x.call given) x.c x.l x.d
-    step_is =
-        is_step m x.call given x.k input x.v x.c nothing_found x.l finds
-        ∙ ap (accepted m x.call (bytes_given x.call given) x.c x.l) (sym effect_is)
+  state_is : (step m x.call given).machine.state ≡ written x.s x.y.core x.y.pieces.number x.d
+  unfolding accepted applied
+  state_is = ap (λ (z : Outcome). z.machine.state) step_is ∙ rw good.state refl
 
-    state_is : (step m x.call given).machine.state ≡ written x.s x.c x.l x.d
-    unfolding accepted applied
-    state_is = ap (λ (y : Outcome). y.machine.state) step_is ∙ rw good.state refl
-
-    answer_is : answers 30 (step m x.call given).reply ≡ refuses 30 x.d.answer
-    unfolding accepted
-    answer_is = ap (λ (y : Outcome). answers 30 y.reply) step_is ∙ answers_refuses 30 x.d.answer _
+  answer_is : answers 30 (step m x.call given).reply ≡ refuses 30 x.d.answer
+  unfolding accepted
+  answer_is = ap (λ (z : Outcome). answers 30 z.reply) step_is ∙ answers_refuses 30 x.d.answer _
 
   -- ---- 32
 
   -- the records say what the step's answer says
-  unlike_is : is_victim x.w.line ≡ false → o.cap ≡ o.lines → is_unlike (newest o gs x.call given) ≡ refuses 30 x.d.answer
-  unlike_is h cap = rw (← x.about, h) (answer_is h cap)
-
-  -- cap is lines
-  lines_cap : (t : To) → to ≡ t → o.cap ≡ o.lines
-  lines_cap Second e = opening_cap (subst (λ (t : To). NextOf j 0 0 (Opening (form_from t) o from)) e x.reached.first)
-  lines_cap First e = like_cap o gs (subst (λ (t : To). unlike t o gs ≡ false) e passes_so_far.like)
+  unlike_is : is_victim x.w.line ≡ false → is_unlike (newest o gs x.call given) ≡ refuses 30 x.d.answer
+  unlike_is h = rw (← x.about, h) answer_is
 
   -- the step is one that form 1 can't have
-  pub unlike_made : unlike_step to x.w.line x.d.answer ≡ true → Reached to j o from x.next x.s x.buffer x.used 32
+  pub unlike_made : unlike_step to x.w.line x.d.answer ≡ true → Reached to j o from x.next x.s x.out (Some Unlike)
   unlike_made h =
       record {
         first = x.reached.first;
         gs = more gs x.call given;
         steps = steps_more x.reached x.line;
         number = sym (so_far to o (more gs x.call given) true passes_so_far.fits (now to refl h));
-        good = λ z. absurd (omega (arith, z));
+        good = λ z. absurd (let q : ◌≡◌ {A = ℕ} 0 1 = cc in omega arith);
       }
     where
       -- it is a victim step, or answers 30
-      by : (b : Bool) → is_victim x.w.line ≡ b → o.cap ≡ o.lines → pick b true (refuses 30 x.d.answer) ≡ true → is_unlike (newest o gs x.call given) ≡ true
-      by true v cap i = rw (← x.about, v) refl
-      by false v cap i = unlike_is v cap ∙ i
+      by : (b : Bool) → is_victim x.w.line ≡ b → pick b true (refuses 30 x.d.answer) ≡ true → is_unlike (newest o gs x.call given) ≡ true
+      by true v i = rw (← x.about, v) refl
+      by false v i = unlike_is v ∙ i
 
       now : (t : To) → to ≡ t → unlike_step t x.w.line x.d.answer ≡ true → unlike to o (more gs x.call given) ≡ true
       now Second e i = never (sym i)
       now First e i =
-          ap (λ (t : To). unlike t o (more gs x.call given)) e ∙ unlike_now o gs x.call given (by (is_victim x.w.line) refl (lines_cap First e) i)
+          ap (λ (t : To). unlike t o (more gs x.call given)) e ∙ unlike_now o gs x.call given (by (is_victim x.w.line) refl i)
 
   -- ---- the step is made
 
@@ -450,9 +425,6 @@ module _ {to : To} {j : Bytes} {o : Sizes} {from : ℕ} (x : StepInPlace to j o 
     abbrev no_victim_lem : is_victim x.w.line ≡ false
     no_victim_lem = plain to refl
 
-    abbrev cap_is : o.cap ≡ o.lines
-    cap_is = lines_cap to refl
-
     still_like : (t : To) → to ≡ t → unlike to o (more gs x.call given) ≡ false
     unfolding unlike
     still_like Second e = ap (λ (t : To). unlike t o (more gs x.call given)) e
@@ -460,27 +432,25 @@ module _ {to : To} {j : Bytes} {o : Sizes} {from : ℕ} (x : StepInPlace to j o 
         let q = subst (λ (t : To). unlike t o gs ≡ false) e passes_so_far.like in
         let i : unlike_step First x.w.line x.d.answer ≡ false = subst (λ (t : To). unlike_step t x.w.line x.d.answer ≡ false) e h in
         let r : refuses 30 x.d.answer ≡ false = rw no_victim_lem at i in
-        ap (λ (t : To). unlike t o (more gs x.call given)) e ∙ like_still o gs x.call given (unlike_is no_victim_lem cap_is ∙ r) ∙ q
+        ap (λ (t : To). unlike t o (more gs x.call given)) e ∙ like_still o gs x.call given (unlike_is no_victim_lem ∙ r) ∙ q
 
     -- its line, as it is in the journal
     line_is : part j x.at (x.next - x.at) ≡ ended_line x.call given
     line_is = line_part spelt.placed ∙ ap (λ (t : Bytes). t ++ (10 ∷ [])) spelt.spelt.line
 
-    module _ (b : Bool) (eb : b ≡ owns_with x.k (copy_at x.s x.c x.l)) where
+    module _ (b : Bool) (eb : b ≡ owns_with x.k x.y.pieces.copy) where
       -- it is longer than the kind that it loses
       pub skips : skip_of (change_of to x.call b) ≤ length (part j x.at (x.next - x.at))
       skips = rw line_is (line_skip to x.call given b)
 
       owns_is : EvictOwns x.s x.call b
       owns_is =
-          rw eb
-          (owns_right o x.s good.opening passes_so_far.fits x.call _ x.k x.v x.c x.l x.number (rw x.about at x.core.is)
-          (rw x.about at x.place.is))
+          rw eb (owns_right o x.s good.opening passes_so_far.fits x.call _ x.number x.sees)
 
       pub step_made :
-          {new : Bytes} {r : ℕ} → Appends x.buffer x.used (changed (change_of to x.call b) (part j x.at (x.next - x.at))) new r
-          → Reached to j o from x.next (written x.s x.c x.l x.d) new r x.n
-      step_made {new} {r} a =
+          {new : Text} → Appends x.out (changed (change_of to x.call b) (part j x.at (x.next - x.at))) new
+          → Reached to j o from x.next (written x.s x.y.core x.y.pieces.number x.d) new x.n
+      step_made {new} a =
           let e : changed (change_of to x.call b) (part j x.at (x.next - x.at)) ≡ ended_line (in_form to m.state x.call) given =
           rw (line_is, good.state) (line_changed to x.s x.call given b owns_is) in
           record {
@@ -489,7 +459,7 @@ module _ {to : To} {j : Bytes} {o : Sizes} {from : ℕ} (x : StepInPlace to j o 
             steps = steps_more x.reached x.line;
             number = x.none ∙ sym (so_far to o (more gs x.call given) false passes_so_far.fits (still_like to refl));
             good = λ z. record {
-              state = ap (λ (y : Machine). y.state) (after_more o gs x.call given) ∙ state_is no_victim_lem cap_is;
+              state = ap (λ (y : Machine). y.state) (after_more o gs x.call given) ∙ state_is;
               opening = good.opening;
               fit = rw (after_more o gs x.call given) (sym (still m x.call given) ∙ good.fit);
               text = holds_same (ap (λ (t : Bytes). result_of to o gs ++ t) e ∙ result_more to o gs x.call given) (holds_more good.text a);

@@ -1,16 +1,16 @@
 -- What converting a journal into a lent buffer answers and leaves (02, Five), for every journal and every buffer.
-use Rattle.std.specs.Prelude.{ℕ, ◌+◌, ◌≤◌}
+use Rattle.std.specs.Prelude.{ℕ, ◌+◌, ◌≤◌, Option, Some, None, Result, Ok, Err}
 use mathlib.Core.{Path.◌≡◌, Bool.{Bool, true, false}, List.{List, [], ◌∷◌}}
 use lib.{Dec.{ltb, eqb}, ListN.length}
-use Rattle.protocol.specs.{Pick.{pick, fails, first, ◌gives◌}, Limits.opening_fits, Buffers.Bytes, About.about, Machine.fresh_machine}
+use Rattle.protocol.specs.{Pick.{pick, fails}, Limits.opening_fits, Buffers.Bytes, About.about, Machine.fresh_machine}
 use Rattle.protocol.specs.{Step.{Reply, refused, done, commit}, Run.{Entry, Record, run}, declared.Opening.Opening as Sizes}
 use Rattle.protocol.specs.declared.Which.{Which, TheVariants.{Named as NamedLine, Asked, Answered, Nothing, Victim}}
 use Rattle.spelling.specs.Over.{over}
-use Rattle.grammar.specs.{Table.openings, Line.Matches}
-use Rattle.journal.specs.{Journal.{LineAt, NextOf}, declared.Next.TheVariants.{Opening, Refused as RefusedLine}}
+use Rattle.grammar.specs.{Table.openings, Line.Matches, declared.Refusal.{Refusal, TheVariants.{Unfit, NoForm, TooMuch, Unlike}}}
+use Rattle.journal.specs.{Journal.{LineAt, NextOf}, declared.Item.TheVariants.Opening}
 use Rattle.driver.specs.Listing.{ended, stopped, Between, EndsAt}
 use Rattle.convert.specs.{Spelling.journal_of, Forms.converted}
-use Rattle.convert.specs.declared.{To.{To, TheVariants.{First, Second}}, Converted.{Converted, TheVariants.{Length, Refused}}}
+use Rattle.convert.specs.declared.To.{To, TheVariants.{First, Second}}
 
 -- ---- reading
 
@@ -31,7 +31,7 @@ form_from Second = 1
 pub record Reads (form : ℕ) (journal : Bytes) (o : Sizes) (gs : List Entry) : Type 0 where
   pub next : ℕ
   pub to : ℕ
-  pub first : NextOf journal 0 0 (Opening form o next)
+  pub first : NextOf journal 0 0 (Ok (Some (Opening form o next)))
   pub steps : Between journal form next gs to
   pub ends : EndsAt journal form to ended
 
@@ -49,12 +49,12 @@ pub record OtherFirst (form : ℕ) (journal : Bytes) : Type 0 where
 
 -- "Input over 65,536 bytes is 14; then the first malformed line gives its 10 to 13", wherever it is. "`fabric=1` and the step kind are fixed text,
 -- so anything else there is 11": the other form's first line is 11, right or wrong, as empty input is
-pub data Malformed (form : ℕ) (journal : Bytes) : ℕ → Type 0 where
-  first_line : {n : ℕ} → NextOf journal 0 0 (RefusedLine n) → (OtherFirst form journal → ⊥) → Malformed form journal n
-  other_form : OtherFirst form journal → Malformed form journal 11
+pub data Malformed (form : ℕ) (journal : Bytes) : Refusal → Type 0 where
+  first_line : {r : Refusal} → NextOf journal 0 0 (Err r) → (OtherFirst form journal → ⊥) → Malformed form journal r
+  other_form : OtherFirst form journal → Malformed form journal NoForm
   later_line :
-      {o : Sizes} {next : ℕ} {gs : List Entry} {to n : ℕ} → NextOf journal 0 0 (Opening form o next) → Between journal form next gs to
-      → EndsAt journal form to (stopped n) → Malformed form journal n
+      {o : Sizes} {next : ℕ} {gs : List Entry} {to : ℕ} {r : Refusal} → NextOf journal 0 0 (Ok (Some (Opening form o next))) → Between journal form next gs to
+      → EndsAt journal form to (stopped r) → Malformed form journal r
 
 -- ---- what can't be said in form 1
 
@@ -93,23 +93,29 @@ abbrev pub result_of : To → Sizes → List Entry → Bytes
 result_of to o gs = journal_of to o (converted to gs (fresh_machine o))
 
 -- "then opening sizes, 7"; 32 "after 7"; "A result over 65,536 bytes, or over the buffer, is 14 too, as the last check". `room` is the buffer's length
-unfoldable pub refusal_of : To → Sizes → List Entry → ℕ → ℕ
+unfoldable pub refusal_of : To → Sizes → List Entry → ℕ → Option Refusal
 refusal_of to o gs room =
-    first
-    ((fails (opening_fits o) gives 7)
-    ∷ (unlike to o gs gives 32)
-    ∷ (ltb most_bytes (length (result_of to o gs)) gives 14)
-    ∷ (ltb room (length (result_of to o gs)) gives 14)
-    ∷ [])
+    pick (fails (opening_fits o)) (Some Unfit)
+    (pick (unlike to o gs) (Some Unlike)
+    (pick (ltb most_bytes (length (result_of to o gs))) (Some TooMuch)
+    (pick (ltb room (length (result_of to o gs))) (Some TooMuch) None)))
 
 -- "success answers the result's length and leaves the bytes past it"; "Any refusal leaves the buffer untouched"
-abbrev pub answer_of : To → Sizes → List Entry → ℕ → Converted
-answer_of to o gs room = pick (eqb (refusal_of to o gs room) 0) (Length (length (result_of to o gs))) (Refused (refusal_of to o gs room))
+abbrev pub answer_by : Option Refusal → ℕ → Result ℕ Refusal
+answer_by None n = Ok n
+answer_by (Some r) n = Err r
+
+abbrev pub buffer_by : Option Refusal → Bytes → Bytes → Bytes
+buffer_by None result old = over old 0 result
+buffer_by (Some r) result old = old
+
+abbrev pub answer_of : To → Sizes → List Entry → ℕ → Result ℕ Refusal
+answer_of to o gs room = answer_by (refusal_of to o gs room) (length (result_of to o gs))
 
 abbrev pub buffer_of : To → Sizes → List Entry → Bytes → Bytes
-buffer_of to o gs old = pick (eqb (refusal_of to o gs (length old)) 0) (over old 0 (result_of to o gs)) old
+buffer_of to o gs old = buffer_by (refusal_of to o gs (length old)) (result_of to o gs) old
 
 -- THE ANSWER, and the buffer after it, for a journal and a buffer
-pub data Converts (to : To) (journal old : Bytes) : Converted → Bytes → Type 0 where
-  malformed : {n : ℕ} → Malformed (form_from to) journal n → Converts to journal old (Refused n) old
+pub data Converts (to : To) (journal old : Bytes) : Result ℕ Refusal → Bytes → Type 0 where
+  malformed : {r : Refusal} → Malformed (form_from to) journal r → Converts to journal old (Err r) old
   reads : {o : Sizes} {gs : List Entry} → Reads (form_from to) journal o gs → Converts to journal old (answer_of to o gs (length old)) (buffer_of to o gs old)

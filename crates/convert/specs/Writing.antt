@@ -1,30 +1,31 @@
 -- How a result is written, line by line, into a buffer of its greatest length: what the private functions promise. The public promises rest on
 -- `Conversion` alone.
-use Rattle.std.specs.Prelude.{ℕ, ◌+◌, ◌≤◌}
+use Rattle.std.specs.{Prelude.{ℕ, ◌≤◌, Option, Some, None, Result, Ok, Err}, Option.ok_or}
 use mathlib.Core.{Path.◌≡◌, Bool.{Bool, true, false}, List.{List, [], ◌∷◌, ◌++◌}}
 use lib.{Dec.{leb, eqb}, ListN.{length, take, drop}}
-use Rattle.protocol.specs.{Pick.{pick, both, fails, first, ◌gives◌}, Limits.opening_fits, Buffers.Bytes, Copies.is_owned}
+use Rattle.protocol.specs.{Pick.{pick, fails}, Limits.opening_fits, Buffers.Bytes, Copies.is_owned}
 use Rattle.protocol.specs.declared.{Opening.Opening as Sizes, Copy.Copy, Which.Which, Answer.{Answer, TheVariants.{Refused as RefusedWith, Done, Commit}}}
 use Rattle.protocol.specs.declared.Call.{Call, TheVariants.{Load, Store, Fence, Evict, Drop, Writeback, Advance, Serve, Receive, Yield, Take, Victim}}
 use Rattle.protocol.specs.Run.{Entry}
 use Rattle.spelling.specs.{Decimal.decimal, Text.text}
-use Rattle.journal.specs.{Journal.NextOf, declared.Next.TheVariants.Opening}
+use Rattle.grammar.specs.declared.Refusal.{Refusal, TheVariants.{Unfit, TooMuch, Unlike}}
+use Rattle.journal.specs.{Journal.NextOf, declared.Item.TheVariants.Opening}
 use Rattle.convert.specs.Spelling.{opening_line}
 use Rattle.convert.specs.Conversion.{form_from, Malformed, Reads, is_victim, result_of, most_bytes, refusal_of, answer_of}
-use Rattle.convert.specs.declared.{To.{To, TheVariants.{First, Second}}, Converted.{Converted, TheVariants.{Length, Refused}}}
+use Rattle.convert.specs.declared.text.Text.{Text}
+use Rattle.convert.specs.declared.To.{To, TheVariants.{First, Second}}
 use Rattle.convert.specs.declared.Change.{Change, TheVariants.{Same, ToDrop, ToWriteback, FromDrop, FromWriteback}}
 
 -- ---- one text after another
 
--- the text t was written at the start of a buffer of the longest journal's length, and ends at an offset; or it is longer, and the offset lies past
--- the buffer's end
-pub record Holds (buffer : Bytes) (used : ℕ) (t : Bytes) : Type 0 where
-  pub end : used ≡ pick (leb (length t) most_bytes) (length t) (most_bytes + 1)
-  pub text : length t ≤ most_bytes → take (length t) buffer ≡ t
+-- the text t is at the start of the bytes, up to their end; or it is longer than they are, and has no end
+pub record Holds (x : Text) (t : Bytes) : Type 0 where
+  pub end : x.end ≡ pick (leb (length t) most_bytes) (Some (length t)) None
+  pub text : length t ≤ most_bytes → take (length t) x.bytes ≡ t
 
 -- the text t was written behind whatever was written before
-abbrev pub Appends : Bytes → ℕ → Bytes → Bytes → ℕ → Type 0
-Appends old used t new r = (before : Bytes) → Holds old used before → Holds new r (before ++ t)
+abbrev pub Appends : Text → Bytes → Text → Type 0
+Appends old t new = (before : Bytes) → Holds old before → Holds new (before ++ t)
 
 -- what a first line has between its form and its end, or ` cap=`
 abbrev pub sizes_text : Sizes → Bytes
@@ -89,9 +90,10 @@ skip_of FromWriteback = 12
 abbrev pub changed : Change → Bytes → Bytes
 changed x line = kind_of x ++ drop (skip_of x) line
 
--- the copy is owned, where n, the first of 3 to 6 that refuses the step, is 0
-abbrev pub owns_with : ℕ → Copy → Bool
-owns_with n x = both (eqb n 0) (is_owned x)
+-- the copy is owned, where none of 3 to 6 refuses the step
+abbrev pub owns_with : Option ℕ → Copy → Bool
+owns_with None x = is_owned x
+owns_with (Some n) x = false
 
 -- the answer is this refusal
 abbrev pub refuses : ℕ → Answer → Bool
@@ -109,24 +111,25 @@ abbrev pub other_cap : To → Sizes → Bool
 other_cap First o = fails (eqb o.cap o.lines)
 other_cap Second o = false
 
-unfoldable pub opening_refusal : To → Sizes → ℕ
-opening_refusal to o = first ((fails (opening_fits o) gives 7) ∷ (other_cap to o gives 32) ∷ [])
+unfoldable pub opening_refusal : To → Sizes → Option Refusal
+opening_refusal to o = pick (fails (opening_fits o)) (Some Unfit) (pick (other_cap to o) (Some Unlike) None)
 
 -- ---- the whole result
 
 -- the answer, with room for the longest journal, and the result at the start of the buffer where there is one
-pub data Writes (to : To) (journal buffer : Bytes) : Converted → Type 0 where
-  malformed : {n : ℕ} → Malformed (form_from to) journal n → Writes to journal buffer (Refused n)
+pub data Writes (to : To) (journal buffer : Bytes) : Result ℕ Refusal → Type 0 where
+  malformed : {r : Refusal} → Malformed (form_from to) journal r → Writes to journal buffer (Err r)
   reads :
       {o : Sizes} {gs : List Entry} → Reads (form_from to) journal o gs
-      → (refusal_of to o gs most_bytes ≡ 0 → take (length (result_of to o gs)) buffer ≡ result_of to o gs)
+      → (refusal_of to o gs most_bytes ≡ None → take (length (result_of to o gs)) buffer ≡ result_of to o gs)
       → Writes to journal buffer (answer_of to o gs most_bytes)
 
 -- the first line of a journal of the other form opens, and the first line of the result, with its newline, is written; the steps are from `from` on
-pub record FirstWritten (to : To) (journal : Bytes) (o : Sizes) (from : ℕ) (buffer : Bytes) (used : ℕ) : Type 0 where
-  pub first : NextOf journal 0 0 (Opening (form_from to) o from)
-  pub text : Holds buffer used (opening_line to o ++ (10 ∷ []))
+pub record FirstWritten (to : To) (journal : Bytes) (o : Sizes) (from : ℕ) (x : Text) : Type 0 where
+  pub first : NextOf journal 0 0 (Ok (Some (Opening (form_from to) o from)))
+  pub text : Holds x (opening_line to o ++ (10 ∷ []))
 
 -- the last answer: 7 or 32, 14 where the result has no room, or its length
-abbrev pub last_answer : ℕ → ℕ → Converted
-last_answer n used = pick (eqb n 0) (pick (leb used most_bytes) (Length used) (Refused 14)) (Refused n)
+abbrev pub last_answer : Option Refusal → Option ℕ → Result ℕ Refusal
+last_answer None end = ok_or end TooMuch
+last_answer (Some r) end = Err r

@@ -8,7 +8,7 @@ use borrow.Author.Tests.{ltb-true, ltb-false, eqb-true}
 use Rattle.protocol.specs.{Pick.{pick, both, fails}, Limits.opening_fits, Buffers.{Bytes, part}, About.about, Machine.{Machine, fresh_machine}, Step.step}
 use Rattle.protocol.specs.{Run.{Entry, Record, place, run}, declared.{Opening.Opening as Sizes, State.State}}
 use Rattle.protocol.specs.declared.Call.{Call, TheVariants.{Load, Store, Fence, Evict, Drop, Writeback, Advance, Serve, Receive, Yield, Take, Victim}}
-use Rattle.protocol.proofs.{Tests.{never, both_true}, Refusals.{not-true, passed}, Extents.inside}
+use Rattle.protocol.proofs.{Tests.{never, both_true}, Refusals.{not-true}, Extents.inside}
 use Rattle.spelling.specs.{Bytes.Without, Decimal.{decimal, greatest}, Hex.{hex, unhex}}
 use Rattle.spelling.proofs.{Lists.all_append, DecimalLaws.decimal_short, Texts.{decimal_without, hex_without}}
 use Rattle.grammar.specs.Form.{Part, fixed, value, number, pairs, lay, Given, spellings, spell}
@@ -18,7 +18,8 @@ use Rattle.journal.specs.Journal.{LineAt, ended as at_end_of, a_line as whole_li
 use Rattle.driver.{specs.Listing.{Between, no_line, a_line, at_end}, proofs.{Reading.{ends_in, ends_drop, line_data}, Running.entry_of}}
 use Rattle.convert.specs.{Spelling.{row_of, numbers_of, step_line, opening_line, step_lines, journal_of}, Forms.{owns_copy, in_first, in_second, in_form, converted}}
 use Rattle.convert.specs.{Conversion.{form_of, form_from, Reads, is_victim, answers, some, is_unlike, unlike, result_of, refusal_of}, declared.To.{To, TheVariants.{First, Second}}}
-use Rattle.convert.proofs.Lines.{StepSpelt, step_at}
+use Rattle.std.specs.Prelude.{None, Ok}
+use Rattle.convert.proofs.{Lines.{StepSpelt, step_at}, Longer.passed}
 use Rattle.converting.proofs.Lists.{none_passes}
 
 -- ---- the text of a line
@@ -100,7 +101,7 @@ AllFit form (g ∷ gs) = Fits form g × AllFit form gs
 
 module _ (form : ℕ) (g : Entry) (x : Fits form g) where
   -- its line is read as the step
-  read_line : LineOf (rows_of form) (line_of g) (StepLine g.call (data_start g) (length (line_of g)))
+  read_line : LineOf (rows_of form) (line_of g) (Ok (StepLine g.call (data_start g) (length (line_of g))))
   read_line =
       let s = x.spelling in
       spelt {a = StepLine g.call (data_start g) (length (line_of g))} x.short
@@ -158,7 +159,7 @@ pub record OpeningFits (to : To) (o : Sizes) : Type 0 where
 -- the first line, as it is read
 record FirstLine (to : To) (o : Sizes) : Type 0 where
   pub clean : Without 10 (opening_line to o)
-  pub read : LineOf (rows_of 0) (opening_line to o) (OpeningLine (form_of to) o)
+  pub read : LineOf (rows_of 0) (opening_line to o) (Ok (OpeningLine (form_of to) o))
 
 -- the line of a first line's row
 first_line_lem :
@@ -351,12 +352,12 @@ pub record Accepted (to : To) (o : Sizes) (gs : List Entry) : Type 0 where
   pub short : length (result_of to o gs) ≤ 65536
 
 -- it passes each test
-pub accepted : (to : To) (o : Sizes) (gs : List Entry) (room : ℕ) → refusal_of to o gs room ≡ 0 → Accepted to o gs
+pub accepted : (to : To) (o : Sizes) (gs : List Entry) (room : ℕ) → refusal_of to o gs room ≡ None → Accepted to o gs
 unfolding refusal_of
 accepted to o gs room e =
-    let a = passed _ 7 _ (omega arith) e in
-    let b = passed _ 32 _ (omega arith) a.1 in
-    let c = passed _ 14 _ (omega arith) b.1 in
+    let a = passed _ _ _ e in
+    let b = passed _ _ _ a.1 in
+    let c = passed _ _ _ b.1 in
     record { fits = not-true (opening_fits o) a.0; like = b.0; short = ltb-false _ _ c.0 }
 
 -- what is known of the opening and the steps of a journal that 32 does not refuse
@@ -368,7 +369,7 @@ like_known Second o gs e = ((λ z. absurd (omega (arith, z))), plain_second gs)
 
 -- THE RESULT READS as the same opening, and the steps in the other form
 pub result_reads :
-    (to : To) (j : Bytes) (o : Sizes) (gs : List Entry) (room : ℕ) → Reads (form_from to) j o gs → refusal_of to o gs room ≡ 0
+    (to : To) (j : Bytes) (o : Sizes) (gs : List Entry) (room : ℕ) → Reads (form_from to) j o gs → refusal_of to o gs room ≡ None
     → Reads (form_of to) (result_of to o gs) o (converted to gs (fresh_machine o))
 result_reads to j o gs room x e =
     let a = accepted to o gs room e in

@@ -1,15 +1,16 @@
 -- A journal that converts and its result read as the same opening and the same steps but for their form, and yield the same.
 use Prim.Native.Nat.{ℕ}
-use mathlib.Core.{Path.{◌≡◌, refl, sym, subst}, Bool.{Bool, true, false}, List.List}
+use mathlib.Core.{Path.{◌≡◌, refl, sym, subst}, Bool.{true, false}, List.List}
 use native.Mathlib.Omega.{arith}
 use lib.{Dec.eqb, ListN.{length, take}, Seq.take-append_seam}
-use borrow.Author.Tests.{eqb-true}
-use Rattle.protocol.specs.{Pick.{pick, fails, first}, Buffers.Bytes, Limits.opening_fits, Machine.fresh_machine, Refusals.open_refusal, Run.Entry}
+use Rattle.protocol.specs.{Pick.{fails, first}, Buffers.Bytes, Limits.opening_fits, Machine.fresh_machine, Refusals.open_refusal, Run.Entry}
 use Rattle.protocol.specs.declared.Opening.{Opening as Sizes}
 use Rattle.driver.specs.Listing.{ended}
 use Rattle.playing.specs.Listing.{Opens}
 use Rattle.convert.specs.Conversion.{Reads, unlike, result_of, refusal_of, buffer_of, Converts, malformed, reads}
-use Rattle.convert.specs.{Forms.converted, declared.{To.{To, TheVariants.{First, Second}}, Converted.{Converted, TheVariants.{Length, Refused}}}}
+use Rattle.std.specs.Prelude.{Result, Ok}
+use Rattle.grammar.specs.declared.Refusal.{Refusal}
+use Rattle.convert.{specs.{Forms.converted, declared.To.{To, TheVariants.{First, Second}}}, proofs.Copying.answer_length}
 use Rattle.converting.specs.{Lists.Alike, Theorems.{Kept, KeptTheorem}}
 use Rattle.converting.proofs.{Lists.{none_passes, to_second_theorem, to_first_theorem}, Back.{accepted, none_thirty, result_reads}}
 
@@ -35,17 +36,12 @@ unfolding unlike
 alike First o gs e = to_first_theorem gs 1 (fresh_machine o) (none_thirty _ (none_passes (fails (eqb o.cap o.lines)) _ e).1)
 alike Second o gs e = to_second_theorem gs 1 (fresh_machine o)
 
--- an answer that is a length
-is_length : (b : Bool) (m r n : ℕ) → pick b (Length m) (Refused r) ≡ Length n → (b ≡ true) × (m ≡ n)
-is_length true m r n e = (refl, cc)
-is_length false m r n e = let z : ◌≡◌ {A = ℕ} 0 1 = cc in absurd (omega arith)
-
 -- what is left where the answer is a length
-kept : (to : To) {j old : Bytes} {a : Converted} {new : Bytes} → Converts to j old a new → (n : ℕ) → a ≡ Length n → Kept to j (take n new)
+kept : (to : To) {j old : Bytes} {a : Result ℕ Refusal} {new : Bytes} → Converts to j old a new → (n : ℕ) → a ≡ Ok n → Kept to j (take n new)
 kept to (malformed x) n e = let z : ◌≡◌ {A = ℕ} 0 1 = cc in absurd (omega arith)
 kept to {j} {old} (reads {o} {gs} x) n e =
-    let t = is_length (eqb (refusal_of to o gs (length old)) 0) (length (result_of to o gs)) (refusal_of to o gs (length old)) n e in
-    let z = eqb-true (refusal_of to o gs (length old)) 0 t.0 in
+    let t = answer_length (refusal_of to o gs (length old)) (length (result_of to o gs)) n e in
+    let z = t.0 in
     let a = accepted to o gs (length old) z in
     let same : result_of to o gs ≡ take n (buffer_of to o gs old) = rw (t.0, ← t.1) (sym (take-append_seam (result_of to o gs) _)) in
     subst (Kept to j) same

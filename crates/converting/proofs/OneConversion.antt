@@ -4,16 +4,18 @@ use mathlib.Core.{Path.{◌≡◌, refl, ap₂, subst}, List.List, Logic.{inl, i
 use lib.ListN.{length, get_or}
 use Rattle.protocol.specs.{Buffers.Bytes, Run.Entry, declared.Opening.Opening as Sizes}
 use Rattle.spelling.{specs.One.One, proofs.Decide.{Told, same_number}}
-use Rattle.journal.{specs.{Journal.NextOf, declared.Next.{Next, TheVariants.{Opening, Step, End, Refused as RefusedLine}}}, proofs.OneNext.one_next_theorem}
+use Rattle.std.specs.Prelude.{Some, None, Result, Ok, Err}
+use Rattle.grammar.specs.declared.Refusal.{Refusal, TheVariants.{NoForm, NotNumber}}
+use Rattle.journal.{specs.{Journal.{Next, NextOf}, declared.Item.TheVariants.{Opening, Step}}, proofs.OneNext.one_next_theorem}
 use Rattle.driver.{specs.Listing.{Ending, ended, stopped}, proofs.Reading.known}
 use Rattle.playing.{specs.Listing.ReadAs, proofs.OneReading.{same_next, reads_same, one_reading_theorem}}
 use Rattle.convert.specs.Conversion.{form_from, OtherFirst, first_line, other_form, later_line, answer_of, buffer_of, Converts, malformed, reads}
-use Rattle.convert.specs.declared.{To.To, Converted.{Converted, TheVariants.Refused}}
-use Rattle.convert.proofs.FirstLine.{other_digit, other_named, own_named, opens_as, refused_own, wrong_other}
+use Rattle.convert.specs.declared.To.{To}
+use Rattle.convert.proofs.FirstLine.{is_twelve, other_digit, other_named, own_named, opens_as, refused_own, wrong_other}
 use Rattle.converting.specs.Theorems.{Left, OneConversionTheorem}
 
 -- an answer and a buffer
-abbrev left : Converted → Bytes → Left
+abbrev left : Result ℕ Refusal → Bytes → Left
 left a b = record { answer = a; buffer = b }
 
 module _ (to : To) (j old : Bytes) where
@@ -22,7 +24,7 @@ module _ (to : To) (j old : Bytes) where
   -- what is left where the first line has the form to convert from: by the opening, the steps, and how the journal ends
   abbrev whole : Sizes → List Entry → Ending → Left
   whole o gs ended = left (answer_of to o gs (length old)) (buffer_of to o gs old)
-  whole o gs (stopped n) = left (Refused n) old
+  whole o gs (stopped r) = left (Err r) old
 
   -- the first line is of another form than the one to convert from
   abbrev Other : Type 0
@@ -30,10 +32,10 @@ module _ (to : To) (j old : Bytes) where
 
   -- what is left, by the answer at the journal's start
   data From : Next → Left → Type 0 where
-    refused_first : {n : ℕ} → (Other → ⊥) → From (RefusedLine n) (left (Refused n) old)
-    other : {b : Next} → Other → From b (left (Refused 11) old)
+    refused_first : {r : Refusal} → (Other → ⊥) → From (Err r) (left (Err r) old)
+    other : {b : Next} → Other → From b (left (Err NoForm) old)
     opens : {form : ℕ} {o : Sizes} {next : ℕ} {gs : List Entry} {e : Ending} → form ≡ form_from to → (Other → ⊥) → ReadAs j (form_from to) next gs e
-        → From (Opening form o next) (whole o gs e)
+        → From (Ok (Some (Opening form o next))) (whole o gs e)
 
   -- one answer at the start leaves one thing
   from_same : {b : Next} {x y : Left} → From b x → From b y → x ≡ y
@@ -53,18 +55,18 @@ module _ (to : To) (j old : Bytes) where
 
   -- a first line of the form to convert from, and how the journal is read from there on
   start_opens :
-      {o : Sizes} {next : ℕ} {gs : List Entry} {e : Ending} → NextOf j 0 0 (Opening (form_from to) o next) → ReadAs j (form_from to) next gs e
+      {o : Sizes} {next : ℕ} {gs : List Entry} {e : Ending} → NextOf j 0 0 (Ok (Some (Opening (form_from to) o next))) → ReadAs j (form_from to) next gs e
       → Start (whole o gs e)
   start_opens x r = record { next = _; there = x; from = opens refl (own_named (form_from to) x) r }
 
-  start : {a : Converted} {b : Bytes} → Converts to j old a b → Start (left a b)
+  start : {a : Result ℕ Refusal} {b : Bytes} → Converts to j old a b → Start (left a b)
   start (malformed (first_line x n)) = record { next = _; there = x; from = refused_first n }
   start (malformed (other_form o)) = record { next = _; there = (one_next_theorem j 0 0).holds; from = other o }
   start (malformed (later_line {to = at} x s e)) = start_opens x (record { to = at; steps = s; ends = e })
   start (reads r) = start_opens r.first (record { to = r.to; steps = r.steps; ends = r.ends })
 
   -- two that meet the definition are the same
-  converts_same : {a c : Converted} {b d : Bytes} → Converts to j old a b → Converts to j old c d → left a b ≡ left c d
+  converts_same : {a c : Result ℕ Refusal} {b d : Bytes} → Converts to j old a b → Converts to j old c d → left a b ≡ left c d
   converts_same {c = c} {d = d} x y =
       let s = start x in
       let t = start y in
@@ -76,16 +78,16 @@ module _ (to : To) (j old : Bytes) where
   abbrev Only : Type 0
   Only = One (λ (x : Left). Converts to j old x.answer x.buffer)
 
-  only_one : {a : Converted} {b : Bytes} → Converts to j old a b → Only
+  only_one : {a : Result ℕ Refusal} {b : Bytes} → Converts to j old a b → Only
   only_one {a} {b} x = record { answer = left a b; holds = x; only = λ y c. converts_same c x }
 
   -- by how the journal ends, and by the answer at its start
-  by_ending : {o : Sizes} {next : ℕ} {gs : List Entry} (e : Ending) → NextOf j 0 0 (Opening (form_from to) o next) → ReadAs j (form_from to) next gs e → Only
+  by_ending : {o : Sizes} {next : ℕ} {gs : List Entry} (e : Ending) → NextOf j 0 0 (Ok (Some (Opening (form_from to) o next))) → ReadAs j (form_from to) next gs e → Only
   by_ending ended x r = only_one (reads (record { next = _; to = r.to; first = x; steps = r.steps; ends = r.ends }))
   by_ending (stopped n) x r = only_one (malformed (later_line x r.steps r.ends))
 
   by_start : (b : Next) → NextOf j 0 0 b → Only
-  by_start (Opening form o next) x = go (same_number form (form_from to))
+  by_start (Ok (Some (Opening form o next))) x = go (same_number form (form_from to))
     where
       go : Told (form ≡ form_from to) → Only
       go (inl e) =
@@ -93,11 +95,11 @@ module _ (to : To) (j old : Bytes) where
           let r = one_reading_theorem j (form_from to) next (known y).1 in
           by_ending r.ending y r.holds
       go (inr n) = only_one (malformed (other_form (other_named (form_from to) x n)))
-  by_start (Step call start end next) x = absurd ((known x).0 refl)
-  by_start End x = absurd (known x refl)
-  by_start (RefusedLine n) x = go (same_number n 12) (same_number (get_or j 7 0) (48 + form_from to))
+  by_start (Ok (Some (Step call start end next))) x = absurd ((known x).0 refl)
+  by_start (Ok None) x = absurd (known x refl)
+  by_start (Err r) x = go (is_twelve r) (same_number (get_or j 7 0) (48 + form_from to))
     where
-      go : Told (n ≡ 12) → Told (get_or j 7 0 ≡ 48 + form_from to) → Only
+      go : Told (r ≡ NotNumber) → Told (get_or j 7 0 ≡ 48 + form_from to) → Only
       go (inr k) d = only_one (malformed (first_line x (refused_own (form_from to) x k)))
       go (inl e) (inl d) = only_one (malformed (first_line x (λ o. (other_digit (form_from to) o).1 d)))
       go (inl e) (inr k) = only_one (malformed (other_form (wrong_other (form_from to) x e k)))

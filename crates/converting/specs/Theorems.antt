@@ -1,19 +1,20 @@
 -- The theorems about converting a journal, both ways: each journal and buffer has exactly one answer; a journal that converts and its result read as
 -- the same opening and the same steps but for their form, and yield the same; and one buffer tells what any other gets.
-use Rattle.std.specs.Prelude.{ℕ}
+use Rattle.std.specs.Prelude.{ℕ, Result, Ok, Err}
 use mathlib.Core.{Path.◌≡◌, List.List}
 use lib.{Dec.leb, ListN.{length, take}}
 use Rattle.protocol.specs.{Pick.pick, Buffers.Bytes, Machine.fresh_machine, Run.Entry, declared.Opening.Opening as Sizes}
 use Rattle.spelling.specs.{One.One, Over.over}
+use Rattle.grammar.specs.declared.Refusal.{Refusal, TheVariants.{TooMuch}}
 use Rattle.driver.specs.Listing.{ended}
 use Rattle.playing.specs.Listing.{Opens}
 use Rattle.convert.specs.{Forms.converted, Conversion.{form_of, form_from, most_bytes, Converts}}
-use Rattle.convert.specs.declared.{To.To, Converted.{Converted, TheVariants.{Length, Refused}}}
+use Rattle.convert.specs.declared.To.{To}
 use Rattle.converting.specs.Lists.{Alike}
 
 -- what converting leaves: its answer, and the buffer
 pub record Left : Type 0 where
-  pub answer : Converted
+  pub answer : Result ℕ Refusal
   pub buffer : Bytes
 
 -- each journal and buffer has exactly one answer, and one buffer after it
@@ -33,16 +34,16 @@ pub record Kept (to : To) (journal result : Bytes) : Type 0 where
 
 -- for every journal that converts, whatever the buffer
 abbrev pub KeptTheorem : Type 0
-KeptTheorem = (to : To) (journal old : Bytes) (n : ℕ) (new : Bytes) → Converts to journal old (Length n) new → Kept to journal (take n new)
+KeptTheorem = (to : To) (journal old : Bytes) (n : ℕ) (new : Bytes) → Converts to journal old (Ok n) new → Kept to journal (take n new)
 
 -- what a conversion answers and leaves with any buffer, by its answer a and its buffer `new` where it was lent one of the longest journal's length:
 -- the same refusal, and the buffer as it was; or the same result, the bytes past it as they were; or, where that has no room, 14
-abbrev pub AnyBuffer : To → Bytes → Converted → Bytes → Bytes → Type 0
-AnyBuffer to journal (Refused n) new other = Converts to journal other (Refused n) other
-AnyBuffer to journal (Length n) new other =
-    Converts to journal other (pick (leb n (length other)) (Length n) (Refused 14)) (pick (leb n (length other)) (over other 0 (take n new)) other)
+abbrev pub AnyBuffer : To → Bytes → Result ℕ Refusal → Bytes → Bytes → Type 0
+AnyBuffer to journal (Err r) new other = Converts to journal other (Err r) other
+AnyBuffer to journal (Ok n) new other =
+    Converts to journal other (pick (leb n (length other)) (Ok n) (Err TooMuch)) (pick (leb n (length other)) (over other 0 (take n new)) other)
 
 abbrev pub AnyBufferTheorem : Type 0
 AnyBufferTheorem =
-    (to : To) (journal old : Bytes) (a : Converted) (new other : Bytes) → length old ≡ most_bytes → Converts to journal old a new
+    (to : To) (journal old : Bytes) (a : Result ℕ Refusal) (new other : Bytes) → length old ≡ most_bytes → Converts to journal old a new
     → AnyBuffer to journal a new other

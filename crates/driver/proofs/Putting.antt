@@ -1,13 +1,15 @@
 -- A text put at an offset of the output: what is written before it and past it.
-use Prim.Native.Nat.{ℕ, ◌+◌, ◌-◌, ◌≤◌, ◌<◌}
+use Prim.Native.Nat.{ℕ, ◌+◌, ◌≤◌, ◌<◌}
 use mathlib.Core.{Path.{◌≡◌, refl, sym, ◌∙◌, ap}, Bool.{Bool, true, false, cond}, List.{[], ◌++◌, append_assoc}}
 use native.Mathlib.Omega.{arith}
 use lib.{ListN.{length, take, drop, length-append, length-take, length-drop}, Seq.{drop_at, take_at, drop-drop}}
 use borrow.Author.Tests.{leb-true, leb-false}
 use Rattle.protocol.specs.{Buffers.Bytes, Step.{refused, meaning}, declared.{Answer.TheVariants.Refused, Place.Place, Counts.Counts}, Run.place}
-use Rattle.spelling.specs.{Over.{has_room, over, PutAt}, declared.Put.{Put, TheVariants.{End, Short}}}
+use Rattle.spelling.specs.{Over.{has_room, over, PutAt}}
 use Rattle.listing.{specs.Record.{record_text, end_text}, proofs.Lengths.{record_length, end_length}}
+use Rattle.grammar.specs.{Refusal.number, declared.Refusal.{Refusal}}
 use Rattle.driver.specs.{Listing.stop_lines, Play.Fills}
+use Rattle.std.specs.Prelude.{Option, Some, None}
 
 -- a text that was put: the offset after it, the output up to there, and the output past it
 pub record Written (old : Bytes) (at : ℕ) (t new : Bytes) (e : ℕ) : Type 0 where
@@ -30,20 +32,20 @@ over_written old at t h =
     }
 
 -- the text was put
-pub put_written : {old : Bytes} {at : ℕ} {t new : Bytes} {r : Put} {e : ℕ} → PutAt old at t new r → r ≡ End e → Written old at t new e
+pub put_written : {old : Bytes} {at : ℕ} {t new : Bytes} {r : Option ℕ} {e : ℕ} → PutAt old at t new r → r ≡ Some e → Written old at t new e
 put_written {old} {at} {t} {new} {r} {e} p x = go (has_room (length old) at (length t)) refl p.answer p.bytes
   where
-    go : (b : Bool) → has_room (length old) at (length t) ≡ b → r ≡ cond b (End (at + length t)) Short → new ≡ cond b (over old at t) old → Written old at t new e
+    go : (b : Bool) → has_room (length old) at (length t) ≡ b → r ≡ cond b (Some (at + length t)) None → new ≡ cond b (over old at t) old → Written old at t new e
     go true h a n =
         let q : at + length t ≡ e = cc in
         rw (n, sym q) (over_written old at t (leb-true _ _ h))
     go false h a n = absurd (let z : ◌≡◌ {A = ℕ} 0 1 = cc in omega arith)
 
 -- there was no room for it, and the output is as it was
-pub put_short : {old : Bytes} {at : ℕ} {t new : Bytes} {r : Put} → PutAt old at t new r → r ≡ Short → (length old < at + length t) × (new ≡ old)
+pub put_short : {old : Bytes} {at : ℕ} {t new : Bytes} {r : Option ℕ} → PutAt old at t new r → r ≡ None → (length old < at + length t) × (new ≡ old)
 put_short {old} {at} {t} {new} {r} p x = go (has_room (length old) at (length t)) refl p.answer p.bytes
   where
-    go : (b : Bool) → has_room (length old) at (length t) ≡ b → r ≡ cond b (End (at + length t)) Short → new ≡ cond b (over old at t) old → (length old < at + length t) × (new ≡ old)
+    go : (b : Bool) → has_room (length old) at (length t) ≡ b → r ≡ cond b (Some (at + length t)) None → new ≡ cond b (over old at t) old → (length old < at + length t) × (new ≡ old)
     go true h a n = absurd (let z : ◌≡◌ {A = ℕ} 0 1 = cc in omega arith)
     go false h a n = (leb-false _ _ h, n)
 
@@ -71,23 +73,18 @@ stop_line k n = record_text (place k.steps) (refused n)
 
 module _ {old : Bytes} (k : Counts) (n : ℕ) (size : length old ≡ 256) where
   -- the first of them has room in a buffer of 256 bytes
-  pub first_fits : {new : Bytes} {r : Put} → PutAt old 0 (stop_line k n) new r → r ≡ Short → ⊥
+  pub first_fits : {new : Bytes} {r : Option ℕ} → PutAt old 0 (stop_line k n) new r → r ≡ None → ⊥
   first_fits w e = let h = put_short w e in omega (arith, h.0, refused_length (place k.steps) n)
 
-  module _ {mid : Bytes} {r : Put} {e : ℕ} (w : PutAt old 0 (stop_line k n) mid r) (h : r ≡ End e) where
+  module _ {mid : Bytes} {r : Option ℕ} {e : ℕ} (w : PutAt old 0 (stop_line k n) mid r) (h : r ≡ Some e) where
     one : Written old 0 (stop_line k n) mid e
     one = put_written w h
 
     -- and so has the other
-    pub second_fits : {new : Bytes} {q : Put} → PutAt mid e (end_text k) new q → q ≡ Short → ⊥
+    pub second_fits : {new : Bytes} {q : Option ℕ} → PutAt mid e (end_text k) new q → q ≡ None → ⊥
     second_fits v x = let s = put_short v x in omega (arith, s.0, refused_length (place k.steps) n, end_length k, one.end, one.size)
 
-    pub last_within : {new : Bytes} {q : Put} {f : ℕ} → PutAt mid e (end_text k) new q → q ≡ End f → f ≤ length new
-    last_within v x = let s = put_written v x in omega (arith, s.room, s.end, s.size)
-
     -- the text up to the offset after both
-    pub last_text : {new : Bytes} {q : Put} {f : ℕ} → PutAt mid e (end_text k) new q → q ≡ End f → take (f - 0) new ≡ stop_lines k n
-    last_text {new} {f = f} v x =
-        let s = put_written v x in
-        let z : f - 0 ≡ f = omega arith in
-        ap (λ (i : ℕ). take i new) z ∙ s.before ∙ ap (λ (l : Bytes). l ++ end_text k) one.before
+    pub last_text : {new : Bytes} {q : Option ℕ} {f : ℕ} → PutAt mid e (end_text k) new q → q ≡ Some f → (s : Refusal) → n ≡ number s → take f new ≡ stop_lines k s
+    last_text v x s same =
+        (put_written v x).before ∙ ap (λ (l : Bytes). l ++ end_text k) one.before ∙ ap (λ (m : ℕ). record_text (place k.steps) (refused m) ++ end_text k) same

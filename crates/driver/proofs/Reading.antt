@@ -10,10 +10,11 @@ use Rattle.spelling.{specs.{Decimal.decimal, Hex.{hex, Spells}}, proofs.HexLaws.
 use Rattle.grammar.specs.Form.{Part, fixed, value, number, pairs, lay, Given as Spelled, spellings, spell}
 use Rattle.grammar.specs.Table.{Numbered, Says, opens as says_opening, calls, rows_of, row_at}
 use Rattle.grammar.specs.Line.{said, Spelt, LineOf, too_long, no_form, wrong_number, wrong_data, spelt}
-use Rattle.grammar.{specs.declared.Line.{Line, TheVariants.{Opening as OpeningLine, Step as StepLine, Refused as RefusedLine}}, proofs.Fit.Shaped}
+use Rattle.grammar.{specs.declared.{Line.{Line, TheVariants.{Opening as OpeningLine, Step as StepLine}}, Refusal.Refusal}, proofs.Fit.Shaped}
 use Rattle.grammar.proofs.Forms.{SaysIn, row_says, row_shape, has_data, in_digits, Fed, row_fed}
-use Rattle.journal.specs.Journal.{in_journal, LineAt, NextOf, too_much, empty, ended, unended, a_line as whole_line}
-use Rattle.journal.specs.declared.Next.{Next, TheVariants.{Opening, Step, End, Refused}}
+use Rattle.std.specs.Prelude.{Some, None, Result, Ok, Err}
+use Rattle.journal.specs.Journal.{Next, in_journal, LineAt, NextOf, too_much, empty, ended, unended, a_line as whole_line}
+use Rattle.journal.specs.declared.Item.TheVariants.{Opening, Step}
 
 -- ---- a step's data
 
@@ -58,11 +59,15 @@ ends_right p s bs AsDigits e h = (digits_right (hex bs) bs (e.some h), unhex_len
 
 -- ---- a line
 
--- what is known of a line's answer in a journal of some form
+-- what is known of a line that is read in a journal of some form
 abbrev LineKnown : ℕ → Bytes → Line → Type 0
 LineKnown form s (OpeningLine f o) = (form ≡ 0) × (f ≡ 0 → ⊥)
 LineKnown form s (StepLine call start end) = (form ≡ 0 → ⊥) × (start ≤ end) × (end ≡ length s) × Right call (drop start s)
-LineKnown form s (RefusedLine n) = n ≤ 14
+
+-- the same of a line's answer
+abbrev AnswerKnown : ℕ → Bytes → Result Line Refusal → Type 0
+AnswerKnown form s (Ok a) = LineKnown form s a
+AnswerKnown form s (Err r) = Unit {0}
 
 says_known : (form : ℕ) (p : List Part) (s : Bytes) (w : Says) (bs : Bytes) → SaysIn form w → Fed p w → Ends p s bs
     → LineKnown form s (said w (length s - length (hex bs)) (length s))
@@ -77,12 +82,12 @@ spelt_known form s a x =
     (says_known form r.form s (r.says n) x.bytes (row_says form x.k n x.listed) (row_fed form x.k n x.listed)
     (subst (λ (t : Bytes). Ends r.form t x.bytes) (sym x.same) (ends_in r.form (row_shape form x.k x.listed) x.numbers x.bytes x.given)))
 
-line_known : (form : ℕ) (s : Bytes) {a : Line} → LineOf (rows_of form) s a → LineKnown form s a
-line_known form s (too_long l) = omega arith
-line_known form s (no_form l n) = omega arith
-line_known form s (wrong_number k vs l f n) = omega arith
-line_known form s (wrong_data k vs l f n d) = omega arith
-line_known form s {a} (spelt l x) = spelt_known form s a x
+line_known : (form : ℕ) (s : Bytes) {a : Result Line Refusal} → LineOf (rows_of form) s a → AnswerKnown form s a
+line_known form s (too_long l) = tt
+line_known form s (no_form l n) = tt
+line_known form s (wrong_number k vs l f n) = tt
+line_known form s (wrong_data k vs l f n d) = tt
+line_known form s (spelt {a = a} l x) = spelt_known form s a x
 
 -- ---- an offset of a journal
 
@@ -97,10 +102,10 @@ pub record StepAt (j : Bytes) (at : ℕ) (call : Call) (start end next : ℕ) : 
 
 -- what is known of an answer at an offset, in a journal of some form
 abbrev pub Known : Bytes → ℕ → ℕ → Next → Type 0
-Known j at form (Opening f o next) = (form ≡ 0) × (f ≡ 0 → ⊥)
-Known j at form (Step call start end next) = (form ≡ 0 → ⊥) × StepAt j at call start end next
-Known j at form End = form ≡ 0 → ⊥
-Known j at form (Refused n) = n ≤ 14
+Known j at form (Ok (Some (Opening f o next))) = (form ≡ 0) × (f ≡ 0 → ⊥)
+Known j at form (Ok (Some (Step call start end next))) = (form ≡ 0 → ⊥) × StepAt j at call start end next
+Known j at form (Ok None) = form ≡ 0 → ⊥
+Known j at form (Err r) = Unit {0}
 
 -- the data of a line that is at an offset are those of the journal there
 pub line_data :
@@ -128,15 +133,15 @@ step_known j at l next call start end h i e d =
       count = rw p (d.1 ∙ ap (λ (k : ℕ). k / 2) m);
     }
 
-placed_known : (j : Bytes) (at form : ℕ) (l : Bytes) (next : ℕ) (a : Line) → LineAt j at l next → LineKnown form l a → Known j at form (in_journal a at next)
-placed_known j at form l next (OpeningLine f o) h k = k
-placed_known j at form l next (StepLine call start end) h k =
+placed_known : (j : Bytes) (at form : ℕ) (l : Bytes) (next : ℕ) (a : Result Line Refusal) → LineAt j at l next → AnswerKnown form l a → Known j at form (in_journal a at next)
+placed_known j at form l next (Ok (OpeningLine f o)) h k = k
+placed_known j at form l next (Ok (StepLine call start end)) h k =
     (k.0, step_known j at l next call start end h k.1 k.2 k.3)
-placed_known j at form l next (RefusedLine n) h k = k
+placed_known j at form l next (Err r) h k = k
 
 pub known : {j : Bytes} {at form : ℕ} {b : Next} → NextOf j at form b → Known j at form b
-known (too_much l) = omega arith
-known (empty l h e) = omega arith
+known (too_much l) = tt
+known (empty l h e) = tt
 known (ended l h n) = n
-known (unended l h w) = omega arith
+known (unended l h w) = tt
 known {j} {at} {form} (whole_line {a = a} l next s h o) = placed_known j at form l next a h (line_known form l o)

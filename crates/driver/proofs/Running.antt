@@ -5,7 +5,8 @@ use native.Mathlib.Omega.{arith}
 use lib.ListN.{length}
 use Rattle.protocol.specs.{Pick.how_many, Buffers.{Bytes, part}, Machine.{Machine, machine}, Step.{Reply, step}, Run.{Entry, Record, place, run}}
 use Rattle.protocol.specs.{Counts.{counts_of, sum, tally}, declared.{Call.Call, Counts.Counts}}
-use Rattle.journal.specs.{Journal.NextOf, declared.Next.TheVariants.Step}
+use Rattle.std.specs.Prelude.{Some, Ok}
+use Rattle.journal.specs.{Journal.NextOf, declared.Item.TheVariants.Step}
 use Rattle.listing.specs.Record.{record_text}
 use Rattle.driver.specs.{Listing.{Between, no_line, a_line, lines}, Play.{run_from, Leads}, declared.Checkpoint.Checkpoint}
 use Rattle.driver.proofs.Counting.{plus_assoc, plus_none, tally_append, tally_one}
@@ -82,7 +83,7 @@ module _ {j : Bytes} {a b : Checkpoint} {p q p' q' : Bytes} {gs : List Entry} (l
       (ap (sum (tally before)) (sym (tally_one (record_at b p' q' call bs))) ∙ sym (ap tally records_more ∙ tally_append before (record_at b p' q' call bs ∷ [])))
 
   pub leads_more :
-      (d : Checkpoint) (x y : Bytes) {start end : ℕ} → NextOf j b.at b.form (Step call start end d.at) → bs ≡ part j start (end - start)
+      (d : Checkpoint) (x y : Bytes) {start end : ℕ} → NextOf j b.at b.form (Ok (Some (Step call start end d.at))) → bs ≡ part j start (end - start)
       → d.form ≡ b.form → machine d.state x y ≡ (step (machine b.state p' q') call bs).machine → d.counts ≡ sum b.counts (counts_of call reply)
       → Leads j a p q (gs ++ (entry_of call bs ∷ [])) d x y
   unfolding run

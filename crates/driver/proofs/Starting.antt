@@ -1,16 +1,19 @@
 -- The first line: an engine is opened and its line written, or the whole listing is written, or there is no room.
 use Prim.Native.Nat.{ℕ}
-use mathlib.Core.{Path.{◌≡◌, refl, subst}, Bool.{true, false}}
+use mathlib.Core.{Path.{◌≡◌, refl}, Bool.{true, false}}
 use native.Mathlib.Omega.{arith}
 use Rattle.protocol.specs.{Pick.first, Limits.opening_fits, Buffers.Bytes, Refusals.open_refusal, Step.{done, open_reply}, Run.place}
 use Rattle.protocol.{specs.declared.{Opening.Opening as Sizes, Name.TheVariants.Open}, proofs.Refusals.opening_fit}
-use Rattle.spelling.specs.{Over.PutAt, declared.Put.{Put, TheVariants.{End, Short}}}
-use Rattle.journal.specs.{Journal.NextOf, declared.Next.TheVariants.Opening}
+use Rattle.spelling.specs.Over.{PutAt}
+use Rattle.std.specs.Prelude.{Some, Ok}
+use Rattle.grammar.specs.declared.Refusal.{Refusal, TheVariants.Unfit}
+use Rattle.journal.specs.{Journal.NextOf, declared.Item.TheVariants.Opening}
 use Rattle.listing.specs.Record.{record_text}
 use Rattle.driver.specs.{Listing.{NotOpened, outside, not_opened}, Pieces.{Puts, refused_by, opened_by}}
 use Rattle.driver.specs.Play.{Begins, opens, fails, no_room, no_room_to_end, Starts}
 use Rattle.driver.specs.declared.{Checkpoint.Checkpoint, Progress.{Progress, TheVariants.More}, Played.Played}
 use Rattle.driver.proofs.Putting.{put_written, put_short, fills_none, fills_more}
+use Rattle.std.specs.Prelude.{Option, None}
 
 -- what the test of the limits says of 7
 pub open_fits : (o : Sizes) → opening_fits o ≡ true → open_refusal o ≡ 0
@@ -22,15 +25,14 @@ unfolding open_refusal first
 open_outside o e = rw e
 
 -- sizes, lease or capacity outside the limits
-pub outside_limits : {j : Bytes} {form next : ℕ} {o : Sizes} → NextOf j 0 0 (Opening form o next) → opening_fits o ≡ false → NotOpened j 7
-outside_limits {j} {o = o} x e =
-    let n = open_outside o e in subst (NotOpened j) n (outside x (λ z. omega (arith, n, z)))
+pub outside_limits : {j : Bytes} {form next : ℕ} {o : Sizes} → NextOf j 0 0 (Ok (Some (Opening form o next))) → opening_fits o ≡ false → NotOpened j Unfit
+outside_limits {o = o} x e = outside x (λ z. omega (arith, open_outside o e, z))
 
 -- no engine is opened
-module _ {j old new : Bytes} {n : ℕ} {r : Played} (x : NotOpened j n) (u : Puts (not_opened n) refused_by old new r) where
-  away : (p : Put) → PutAt old 0 (not_opened n) new p → r ≡ refused_by p → Starts j old new r
-  away (End e) w f = let v = put_written w refl in rw f (record { fills = fills_more (fills_none old) v; begins = fails x refl v.before })
-  away Short w f =
+module _ {j old new : Bytes} {n : Refusal} {r : Played} (x : NotOpened j n) (u : Puts (not_opened n) refused_by old new r) where
+  away : (p : Option ℕ) → PutAt old 0 (not_opened n) new p → r ≡ refused_by p → Starts j old new r
+  away (Some e) w f = let v = put_written w refl in rw f (record { fills = fills_more (fills_none old) v; begins = fails x refl v.before })
+  away None w f =
       let h = put_short w refl in
       rw (f, h.1) (record { fills = fills_none old; begins = no_room_to_end x refl refl (omega (arith, h.0)) })
 
@@ -38,15 +40,15 @@ module _ {j old new : Bytes} {n : ℕ} {r : Played} (x : NotOpened j n) (u : Put
   starts_refused = away u.put u.text u.played
 
 -- an engine is opened
-module _ {j old new : Bytes} {form next : ℕ} {o : Sizes} {r : Played} (x : NextOf j 0 0 (Opening form o next)) (f : opening_fits o ≡ true) (u : Puts (record_text (place 0) (done Open)) (opened_by next form o) old new r) where
+module _ {j old new : Bytes} {form next : ℕ} {o : Sizes} {r : Played} (x : NextOf j 0 0 (Ok (Some (Opening form o next)))) (f : opening_fits o ≡ true) (u : Puts (record_text (place 0) (done Open)) (opened_by next form o) old new r) where
   reply : open_reply o ≡ done Open
   reply = rw (open_fits o f)
 
-  begun : (p : Put) → PutAt old 0 (record_text (place 0) (open_reply o)) new p → r ≡ opened_by next form o p → Starts j old new r
-  begun (End e) w g =
+  begun : (p : Option ℕ) → PutAt old 0 (record_text (place 0) (open_reply o)) new p → r ≡ opened_by next form o p → Starts j old new r
+  begun (Some e) w g =
       let v = put_written w refl in
       rw g (record { fills = fills_more (fills_none old) v; begins = opens x (open_fits o f) refl v.before })
-  begun Short w g =
+  begun None w g =
       let h = put_short w refl in
       rw (g, h.1) (record { fills = fills_none old; begins = no_room x (open_fits o f) refl refl (omega (arith, h.0)) })
 

@@ -3,21 +3,22 @@ use Prim.Native.Nat.{ℕ}
 use mathlib.Core.{Path.{◌≡◌, refl, sym, ◌∙◌, ap}, Bool.false}
 use lib.ListN.{length, length-replicate}
 use Rattle.protocol.specs.{Pick.pick, Buffers.Bytes, About.about, Given.{given_as, bytes_as, bytes_given}, Machine.{Machine, machine}}
-use Rattle.protocol.specs.{Refusals.{given_refusal, state_fits, machine_refusal}, Step.{meaning, act_bytes, Outcome, accepted, step}}
-use Rattle.protocol.specs.declared.{State.State, Call.Call, Act.{Act, TheVariants.{Load, Store, Fence, Advance, Transfer}}, Place.Place}
+use Rattle.protocol.specs.{Refusals.{given_refusal, machine_refusal}, Step.{meaning, act_bytes, Outcome, accepted, step}}
+use Rattle.protocol.specs.declared.{State.State, Call.Call, Effect.Effect, Act.{Act, TheVariants.{Load, Store, Fence, Advance, Transfer}}, Place.Place}
 use Rattle.protocol.specs.declared.{Answer.{Answer, TheVariants.{Refused, Done, Commit}}, Kind.TheVariants.{Load as OfLoad, Store as OfStore, Fence as OfFence}}
 use Rattle.protocol.{specs.declared.Given.{Given, TheVariants.{Bytes as AsBytes, Digits as AsDigits}}, proofs.{Tests.never, Digits.right_digits}}
-use Rattle.refusals.specs.Input.{machine_with, input_refusal}
+use Rattle.std.specs.Prelude.{Option}
+use Rattle.refusals.specs.Input.{machine_with, input_refusal, applies}
 use Rattle.listing.specs.Record.{record_as, record_text}
-use Rattle.tables.{specs.declared.copies.Look.Look, proofs.Making.{Finds, made, is_step, is_shown_lem}}
+use Rattle.tables.{specs.Seen.{core_seen, line_seen}, proofs.Making.{made, is_step, is_shown_lem}}
 use Rattle.driver.specs.Pieces.{is_store, beside}
 
 -- what is found by looking the state over, and the lengths of the buffers
 pub looked_over :
-    (s : State) (p q : Bytes) (n : ℕ) → n ≡ machine_refusal (machine_with s.opening s.core s.line (length p) (length q))
-    → n ≡ machine_refusal (machine s p q)
-unfolding machine_refusal state_fits
-looked_over s p q n e = rw (length-replicate, length-replicate) at e
+    (s : State) (p q : Bytes) {r : Option ℕ} → r ≡ applies (machine_refusal (machine_with s (length p) (length q)))
+    → r ≡ applies (machine_refusal (machine s p q))
+unfolding machine_refusal
+looked_over s p q e = simp length-replicate at e
 
 -- a store's data are those given, those of any other call the copy's
 pub act_bytes_are : (t : Act) (given copy : Bytes) → act_bytes t given copy ≡ pick (is_store t) given copy
@@ -64,20 +65,21 @@ act_printed (Advance n) p a given x e = refl
 act_printed Transfer p a given x e = refl
 
 -- the data that are put with the answer are the reply's
-module _ (m : Machine) (call : Call) (given : Bytes) (n : ℕ) (e : n ≡ input_refusal m call given) (v c : ℕ) (k : Look) (l : ℕ) (f : Finds m call v c k l) where
-  pub replied :
-      meaning (made m call given n e v c k l f).answer
-      (act_bytes (about call).act (bytes_given call given) (beside (made m call given n e v c k l f).answer m.state.opening m.private c l))
-      ≡ (step m call given).reply
+module _ (m : Machine) (call : Call) (given : Bytes) where
+  -- the effect of the call on what it sees
+  abbrev pub effect_seen : Effect
+  effect_seen = made m call given (input_refusal m call given) refl
+
+  abbrev shown : Bytes
+  shown = beside effect_seen.answer m.state.opening m.private (core_seen call m.state) (line_seen call m.state)
+
+  pub replied : meaning effect_seen.answer (act_bytes (about call).act (bytes_given call given) shown) ≡ (step m call given).reply
   unfolding accepted
   replied =
-      act_bytes_lem (about call).act (made m call given n e v c k l f).answer (bytes_given call given) _ _ (is_shown_lem m call given n e v c k l f _ refl)
-      ∙ sym (ap (λ (x : Outcome). x.reply) (is_step m call given n e v c k l f))
+      act_bytes_lem (about call).act effect_seen.answer (bytes_given call given) _ _ (is_shown_lem m call given _ refl _ refl)
+      ∙ sym (ap (λ (x : Outcome). x.reply) (is_step m call given _ refl))
 
   pub reply_printed :
       (p : Place) → given_refusal (given_as (about call).act) given ≡ 0
-      → record_as (given_as (about call).act) p
-      (meaning (made m call given n e v c k l f).answer (act_bytes (about call).act given (beside (made m call given n e v c k l f).answer m.state.opening m.private c l)))
-      ≡ record_text p (step m call given).reply
-  reply_printed p h =
-      act_printed (about call).act p (made m call given n e v c k l f).answer given _ h ∙ ap (record_text p) replied
+      → record_as (given_as (about call).act) p (meaning effect_seen.answer (act_bytes (about call).act given shown)) ≡ record_text p (step m call given).reply
+  reply_printed p h = act_printed (about call).act p effect_seen.answer given _ h ∙ ap (record_text p) replied

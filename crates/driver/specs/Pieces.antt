@@ -3,44 +3,43 @@ use Rattle.std.specs.Prelude.{ℕ, ◌+◌, ◌-◌, ◌≤◌, ◌<◌}
 use mathlib.Core.{Path.◌≡◌, Bool.{Bool, true, false}}
 use Rattle.std.specs.Prelude.{length}
 use Rattle.protocol.specs.{Pick.pick, Buffers.{Bytes, part, copy_start}, About.about, Given.{given_as, bytes_given}}
-use Rattle.protocol.specs.{Refusals.{given_refusal, call_refusal, or_else}, Run.place, Step.{meaning, act_bytes}}
-use Rattle.protocol.specs.declared.{Opening.Opening as Sizes, State.State, Call.Call}
-use Rattle.protocol.specs.declared.{Act.{Act, TheVariants.{Load, Store, Fence, Advance, Transfer}}, Answer.Answer, Counts.Counts}
-use Rattle.spelling.specs.{declared.Put.{Put, TheVariants.{End as PutEnd, Short}}, Over.PutAt}
-use Rattle.journal.specs.{Journal.NextOf, declared.Next.TheVariants.Step as StepLine}
+use Rattle.protocol.specs.{Refusals.{given_refusal, call_refusal}, Run.place, Step.{meaning, act_bytes}}
+use Rattle.protocol.specs.declared.{Opening.Opening as Sizes, Call.Call}
+use Rattle.protocol.specs.declared.{Act.{Act, TheVariants.{Load, Store, Fence, Advance, Transfer}}, Answer.Answer}
+use Rattle.spelling.specs.Over.{PutAt}
+use Rattle.std.specs.Prelude.{Option, Some, None, Ok}
+use Rattle.std.specs.Option.{option_or}
+use Rattle.grammar.specs.declared.Refusal.{Refusal}
+use Rattle.journal.specs.{Journal.NextOf, declared.Item.TheVariants.Step as StepLine}
+use Rattle.refusals.specs.Input.{applies}
 use Rattle.buffers.specs.Moves.{is_there}
 use Rattle.listing.specs.Record.{record_as}
 use Rattle.tables.specs.{Spans.span_of, declared.Span.Span}
 use Rattle.driver.specs.{Listing.{Ending, ended, stopped, EndsAt}, Play.{first_checkpoint, unopened}, declared.Checkpoint.Checkpoint}
-use Rattle.driver.specs.declared.{Played.Played, Last.{Last, TheVariants.{End, Refused}}, Due.{Due, TheVariants.{Step, Last as AtLast}}}
+use Rattle.driver.specs.declared.{Played.Played, Due.{Due, TheVariants.{Step, Last as AtLast}}}
 use Rattle.driver.specs.declared.Progress.{Progress, TheVariants.{Finished, More, Short as TooShort}}
 
 -- ---- what is due
 
--- how a journal ends
-abbrev pub ending_of : Last → Ending
-ending_of End = ended
-ending_of (Refused n) = stopped n
+-- how a journal ends: with its input, or at a line that is refused
+abbrev pub ending_of : Option Refusal → Ending
+ending_of None = ended
+ending_of (Some r) = stopped r
 
--- the number of a refused line is a byte
-abbrev pub IsByte : Last → Type 0
-IsByte End = Unit {0}
-IsByte (Refused n) = n < 256
-
--- a step at an offset of a journal: its digits lie in the journal and are right, and n is the first of 1 to 6 that applies
-pub record StepDue (journal : Bytes) (at form base : ℕ) (o : Sizes) (call : Call) (n start end next : ℕ) : Type 0 where
-  pub line : NextOf journal at form (StepLine call start end next)
+-- a step at a checkpoint: its digits lie in the journal and are right, and r is the first of 1 to 6 that applies, where `base` is 1 or 2 if one does
+pub record StepDue (journal : Bytes) (s : Checkpoint) (base : Option ℕ) (call : Call) (r : Option ℕ) (start end next : ℕ) : Type 0 where
+  pub line : NextOf journal s.at s.form (Ok (Some (StepLine call start end next)))
   pub order : start ≤ end
   pub ends : end ≤ length journal
   pub right : given_refusal (given_as (about call).act) (part journal start (end - start)) ≡ 0
-  pub number : n ≡ or_else base (call_refusal call o (length (bytes_given call (part journal start (end - start)))))
-  pub forward : at < next
+  pub number : r ≡ option_or base (applies (call_refusal call s.state.opening (length (bytes_given call (part journal start (end - start))))))
+  pub forward : s.at < next
   pub inside : next ≤ length journal
 
--- what is due at an offset of a journal: a step, or its end
-pub data DueAt (journal : Bytes) (at form base : ℕ) (o : Sizes) : Due → Type 0 where
-  a_step : {call : Call} {n start end next : ℕ} → StepDue journal at form base o call n start end next → DueAt journal at form base o (Step call n start end next)
-  the_end : {w : Last} → EndsAt journal form at (ending_of w) → IsByte w → DueAt journal at form base o (AtLast w)
+-- what is due at a checkpoint: a step, or the journal's end
+pub data DueAt (journal : Bytes) (s : Checkpoint) (base : Option ℕ) : Due → Type 0 where
+  a_step : {call : Call} {r : Option ℕ} {start end next : ℕ} → StepDue journal s base call r start end next → DueAt journal s base (Step call r start end next)
+  the_end : {w : Option Refusal} → EndsAt journal s.form s.at (ending_of w) → DueAt journal s base (AtLast w)
 
 -- ---- the line of an answer
 
@@ -64,7 +63,7 @@ abbrev pub answer_line : ℕ → Act → Answer → Bytes → Sizes → Bytes �
 answer_line n t a given o p c l = record_as (given_as t) (place n) (meaning a (act_bytes t given (beside a o p c l)))
 
 -- that line put at an offset of a lent output
-abbrev pub PutsAnswer : Bytes → ℕ → ℕ → Act → Answer → Bytes → Sizes → Bytes → ℕ → ℕ → Bytes → Put → Type 0
+abbrev pub PutsAnswer : Bytes → ℕ → ℕ → Act → Answer → Bytes → Sizes → Bytes → ℕ → ℕ → Bytes → Option ℕ → Type 0
 PutsAnswer out at n t a given o p c l out' r = PutAt out at (answer_line n t a given o p c l) out' r
 
 -- those beside lie in a buffer of n bytes
@@ -73,34 +72,30 @@ BesideInside a o c l n = (beside_at a o c l).start + (beside_at a o c l).count �
 
 -- ---- how far a call came
 
--- a checkpoint, from its parts
-abbrev pub checkpoint_at : ℕ → ℕ → Counts → State → Checkpoint
-checkpoint_at at form k s = record { at = at; form = form; counts = k; state = s }
-
 -- the next piece was put, or had no room
-abbrev pub progress_by : Put → Progress
-progress_by (PutEnd e) = Finished
-progress_by Short = More
+abbrev pub progress_by : Option ℕ → Progress
+progress_by (Some e) = Finished
+progress_by None = More
 
-abbrev pub written_by : Put → ℕ → ℕ
-written_by (PutEnd e) used = e
-written_by Short used = used
+abbrev pub written_by : Option ℕ → ℕ → ℕ
+written_by (Some e) used = e
+written_by None used = used
 
-abbrev pub played_by : Put → ℕ → Checkpoint → Played
+abbrev pub played_by : Option ℕ → ℕ → Checkpoint → Played
 played_by put used s = record { progress = progress_by put; written = written_by put used; checkpoint = s }
 
 -- the text t was put at the start of the output, or had no room there, and r says how far the call came
-pub record Puts (t : Bytes) (by : Put → Played) (old new : Bytes) (r : Played) : Type 0 where
-  pub put : Put
+pub record Puts (t : Bytes) (by : Option ℕ → Played) (old new : Bytes) (r : Played) : Type 0 where
+  pub put : Option ℕ
   pub text : PutAt old 0 t new put
   pub played : r ≡ by put
 
 -- the listing of a journal that opens no engine
-abbrev pub refused_by : Put → Played
-refused_by (PutEnd e) = record { progress = Finished; written = e; checkpoint = unopened }
-refused_by Short = record { progress = TooShort; written = 0; checkpoint = unopened }
+abbrev pub refused_by : Option ℕ → Played
+refused_by (Some e) = record { progress = Finished; written = e; checkpoint = unopened }
+refused_by None = record { progress = TooShort; written = 0; checkpoint = unopened }
 
 -- the line of an opening after which a run goes on at an offset of a journal of some form
-abbrev pub opened_by : ℕ → ℕ → Sizes → Put → Played
-opened_by at form o (PutEnd e) = record { progress = More; written = e; checkpoint = first_checkpoint at form o }
-opened_by at form o Short = record { progress = TooShort; written = 0; checkpoint = unopened }
+abbrev pub opened_by : ℕ → ℕ → Sizes → Option ℕ → Played
+opened_by at form o (Some e) = record { progress = More; written = e; checkpoint = first_checkpoint at form o }
+opened_by at form o None = record { progress = TooShort; written = 0; checkpoint = unopened }

@@ -6,7 +6,9 @@ use lib.{Dec.{leb, eqb}, ListN.{length, take, drop}}
 use Rattle.protocol.specs.{Pick.{both, every, fails as untrue}, Fresh.{fresh_state, smallest}, Buffers.Bytes, Machine.machine, Refusals.open_refusal}
 use Rattle.protocol.specs.{Step.{open_reply, step}, Run.{Entry, Run, place, run}, Counts.{nothing_met, sum, tally}, declared.Opening.Opening as Sizes}
 use Rattle.protocol.specs.declared.{Call.Call, Counts.Counts}
-use Rattle.journal.specs.{Journal.NextOf, declared.Next.TheVariants.{Opening, Step}}
+use Rattle.std.specs.Prelude.{Some, Ok}
+use Rattle.grammar.specs.declared.Refusal.{Refusal}
+use Rattle.journal.specs.{Journal.NextOf, declared.Item.TheVariants.{Opening, Step}}
 use Rattle.listing.specs.Record.{record_text}
 use Rattle.driver.specs.{Listing.{Ending, entry_at, Between, EndsAt, lines, last_lines, NotOpened, not_opened}, declared.Checkpoint.Checkpoint}
 use Rattle.driver.specs.declared.{Progress.{Progress, TheVariants.{Finished, More, Short, Unfit}}, Played.Played}
@@ -45,7 +47,7 @@ pub record Leads (journal : Bytes) (a : Checkpoint) (p q : Bytes) (gs : List Ent
 -- what is written next from a checkpoint, in one piece: a step's line, or the last lines
 pub data Piece (journal : Bytes) (s : Checkpoint) (p q : Bytes) : Bytes → Type 0 where
   a_step :
-      {call : Call} {start end next : ℕ} → NextOf journal s.at s.form (Step call start end next)
+      {call : Call} {start end next : ℕ} → NextOf journal s.at s.form (Ok (Some (Step call start end next)))
       → Piece journal s p q (record_text (place (s.counts.steps + 1)) (step (machine s.state p q) call (entry_at journal call start end).given).reply)
   the_end : {e : Ending} → EndsAt journal s.form s.at e → Piece journal s p q (last_lines s.counts e)
 
@@ -101,16 +103,16 @@ unopened = first_checkpoint 0 0 smallest
 pub data Begins (journal : Bytes) (there : Checkpoint) (text : Bytes) (room : ℕ) : Progress → Type 0 where
   -- the first line opens an engine, and its line is written
   opens :
-      {form : ℕ} {o : Sizes} {next : ℕ} → NextOf journal 0 0 (Opening form o next) → open_refusal o ≡ 0 → there ≡ first_checkpoint next form o
+      {form : ℕ} {o : Sizes} {next : ℕ} → NextOf journal 0 0 (Ok (Some (Opening form o next))) → open_refusal o ≡ 0 → there ≡ first_checkpoint next form o
       → text ≡ record_text (place 0) (open_reply o) → Begins journal there text room More
   -- it opens none, and the whole listing is written
-  fails : {n : ℕ} → NotOpened journal n → there ≡ unopened → text ≡ not_opened n → Begins journal there text room Finished
+  fails : {r : Refusal} → NotOpened journal r → there ≡ unopened → text ≡ not_opened r → Begins journal there text room Finished
   -- there is no room for that line, or for that listing, and nothing is written
   no_room :
-      {form : ℕ} {o : Sizes} {next : ℕ} → NextOf journal 0 0 (Opening form o next) → open_refusal o ≡ 0 → there ≡ unopened → text ≡ []
+      {form : ℕ} {o : Sizes} {next : ℕ} → NextOf journal 0 0 (Ok (Some (Opening form o next))) → open_refusal o ≡ 0 → there ≡ unopened → text ≡ []
       → room < length (record_text (place 0) (open_reply o)) → Begins journal there text room Short
   no_room_to_end :
-      {n : ℕ} → NotOpened journal n → there ≡ unopened → text ≡ [] → room < length (not_opened n) → Begins journal there text room Short
+      {r : Refusal} → NotOpened journal r → there ≡ unopened → text ≡ [] → room < length (not_opened r) → Begins journal there text room Short
 
 -- a call of `start` that returns r, for the output `old`, and leaves `new`
 pub record Starts (journal old new : Bytes) (r : Played) : Type 0 where

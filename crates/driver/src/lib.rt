@@ -9,12 +9,12 @@
 mod one_line;
 
 ghost use Rattle.std.specs.Prelude.{◌≡◌};
-ghost use Rattle.driver.specs.Play.{few, resumable_at, Starts, PlaysIn};
+ghost use Rattle.driver.specs.Play.{few, resumable, Starts, PlaysIn};
 
-use journal::Next;
-use protocol::{Call, Cell, Counts, Opening, State};
-use spelling::Put;
-use tables::Look;
+use grammar::Refusal;
+use journal::Item;
+use protocol::{Call, Counts, State};
+use tables::Seen;
 
 // A run between two lines: the offset in the journal, its form, what was met so far, and the state.
 #[derive(Clone, Copy)]
@@ -48,29 +48,20 @@ pub struct Played {
     pub checkpoint: Checkpoint,
 }
 
-// How a journal ends: with its input, or at a line that is refused with a number of 10 to 14.
-#[derive(Clone, Copy)]
-enum Last {
-    End,
-    Refused(u32),
-}
-
-// What is due at an offset of a journal: a step with the first of 1 to 6 that applies or 0, where the
-// digits given to it lie and the offset of the next line; or the journal's end.
+// What is due at an offset of a journal: a step with the first of 1 to 6 that applies, where the
+// digits given to it lie and the offset of the next line; or the journal's end, with the refusal of a
+// line that ends it.
 #[derive(Clone, Copy)]
 enum Due {
     Step {
         call: Call,
-        number: u8,
+        refusal: Option<u8>,
         start: usize,
         end: usize,
         next: usize,
     },
-    Last(Last),
+    Last(Option<Refusal>),
 }
-
-// How many counts there are.
-const COUNTS: usize = 10;
 
 // Whether no count is above `most`.
 fn few(counts: Counts, most: u64) -> bool
@@ -88,27 +79,14 @@ fn few(counts: Counts, most: u64) -> bool
         counts.renews,
         counts.owns,
     ];
-    let mut i: usize = 0;
-    while i < COUNTS {
-        if most < all[i] {
-            return false;
-        }
-        i += 1;
-    }
-    true
+    all.iter().all(|n| *n <= most)
 }
 
-// Whether a run of a journal of n bytes may have a checkpoint with such an offset, form and counts.
-fn resumable(n: usize, at: usize, form: u32, counts: Counts) -> bool
-    ensures { result ≡ resumable_at n at form counts }
+// Whether a run of a journal of n bytes may have such a checkpoint.
+fn resumable(n: usize, from: &Checkpoint) -> bool
+    ensures { result ≡ resumable n from.now }
 {
-    if form == 0 {
-        return false;
-    }
-    if n < at {
-        return false;
-    }
-    few(counts, at as u64)
+    from.form != 0 && from.at <= n && few(from.counts, from.at as u64)
 }
 
 // Starts a run: reads the first line and opens an engine, and writes `n=0 done=open`; or, where no
@@ -116,21 +94,24 @@ fn resumable(n: usize, at: usize, form: u32, counts: Counts) -> bool
 pub fn start(journal: &[u8], out: &mut [u8]) -> Played
     ensures { Starts journal.now out.old out.new result }
 {
-    match journal::step_at(journal, 0, 0) {
-        Next::Opening {
+    let item = match journal::step_at(journal, 0, 0) {
+        Ok(Some(item)) => item,
+        // Where the first line is due, the end is not found, nor is a step.
+        Ok(None) => return one_line::refuse(out, Refusal::NoForm),
+        Err(refusal) => return one_line::refuse(out, refusal),
+    };
+    match item {
+        Item::Opening {
             form,
             opening,
             next,
         } => {
             if !opening.fits() {
-                return one_line::refuse(out, 7);
+                return one_line::refuse(out, Refusal::Unfit);
             }
             one_line::open(out, next, form, opening)
         }
-        // Where the first line is due, neither is found.
-        Next::Step { .. } => one_line::refuse(out, 11),
-        Next::End => one_line::refuse(out, 11),
-        Next::Refused(n) => one_line::refuse(out, n),
+        Item::Step { .. } => one_line::refuse(out, Refusal::NoForm),
     }
 }
 
@@ -145,101 +126,69 @@ pub fn play(
 ) -> Played
     ensures { PlaysIn journal.now from «private».old shared.old out.old «private».new shared.new out.new result }
 {
-    let form = from.form;
-    let mut at = from.at;
-    let mut counts = from.counts;
-    if !resumable(journal.len(), at, form, counts) {
+    if !resumable(journal.len(), &from) {
         return Played {
             progress: Progress::Unfit,
             written: 0,
             checkpoint: from,
         };
     }
-    let mut s = from.state;
+    let mut here = from;
     let mut used: usize = 0;
-    let opening = s.opening;
-    let base = one_line::base_of(s, private.len(), shared.len());
+    // Read once, for speed: no step changes it.
+    let opening = here.state.opening;
+    let base = refusals::machine_refusal(&here.state, private.len(), shared.len());
     loop {
-        match one_line::due(journal, at, form, base, opening) {
+        match one_line::due(journal, &here, base) {
             Due::Last(last) => {
-                let put = one_line::put_last(out, used, last, counts);
-                return one_line::played(put, used, at, form, counts, s);
+                let put = one_line::put_last(out, used, last, here.counts);
+                return one_line::played(put, used, here);
             }
             Due::Step {
                 call,
-                number,
+                refusal,
                 start,
                 end,
                 next,
             } => {
-                // The effect of the call on the core, the copy and the manager's line that it is about; where
-                // it looks over the core's copies, these are gone through. Its line is put first: where there
+                // The effect of the call on what it sees of the state. Its line is put first: where there
                 // is no room, nothing has changed. A store's digits are put as they are, and decoded where its
                 // bytes lie.
-                let about = call.about();
-                let act = about.act;
-                let read = act.given();
-                let named = tables::named_line(about, opening);
-                let owned = s.line[named];
-                let manager = owned.manager;
-                let c = tables::core_of(about, manager, opening);
-                let k = s.core[c];
-                let slot = k.slot;
-                let top = tables::looked_over(about, opening);
-                let mut look = Look::nothing();
-                let mut j: usize = 0;
-                while j < top {
-                    let seen = s.cell[c * Opening::MOST_LINES + j];
-                    let held = seen.copy;
-                    look = look.with(j, held);
-                    j += 1;
-                }
-                let l = tables::line_of(about, slot, look.line, opening);
-                let i = c * Opening::MOST_LINES + l;
-                let cell = s.cell[i];
-                let line = s.line[l];
-                let copy = cell.copy;
-                let d = tables::effect(number, call, l, k, copy, line, look.copies, opening);
-                let answer = d.answer;
-                let place = counts.steps + 1;
+                let act = call.about().act;
+                let seen = Seen::of(call, &here.state);
+                let core = seen.core;
+                let line = seen.pieces.number;
+                let effect = tables::effect(refusal, call, seen.pieces, opening);
                 match one_line::put_answer(
                     out,
                     used,
-                    place,
+                    here.counts.steps + 1,
                     act,
-                    answer,
+                    effect.answer,
                     &journal[start..end],
                     private,
                     opening,
-                    c,
-                    l,
+                    core,
+                    line,
                 ) {
-                    Put::Short => {
-                        return one_line::played(Put::Short, used, at, form, counts, s);
+                    None => {
+                        return one_line::played(None, used, here);
                     }
-                    Put::End(e) => {
-                        let moves = d.moves;
-                        let core = d.core;
-                        let copy = d.copy;
-                        let cell = Cell { copy };
-                        let line = d.line;
-                        s.core[c] = core;
-                        s.cell[i] = cell;
-                        s.line[l] = line;
+                    Some(e) => {
+                        seen.write_back(&mut here.state, effect);
                         buffers::move_bytes(
-                            moves,
-                            read,
+                            effect.moves,
+                            act.given(),
                             opening,
                             private,
                             shared,
-                            c,
-                            l,
+                            core,
+                            line,
                             &journal[start..end],
                         );
                         used = e;
-                        counts = one_line::met(counts, call, answer);
-                        at = next;
-                        continue;
+                        one_line::count_step(&mut here.counts, call, effect.answer);
+                        here.at = next;
                     }
                 }
             }

@@ -2,128 +2,102 @@
 // `requires` says what the loop knows where it calls it.
 ghost use mathlib.Core.{Path.◌≡◌, Bool.true, List.[]};
 ghost use Rattle.std.specs.Prelude.{◌<◌, length};
-ghost use Rattle.protocol.specs.{Refusals.{machine_refusal, call_refusal, or_else}, Run.place, Counts.{counts_of, one_of, sum}};
+ghost use Rattle.protocol.specs.{Run.place, Counts.{counts_of, one_of, sum}};
 ghost use Rattle.protocol.specs.Step.{done, meaning};
-ghost use Rattle.refusals.specs.Input.{machine_with};
 ghost use Rattle.spelling.specs.Over.{PutAt};
 ghost use Rattle.listing.specs.Record.{record_text};
 ghost use Rattle.driver.specs.{Listing.{stop_lines, last_lines, not_opened}, Play.{few, first_checkpoint, unopened}};
-ghost use Rattle.driver.specs.Pieces.{is_store, DueAt, PutsAnswer, BesideInside, ending_of, IsByte, checkpoint_at, played_by, Puts};
+ghost use Rattle.driver.specs.Pieces.{is_store, DueAt, PutsAnswer, BesideInside, ending_of, played_by, Puts};
 ghost use Rattle.driver.specs.Pieces.{progress_by, written_by, refused_by, opened_by};
 
-use super::{Checkpoint, Due, Last, Played, Progress};
-use journal::Next;
+use super::{Checkpoint, Due, Played, Progress};
+use grammar::Refusal;
+use journal::Item;
 use protocol::{Act, Answer, Call, Class, Counts, Given, Name, Opening, Place, State};
-use spelling::Put;
 
-// The first of 1 and 2 that applies to a state and buffers of so many bytes, or 0.
-pub(crate) fn base_of(state: State, private: usize, shared: usize) -> u8
-    ensures { result ≡ machine_refusal (machine_with state.opening state.core state.line «private» shared) }
+// What is due at a checkpoint whose first line was read, where `base` is what the state and the buffers are refused with. Two digits are
+// a byte that is given to a step.
+pub(crate) fn due(journal: &[u8], here: &Checkpoint, base: Option<u8>) -> Due
+    requires { here.now.form ≡ 0 → ⊥ }
+    ensures { DueAt journal.now here.now base result }
 {
-    let opening = state.opening;
-    let cores = state.core;
-    let lines = state.line;
-    refusals::machine_refusal(opening, cores, lines, private, shared)
-}
-
-// The first of 1 to 6 that applies, or 0 where none does; `base` is 1, 2 or 0.
-fn number_of(base: u8, call: Call, opening: Opening, count: usize) -> u8
-    ensures { result ≡ or_else base (call_refusal call opening count) }
-{
-    if base != 0 {
-        return base;
-    }
-    refusals::call_refusal(call, opening, count)
-}
-
-// What is due at an offset of a journal whose first line was read. Two digits are a byte that is given to
-// a step.
-pub(crate) fn due(journal: &[u8], at: usize, form: u32, base: u8, opening: Opening) -> Due
-    requires { form ≡ 0 → ⊥ }
-    ensures { DueAt journal.now at form base opening result }
-{
-    match journal::step_at(journal, at, form) {
-        // No line after the first opens an engine.
-        Next::Opening { .. } => Due::Last(Last::End),
-        Next::End => Due::Last(Last::End),
-        Next::Refused(n) => Due::Last(Last::Refused(n)),
-        Next::Step {
-            call,
-            start,
-            end,
-            next,
-        } => {
-            let number = number_of(base, call, opening, (end - start) / 2);
-            Due::Step {
+    match journal::step_at(journal, here.at, here.form) {
+        Ok(Some(item)) => match item {
+            // No line after the first opens an engine.
+            Item::Opening { .. } => Due::Last(None),
+            Item::Step {
                 call,
-                number,
                 start,
                 end,
                 next,
+            } => {
+                let count = (end - start) / 2;
+                let refusal = base.or(refusals::call_refusal(call, here.state.opening, count));
+                Due::Step {
+                    call,
+                    refusal,
+                    start,
+                    end,
+                    next,
+                }
             }
-        }
+        },
+        Ok(None) => Due::Last(None),
+        Err(refusal) => Due::Last(Some(refusal)),
     }
 }
 
-// The counts with a step line of a class more.
-fn counted(counts: Counts, class: Class) -> Counts
-    requires { few counts 9223372036854775807 ≡ true }
-    ensures { result ≡ sum counts (one_of 1 class) }
+// Counts a step line of a class.
+fn count(counts: &mut Counts, class: Class)
+    requires { few counts.old 9223372036854775807 ≡ true }
+    ensures { counts.new ≡ sum counts.old (one_of 1 class) }
 {
-    let mut k = counts;
-    k.steps += 1;
+    counts.steps += 1;
     match class {
         Class::Load => {
-            k.commits += 1;
-            k.loads += 1;
+            counts.commits += 1;
+            counts.loads += 1;
         }
         Class::Store => {
-            k.commits += 1;
-            k.stores += 1;
+            counts.commits += 1;
+            counts.stores += 1;
         }
         Class::Fence => {
-            k.commits += 1;
-            k.fences += 1;
+            counts.commits += 1;
+            counts.fences += 1;
         }
         Class::Ask => {
-            k.asks += 1;
+            counts.asks += 1;
         }
         Class::Share => {
-            k.shares += 1;
+            counts.shares += 1;
         }
         Class::Renew => {
-            k.renews += 1;
+            counts.renews += 1;
         }
         Class::Own => {
-            k.owns += 1;
+            counts.owns += 1;
         }
         Class::Refused => {
-            k.refusals += 1;
+            counts.refusals += 1;
         }
         Class::Other => {}
     }
-    k
 }
 
-// The counts with a call and its answer.
-pub(crate) fn met(counts: Counts, call: Call, answer: Answer) -> Counts
-    requires { few counts 9223372036854775807 ≡ true }
-    ensures { result ≡ sum counts (counts_of call (meaning answer [])) }
+// Counts a call with its answer.
+pub(crate) fn count_step(counts: &mut Counts, call: Call, answer: Answer)
+    requires { few counts.old 9223372036854775807 ≡ true }
+    ensures { counts.new ≡ sum counts.old (counts_of call (meaning answer [])) }
 {
-    counted(counts, Class::of(call, answer))
+    count(counts, Class::of(call, answer));
 }
 
 // Whether a call stores.
 fn is_store(act: Act) -> bool
     ensures { result ≡ is_store act }
 {
-    match act {
-        Act::Load => false,
-        Act::Store(_) => true,
-        Act::Fence => false,
-        Act::Advance(_) => false,
-        Act::Transfer => false,
-    }
+    matches!(act, Act::Store(_))
 }
 
 // The line of a call's answer at its place, for core c and line l: a store's data are those given, which are put as they are where
@@ -139,7 +113,7 @@ pub(crate) fn put_answer(
     opening: Opening,
     c: usize,
     l: usize,
-) -> Put
+) -> Option<usize>
     requires { BesideInside answer opening c l (length «private».now) }
     ensures { PutsAnswer out.old at place act answer given.now opening «private».now c l out.new result }
 {
@@ -162,87 +136,68 @@ pub(crate) fn put_answer(
 
 // The last lines of a run that a refused line ends, where they fit; `counts` has that line, whose place is
 // the last.
-fn put_stop(out: &mut [u8], at: usize, number: u32, counts: Counts) -> Put
-    requires { number < 256 }
-    ensures { PutAt out.old at (stop_lines counts number) out.new result }
+fn put_stop(out: &mut [u8], at: usize, refusal: Refusal, counts: Counts) -> Option<usize>
+    ensures { PutAt out.old at (stop_lines counts refusal) out.new result }
 {
     let mut text = [0u8; 256];
     let nothing = [0u8; 1];
-    let n = number as u8;
+    let n = refusal.number();
     let place = counts.steps;
-    match listing::put_record(
+    let line = listing::put_record(
         &mut text,
         0,
         Place(place),
         Answer::Refused(n),
         Given::Bytes,
         &nothing[0..0],
-    ) {
-        Put::Short => Put::Short,
-        Put::End(e) => match listing::put_end(&mut text, e, counts) {
-            Put::Short => Put::Short,
-            Put::End(e) => spelling::put_text(out, at, &text[0..e]),
-        },
-    }
+    )?;
+    let end = listing::put_end(&mut text, line, counts)?;
+    spelling::put_text(out, at, &text[..end])
 }
 
 // The last lines of a run, where they fit, after what was counted.
-pub(crate) fn put_last(out: &mut [u8], at: usize, last: Last, counts: Counts) -> Put
-    requires { (few counts 9223372036854775807 ≡ true) × IsByte last }
+pub(crate) fn put_last(
+    out: &mut [u8],
+    at: usize,
+    last: Option<Refusal>,
+    mut counts: Counts,
+) -> Option<usize>
+    requires { few counts 9223372036854775807 ≡ true }
     ensures { PutAt out.old at (last_lines counts (ending_of last)) out.new result }
 {
     match last {
-        Last::End => listing::put_end(out, at, counts),
-        Last::Refused(n) => put_stop(out, at, n, counted(counts, Class::Refused)),
-    }
-}
-
-// A checkpoint, from its parts.
-fn checkpoint(at: usize, form: u32, counts: Counts, state: State) -> Checkpoint
-    ensures { result ≡ checkpoint_at at form counts state }
-{
-    Checkpoint {
-        at,
-        form,
-        counts,
-        state,
+        None => listing::put_end(out, at, counts),
+        Some(refusal) => {
+            count(&mut counts, Class::Refused);
+            put_stop(out, at, refusal, counts)
+        }
     }
 }
 
 // Whether a run goes on, and how much is written, after its next piece was put, or had no room.
-fn progress_by(put: Put) -> Progress
+fn progress_by(put: Option<usize>) -> Progress
     ensures { result ≡ progress_by put }
 {
     match put {
-        Put::End(_) => Progress::Finished,
-        Put::Short => Progress::More,
+        Some(_) => Progress::Finished,
+        None => Progress::More,
     }
 }
 
-fn written_by(put: Put, used: usize) -> usize
+fn written_by(put: Option<usize>, used: usize) -> usize
     ensures { result ≡ written_by put used }
 {
-    match put {
-        Put::End(e) => e,
-        Put::Short => used,
-    }
+    put.unwrap_or(used)
 }
 
 // How far a call came whose next piece was put, or had no room.
-pub(crate) fn played(
-    put: Put,
-    used: usize,
-    at: usize,
-    form: u32,
-    counts: Counts,
-    state: State,
-) -> Played
-    ensures { result ≡ played_by put used (checkpoint_at at form counts state) }
+pub(crate) fn played(put: Option<usize>, used: usize, here: Checkpoint) -> Played
+    ensures { result ≡ played_by put used here }
 {
     Played {
         progress: progress_by(put),
         written: written_by(put, used),
-        checkpoint: checkpoint(at, form, counts, state),
+        checkpoint: here,
     }
 }
 
@@ -250,12 +205,15 @@ pub(crate) fn played(
 fn first(progress: Progress, written: usize, at: usize, form: u32, opening: Opening) -> Played
     ensures { result ≡ record { progress = progress; written = written; checkpoint = first_checkpoint at form opening } }
 {
-    let state = State::fresh(opening);
-    let none = Counts::NONE;
     Played {
         progress,
         written,
-        checkpoint: checkpoint(at, form, none, state),
+        checkpoint: Checkpoint {
+            at,
+            form,
+            counts: Counts::NONE,
+            state: State::fresh(opening),
+        },
     }
 }
 
@@ -267,15 +225,14 @@ fn unopened(progress: Progress, written: usize) -> Played
 }
 
 // The listing of a journal that opens no engine, where it fits.
-pub(crate) fn refuse(out: &mut [u8], number: u32) -> Played
-    requires { number < 256 }
-    ensures { Puts (not_opened number) refused_by out.old out.new result }
+pub(crate) fn refuse(out: &mut [u8], refusal: Refusal) -> Played
+    ensures { Puts (not_opened refusal) refused_by out.old out.new result }
 {
     let mut counts = Counts::NONE;
     counts.refusals = 1;
-    match put_stop(out, 0, number, counts) {
-        Put::End(e) => unopened(Progress::Finished, e),
-        Put::Short => unopened(Progress::Short, 0),
+    match put_stop(out, 0, refusal, counts) {
+        Some(e) => unopened(Progress::Finished, e),
+        None => unopened(Progress::Short, 0),
     }
 }
 
@@ -292,7 +249,7 @@ pub(crate) fn open(out: &mut [u8], at: usize, form: u32, opening: Opening) -> Pl
         Given::Bytes,
         &nothing[0..0],
     ) {
-        Put::End(e) => first(Progress::More, e, at, form, opening),
-        Put::Short => unopened(Progress::Short, 0),
+        Some(e) => first(Progress::More, e, at, form, opening),
+        None => unopened(Progress::Short, 0),
     }
 }

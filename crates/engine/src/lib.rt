@@ -5,26 +5,15 @@
 // `opened`, `step`, `shown` or `part` of crate `protocol`; of a part that is returned, where it points too.
 // Callers write `d = load(d.state, ..)`, which saves a copy of the state against one by way of a local.
 // `step` saves another copy against those functions.
+// A state and its two buffers are parameters of their own: a call takes the state and gives it back, and the buffers are only lent, so that
+// `show` and `commit_bytes` can return parts of them.
 #![tactic(auto)]
 
 ghost use mathlib.Core.{Path.◌≡◌, List.[]};
-ghost use Rattle.protocol.specs.Machine.{pieces};
-ghost use Rattle.engine.specs.{Pieces.OnPieces, Calls.{Makes, Opens, Shows, PartOf}};
+ghost use Rattle.engine.specs.Calls.{Makes, Opens, Shows, PartOf};
 
-use protocol::{Answer, Call, Cell, Copy, Core, Given, ManagerLine, Name, Opening, State};
-use tables::Look;
-
-// What a call makes of the pieces that it looks at: one core, its copy of one line, the manager's
-// line. `start` and `count` are those of `Returned`.
-#[derive(Clone, Copy)]
-struct NewPieces {
-    answer: Answer,
-    start: usize,
-    count: usize,
-    core: Core,
-    cell: Cell,
-    line: ManagerLine,
-}
+use protocol::{Answer, Call, Given, Name, Opening, State};
+use tables::Seen;
 
 // What a call gives: its answer, the state, and where the bytes of a load's or a store's commit lie
 // in the private buffer as the call leaves it: `count` of them from `start`, 0 and 0 beside any
@@ -37,113 +26,42 @@ pub struct Returned {
     pub state: State,
 }
 
-// What a call makes of the pieces of a core, which holds so many copies, and a line, with its line of bytes
-// moved. `n` is the first of 13 and 1 to 6 that applies, or 0; `given` is what is given to a store, and
-// `read` how it is read.
-fn on_pieces(
-    n: u8,
-    call: Call,
-    read: Given,
-    opening: Opening,
-    k: Core,
-    copy: Copy,
-    m: ManagerLine,
-    copies: usize,
-    private: &mut [u8],
-    shared: &mut [u8],
-    c: usize,
-    l: usize,
-    given: &[u8],
-) -> NewPieces
-    ensures { OnPieces n call read opening (pieces l k copy m copies) c l given.now «private».old shared.old result «private».new shared.new }
-{
-    let d = tables::effect(n, call, l, k, copy, m, copies, opening);
-    let answer = d.answer;
-    let moves = d.moves;
-    let next_core = d.core;
-    let next_copy = d.copy;
-    let next_line = d.line;
-    let start = buffers::copy_start(opening, c, l);
-    let b = tables::span_of(answer, start, opening.width);
-    buffers::move_bytes(moves, read, opening, private, shared, c, l, given);
-    NewPieces {
-        answer,
-        start: b.start,
-        count: b.count,
-        core: next_core,
-        cell: Cell { copy: next_copy },
-        line: next_line,
-    }
-}
-
 // Makes a call; `given` is what is given to a store, its bytes or their digits, as the call says. Any other
 // call passes over it. A refused call takes the same way: its pieces are written back as they are.
-pub fn step(s: State, private: &mut [u8], shared: &mut [u8], call: Call, given: &[u8]) -> Returned
+pub fn step(
+    mut s: State,
+    private: &mut [u8],
+    shared: &mut [u8],
+    call: Call,
+    given: &[u8],
+) -> Returned
     ensures { Makes call given.now s «private».old shared.old result «private».new shared.new }
 {
     let opening = s.opening;
-    let cores = s.core;
-    let lines = s.line;
-    let n = refusals::input_refusal(
-        call,
-        opening,
-        cores,
-        lines,
-        private.len(),
-        shared.len(),
-        given,
-    );
-    let mut next = s;
-    let about = call.about();
-    let act = about.act;
-    let read = act.given();
-    let named = tables::named_line(about, opening);
-    let owned = next.line[named];
-    let manager = owned.manager;
-    let c = tables::core_of(about, manager, opening);
-    let k = next.core[c];
-    let slot = k.slot;
-    let top = tables::looked_over(about, opening);
-    let mut look = Look::nothing();
-    let mut j: usize = 0;
-    while j < top {
-        let seen = next.cell[c * Opening::MOST_LINES + j];
-        let held = seen.copy;
-        look = look.with(j, held);
-        j += 1;
-    }
-    let l = tables::line_of(about, slot, look.line, opening);
-    let i = c * Opening::MOST_LINES + l;
-    let e = next.cell[i];
-    let m = next.line[l];
-    let copy = e.copy;
-    let made = on_pieces(
-        n,
-        call,
+    let refusal = refusals::input_refusal(call, &s, private.len(), shared.len(), given);
+    let seen = Seen::of(call, &s);
+    let effect = tables::effect(refusal, call, seen.pieces, opening);
+    let core = seen.core;
+    let line = seen.pieces.number;
+    let start = buffers::copy_start(opening, core, line);
+    let span = tables::span_of(effect.answer, start, opening.width);
+    let read = call.about().act.given();
+    buffers::move_bytes(
+        effect.moves,
         read,
         opening,
-        k,
-        copy,
-        m,
-        look.copies,
         private,
         shared,
-        c,
-        l,
+        core,
+        line,
         given,
     );
-    let answer = made.answer;
-    let core = made.core;
-    let cell = made.cell;
-    let line = made.line;
-    next.core[c] = core;
-    next.cell[i] = cell;
-    next.line[l] = line;
+    seen.write_back(&mut s, effect);
     Returned {
-        answer,
-        start: made.start,
-        count: made.count,
-        state: next,
+        answer: effect.answer,
+        start: span.start,
+        count: span.count,
+        state: s,
     }
 }
 
@@ -275,6 +193,20 @@ pub struct Opened {
     pub state: State,
 }
 
+impl From<Opened> for Returned {
+    ghost from_gives = { λ o r. (r.answer ≡ o.answer) × (r.start ≡ 0) × (r.count ≡ 0) × (r.state ≡ o.state) };
+
+    // What opening an engine gives, before its first call: no commit, and so no bytes of one.
+    fn from(opened: Opened) -> Returned {
+        Returned {
+            answer: opened.answer,
+            start: 0,
+            count: 0,
+            state: opened.state,
+        }
+    }
+}
+
 // The fresh state, or refusal 7 and the fresh state of the smallest opening.
 pub fn open(opening: Opening) -> Opened
     ensures { Opens opening result }
@@ -314,31 +246,16 @@ fn part(bytes: &[u8], start: usize, count: usize) -> &[u8]
 pub fn show<'a>(s: State, private: &'a [u8], shared: &'a [u8], core: usize, line: usize) -> &'a [u8]
     ensures { Shows s «private».entry shared.entry core line result }
 {
-    let opening = s.opening;
-    let cores = s.core;
-    let lines = s.line;
-    let width = opening.width;
+    let Opening { width, .. } = s.opening;
     let call = Call::Load { core, line };
-    let n = refusals::input_refusal(
-        call,
-        opening,
-        cores,
-        lines,
-        private.len(),
-        shared.len(),
-        b"",
-    );
-    if n != 0 {
+    if refusals::input_refusal(call, &s, private.len(), shared.len(), b"").is_some() {
         return part(shared, 0, 0);
     }
-    let i = core * Opening::MOST_LINES + line;
-    let e = s.cell[i];
-    let copy = e.copy;
-    if tables::is_held(copy) {
-        let start = buffers::copy_start(opening, core, line);
+    if tables::is_held(s.cell[core * Opening::MOST_LINES + line].copy) {
+        let start = buffers::copy_start(s.opening, core, line);
         return part(private, start, width);
     }
-    let start = buffers::manager_start(opening, core, line);
+    let start = buffers::manager_start(s.opening, core, line);
     part(shared, start, width)
 }
 

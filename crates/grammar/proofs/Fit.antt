@@ -2,7 +2,7 @@
 use Prim.Native.Nat.{ℕ}
 use mathlib.Core.{Path.{◌≡◌, refl, sym, ◌∙◌, ap, ap₂}, List.{List, [], ◌∷◌, ◌++◌}, Logic.{inl, inr}}
 use lib.{ListN.{length, drop}, Seq.drop-append_seam}
-use Rattle.grammar.specs.Form.{Part, fixed, value, Value, number, pairs, lay, Each, Has}
+use Rattle.grammar.specs.{Form.{Part, fixed, value, Value, number, pairs, lay, Each, Has}, Scan.after_value}
 use Rattle.spelling.{specs.Bytes.up_to, proofs.Split.{Edge, up_to_split, up_to_clean, up_to_unique}}
 
 -- what follows a value in a form: nothing, or a blank
@@ -54,19 +54,15 @@ byte_only t b p vs h = (lay p vs, h.laid, record { fit = h.fit; laid = refl })
 
 -- ---- a value
 
--- what is after the value that begins a text
-abbrev pub after : List ℕ → List ℕ
-after t = drop (length (up_to 32 t)) t
-
-pub value_here : (q : Value) (t : List ℕ) (p : List Part) (vs : List (List ℕ)) → Has (after t) p vs → Has t (value q ∷ p) (up_to 32 t ∷ vs)
+pub value_here : (q : Value) (t : List ℕ) (p : List Part) (vs : List (List ℕ)) → Has (after_value t) p vs → Has t (value q ∷ p) (up_to 32 t ∷ vs)
 unfolding lay Each
 value_here q t p vs h =
     record { fit = (up_to_clean 32 t, h.fit); laid = (up_to_split 32 t).0 ∙ ap (λ (l : List ℕ). up_to 32 t ++ l) h.laid }
 
-pub value_only : (q : Value) (t : List ℕ) (p : List Part) (ws : List (List ℕ)) → Edged p → Has t (value q ∷ p) ws → (vs : List (List ℕ)) × (ws ≡ up_to 32 t ∷ vs) × Has (after t) p vs
+pub value_only : (q : Value) (t : List ℕ) (p : List Part) (ws : List (List ℕ)) → Edged p → Has t (value q ∷ p) ws → (vs : List (List ℕ)) × (ws ≡ up_to 32 t ∷ vs) × Has (after_value t) p vs
 unfolding lay Each
 value_only q t p [] e h = absurd h.fit
 value_only q t p (w ∷ vs) e h =
     let u : up_to 32 t ≡ w = ap (up_to 32) h.laid ∙ up_to_unique 32 w (lay p vs) h.fit.0 (lay_edge p vs e) in
-    let r : after t ≡ lay p vs = ap₂ (λ (k : ℕ) (l : List ℕ). drop k l) (ap length u) h.laid ∙ drop-append_seam w (lay p vs) in
+    let r : after_value t ≡ lay p vs = ap₂ (λ (k : ℕ) (l : List ℕ). drop k l) (ap length u) h.laid ∙ drop-append_seam w (lay p vs) in
     (vs, ap (λ (x : List ℕ). x ∷ vs) (sym u), record { fit = h.fit.1; laid = r })

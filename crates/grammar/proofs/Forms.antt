@@ -1,5 +1,5 @@
 -- What is known of the rows of each form of journal: which part of the table they are, their shape, what their lines say, and that a step has
--- data exactly if its call is given digits. A new form is a line in `ranged`, `no_row_lem`, `opening_at`, `digit_at`, `rows_say` and `rows_fed`. Assumes nothing.
+-- data exactly if its call is given digits. A new form is a line in `ranged`, `opening_at`, `digit_at`, `rows_say` and `rows_fed`. Assumes nothing.
 use Prim.Native.Nat.{ℕ, zero, suc, ◌+◌, ◌-◌, ◌≤◌, ◌<◌}
 use mathlib.Core.{Path.{◌≡◌, refl, sym, ◌∙◌, ap, subst}, Bool.{Bool, true, false}, List.{List, [], ◌∷◌}}
 use native.Mathlib.Omega.{arith}
@@ -7,18 +7,18 @@ use lib.{Dec.{ltb, lit≤, lit<}, ListN.{length, get_or, take, drop}, Seq.{get_o
 use borrow.Author.Tests.{ltb-true}
 use Rattle.protocol.{specs.declared.{Opening.{Opening as Sizes}, Given.{Given, TheVariants.{Bytes, Digits}}}, proofs.Tests.never}
 use Rattle.protocol.specs.{Pick.{pick, fails}, About.about, Given.given_as}
-use Rattle.grammar.specs.Table.{Numbered, Says, opens, calls, Row, openings, rows_of, no_row, row_at, table, step_count, opening_count, row_count, form_count}
-use Rattle.grammar.specs.{Table.{sizes, from_of, to_of}, Form.{Part, fixed, value, Value, number, pairs, Each, Has, RightData}}
+use Rattle.grammar.specs.Table.{Numbered, Says, opens, calls, Row, openings, rows_of, no_row, row_at, table, step_count, opening_count, row_count, range_of}
+use Rattle.grammar.specs.{Table.sizes, Form.{Part, fixed, value, Value, number, pairs, Each, Has, RightData}}
 use Rattle.grammar.specs.{Line.{Matches, DataRight}, Scan.{form_of, byte_of, cap_of}}
 use Rattle.grammar.proofs.{Fit.Shaped, Rows.{byte_at, entry_at, every, every_at}}
 
 -- ---- the rows of each form are one part of the table
 
 pub record Ranged (form : ℕ) : Type 0 where
-  pub order : from_of form ≤ to_of form
-  pub high : to_of form ≤ row_count
-  pub count : length (rows_of form) ≡ to_of form - from_of form
-  pub same : rows_of form ≡ take (to_of form - from_of form) (drop (from_of form) table)
+  pub order : (range_of form).start ≤ (range_of form).end
+  pub high : (range_of form).end ≤ row_count
+  pub count : length (rows_of form) ≡ (range_of form).end - (range_of form).start
+  pub same : rows_of form ≡ take ((range_of form).end - (range_of form).start) (drop (range_of form).start table)
 
 pub ranged : (form : ℕ) → Ranged form
 ranged zero = record { order = lit≤ tt; high = lit≤ tt; count = refl; same = refl }
@@ -28,27 +28,22 @@ ranged (suc (suc (suc form))) = record { order = lit≤ tt; high = lit≤ tt; co
 
 -- the row at an index of a form's rows, as a row of the table
 module _ (form k : ℕ) (h : k < length (rows_of form)) where
-  pub row_listed : from_of form + k < to_of form
+  pub row_listed : (range_of form).start + k < (range_of form).end
   row_listed = let r = ranged form in omega (arith, r.count, r.order)
 
-  pub row_in : row_at (rows_of form) k ≡ row_at table (from_of form + k)
+  pub row_in : row_at (rows_of form) k ≡ row_at table ((range_of form).start + k)
   row_in =
       let r = ranged form in
-      ap (λ (l : List Row). row_at l k) r.same ∙ get_or-take (to_of form - from_of form) (drop (from_of form) table) k no_row (omega arith) ∙ get_or-drop (from_of form) table k no_row
+      let a = (range_of form).start in
+      let n = (range_of form).end - a in
+      ap (λ (l : List Row). row_at l k) r.same ∙ get_or-take n (drop a table) k no_row (omega arith) ∙ get_or-drop a table k no_row
 
   pub row_shape : Shaped (row_at (rows_of form) k).form
-  row_shape = rw row_in (entry_at (from_of form + k) (omega (arith, row_listed, (ranged form).high))).shape
+  row_shape = rw row_in (entry_at ((range_of form).start + k) (omega (arith, row_listed, (ranged form).high))).shape
 
 -- a line that has the form of one of them has it as a row of the table
-pub in_table : (form : ℕ) {s : List ℕ} {k : ℕ} {vs : List (List ℕ)} → Matches (rows_of form) s k vs → Has s (form_of (from_of form + k)) vs
+pub in_table : (form : ℕ) {s : List ℕ} {k : ℕ} {vs : List (List ℕ)} → Matches (rows_of form) s k vs → Has s (form_of ((range_of form).start + k)) vs
 in_table form {s} {k} {vs} f = subst (λ (r : Row). Has s r.form vs) (row_in form k f.listed) f.has
-
--- no form is known beyond the last
-pub no_row_lem : (form : ℕ) (s : List ℕ) → form_count ≤ form → (k : ℕ) (vs : List (List ℕ)) → Matches (rows_of form) s k vs → ⊥
-no_row_lem zero s h k vs f = absurd (omega arith)
-no_row_lem (suc zero) s h k vs f = absurd (omega arith)
-no_row_lem (suc (suc zero)) s h k vs f = absurd (omega arith)
-no_row_lem (suc (suc (suc form))) s h k vs f = omega (arith, f.listed)
 
 -- ---- the first lines
 

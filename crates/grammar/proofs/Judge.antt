@@ -1,13 +1,14 @@
 -- From the row that was found to the answer of the line. Assumes nothing.
 use Prim.Native.Nat.{ℕ, zero, suc, ◌+◌, ◌≤◌, ◌<◌, ◌-◌}
-use mathlib.Core.{Path.{◌≡◌, refl, ◌∙◌, ap, subst}, List.{List, [], ◌∷◌, ◌++◌}, Logic.⊎_elim}
+use mathlib.Core.{Path.{◌≡◌, refl, ◌∙◌, ap, subst}, List.{List, [], ◌∷◌, ◌++◌}}
 use native.Mathlib.Omega.{arith}
 use lib.{ListN.{length, get_or, drop, replicate, length-replicate}, Seq.{sets, sets-eq, get_or-drop}}
-use Rattle.spelling.{specs.Hex.hex, proofs.Decide.same_number}
-use Rattle.grammar.specs.{Form.{Part, fixed, value, number, pairs, Has, Given}, Table.{rows_of, row_at, table, row_count, number_count, from_of, to_of}}
+use Rattle.std.specs.{Prelude.{Some, None, Err}, declared.ops.Range.Range}
+use Rattle.spelling.specs.Hex.{hex}
+use Rattle.grammar.specs.{Form.{Part, fixed, value, number, pairs, Has, Given}, Table.{rows_of, row_at, table, row_count, number_count, range_of}}
 use Rattle.grammar.specs.Line.{said, Matches, LineOf, no_form, wrong_number, wrong_data, spelt}
-use Rattle.grammar.specs.{Scan.{RowAt, Scans, form_of, values_in, nothing_read, Fails, FoundIn, nowhere, here, answer_of, RowFound}, declared.Found.Found}
-use Rattle.grammar.proofs.{Outcome.{Outcome, fails, bad_number, bad_data, fine, outcome_of, fails_of}, Rows.{line_tag, entry_at, same_tag}}
+use Rattle.grammar.specs.{Scan.{RowAt, Reads, form_of, values_in, nothing_read, FoundIn, answer_of}, declared.{Refusal.TheVariants.NoForm, Found.Found}}
+use Rattle.grammar.proofs.{Outcome.{Outcome, bad_number, bad_data, fine, outcome_of, fails_of}, Rows.{line_tag, Entry, entry_at, same_tag}}
 use Rattle.grammar.proofs.Forms.{ranged, row_listed, row_in, in_table}
 
 -- ---- the numbers that were read, as the row's numbers
@@ -50,29 +51,35 @@ numbers_read m ns h =
 -- ---- the answer by the rows of a form of journal
 
 module _ (form : ℕ) (s : List ℕ) (short : length s ≤ 200) where
-  none_listed : ((k : ℕ) → from_of form ≤ k → k < to_of form → Fails s (form_of k)) → (k : ℕ) (vs : List (List ℕ)) → Matches (rows_of form) s k vs → ⊥
-  none_listed n k vs f = n (from_of form + k) (omega arith) (row_listed form k f.listed) vs (in_table form f)
+  -- the rows of the form
+  abbrev rows : Range ℕ
+  rows = range_of form
+
+  pub none_answer : FoundIn s rows None → LineOf (rows_of form) s (Err NoForm)
+  none_answer n = no_form short (λ k vs f. n (rows.start + k) (omega arith) (row_listed form k f.listed) vs (in_table form f))
 
   -- the row at an index of the table, as a row of the form
-  module _ (f : Found) (a : from_of form ≤ f.row) (b : f.row < to_of form) where
+  module _ (f : Found) (x : FoundIn s rows (Some f)) where
     abbrev k : ℕ
-    k = f.row - from_of form
+    k = f.row - rows.start
 
     listed : k < length (rows_of form)
-    listed = omega (arith, (ranged form).count)
+    listed = omega (arith, x.0, x.1, (ranged form).count)
 
     same_row : row_at (rows_of form) k ≡ row_at table f.row
-    same_row = let n : from_of form + k ≡ f.row = omega arith in row_in form k listed ∙ ap (row_at table) n
+    same_row = let n : rows.start + k ≡ f.row = omega (arith, x.0) in row_in form k listed ∙ ap (row_at table) n
+
+    known : Entry f.row (row_at table f.row)
+    known = entry_at f.row (omega (arith, x.1, (ranged form).high))
 
     matches : {vs : List (List ℕ)} → Has s (form_of f.row) vs → Matches (rows_of form) s k vs
     matches h = record { listed = listed; has = rw same_row h }
 
-    found_answer : Outcome s s (form_of f.row) (nothing_read s) f.values → (f.values.fault ≡ 11 → ⊥) → LineOf (rows_of form) s (answer_of f (length s))
-    found_answer (fails o n) x = absurd (x o)
-    found_answer (bad_number vs o h n) x = rw o (wrong_number k vs short (matches h) (rw same_row (λ e. omega (arith, n e))))
-    found_answer (bad_data vs z o h n m) x = rw o (wrong_data k vs short (matches h) (rw same_row n) (rw same_row m))
-    found_answer (fine ns bs z o g t q e) x =
-        let c : length ns ≤ number_count = omega (arith, given_count (form_of f.row) ns bs g, (entry_at f.row (omega (arith, (ranged form).high))).room) in
+    by : Outcome (length s) s (form_of f.row) 0 (nothing_read (length s)) (Some f.values) → LineOf (rows_of form) s (answer_of f (length s))
+    by (bad_number vs o h n) = rw o (wrong_number k vs short (matches h) (rw same_row (λ e. let z = n e in absurd (cc))))
+    by (bad_data vs z o h n m) = rw o (wrong_data k vs short (matches h) (rw same_row n) (rw same_row m))
+    by (fine ns bs z o g t q e) =
+        let c : length ns ≤ number_count = omega (arith, given_count (form_of f.row) ns bs g, known.room) in
         let n : numbered f.values.number ≡ numbered ns = rw q (numbers_read number_count ns c) in
         let st : f.values.start ≡ length s - length (hex bs) = omega (arith, e) in
         rw o
@@ -87,32 +94,16 @@ module _ (form : ℕ) (s : List ℕ) (short : length s ≤ 200) where
           answer = rw (same_row, n, st);
         }))
 
-  pub answer_line_lem : (f : Found) → FoundIn s (from_of form) (to_of form) f → LineOf (rows_of form) s (answer_of f (length s))
-  answer_line_lem f (nowhere e n) = rw e (no_form short (none_listed n))
-  answer_line_lem f (here a b d x) = found_answer f a b (outcome_of s (form_of f.row) f.values (entry_at f.row (omega (arith, (ranged form).high))).shape d) x
-
--- a row that was found is one of the table's
-pub row_found : (s : List ℕ) (from to : ℕ) (f : Found) → to ≤ row_count → FoundIn s from to f → RowFound f
-row_found s from to f h (nowhere e n) z = absurd (omega (arith, e, z))
-row_found s from to f h (here a b d x) z = omega arith
+    pub found_answer : LineOf (rows_of form) s (answer_of f (length s))
+    found_answer = by (outcome_of s (form_of f.row) (Some f.values) known.shape x.2)
 
 -- ---- which row was found
 
--- where the only row that the line may have is not one of a part of the table, no row of the part has it
-pub none_there : (s : List ℕ) (from to row : ℕ) → to ≤ row_count → RowAt (line_tag s) row → (from ≤ row → row < to → ⊥) → (k : ℕ) → from ≤ k → k < to → Fails s (form_of k)
-none_there s from to row h o n k a b vs f =
+-- where the only row that the line may have is not one of these rows, or the line fails there, no row of them has it
+pub none_there : (s : List ℕ) (rows : Range ℕ) (row : ℕ) → rows.end ≤ row_count → RowAt (line_tag s) row → (rows.start ≤ row → row < rows.end → Reads s (form_of row) s None) → FoundIn s rows None
+none_there s rows row h o n k a b vs f =
     let e : k ≡ row = o k (omega arith) (same_tag k s vs (omega arith) f).1 in
-    n (omega arith) (omega arith)
+    fails_of s (form_of row) (entry_at row (omega arith)).shape (n (omega arith) (omega arith)) vs (subst (λ (m : ℕ). Has s (form_of m) vs) e f)
 
-pub none_short : (s : List ℕ) (from to : ℕ) → to ≤ row_count → length s < 8 → (k : ℕ) → from ≤ k → k < to → Fails s (form_of k)
-none_short s from to h l k a b vs f = omega (arith, (same_tag k s vs (omega arith) f).0)
-
-pub found_by :
-    (s : List ℕ) (from to : ℕ) (f : Found) → to ≤ row_count → RowAt (line_tag s) f.row → from ≤ f.row → f.row < to
-    → Scans s (form_of f.row) 0 (nothing_read s) f.values → FoundIn s from to f
-found_by s from to f h o a b d = ⊎_elim (λ e. nowhere e (fail e)) (here a b d) (same_number f.values.fault 11)
-  where
-    fail : f.values.fault ≡ 11 → (k : ℕ) → from ≤ k → k < to → Fails s (form_of k)
-    fail e k x y vs g =
-        let i : k ≡ f.row = o k (omega arith) (same_tag k s vs (omega arith) g).1 in
-        fails_of s (form_of f.row) f.values (entry_at f.row (omega arith)).shape d e vs (subst (λ (m : ℕ). Has s (form_of m) vs) i g)
+pub none_short : (s : List ℕ) (rows : Range ℕ) → rows.end ≤ row_count → length s < 8 → FoundIn s rows None
+none_short s rows h l k a b vs f = omega (arith, (same_tag k s vs (omega arith) f).0)

@@ -7,7 +7,8 @@ use Rattle.spelling.specs.{Bytes.{All, Byte, up_to}, Decimal.{decimal, greatest}
 use Rattle.spelling.proofs.{DecimalLaws.decimal_injective, HexLaws.hex_injective, Texts.{decimal_without, hex_without}}
 use Rattle.grammar.specs.Form.{Part, fixed, value, Value, number, pairs, Each, NoBlank, Has, RightNumber, RightData, Given, spellings, spell}
 use Rattle.grammar.specs.{Table.{Row, row_at}, Line.{said, Matches, NumbersRight, DataRight, LineOf, too_long, no_form, wrong_number, wrong_data, spelt}}
-use Rattle.grammar.specs.declared.Line.{Line, TheVariants.Refused}
+use Rattle.std.specs.Prelude.{Result, Ok, Err}
+use Rattle.grammar.specs.declared.{Line.Line, Refusal.{Refusal, TheVariants.{TooLong, NoForm, NotNumber, NotData}}}
 use Rattle.grammar.proofs.Fit.{Shaped, edge_after, shaped_after, byte_only, value_only}
 
 -- ---- the values of a line are determined by its form
@@ -71,18 +72,18 @@ spellings_injective (value pairs ∷ p) ns ms bs cs h g k e =
 
 module _ (rows : List Row) (shapes : (k : ℕ) → k < length rows → Shaped (row_at rows k).form) (apart : (s : List ℕ) (j k : ℕ) (vs ws : List (List ℕ)) → Matches rows s j vs → Matches rows s k ws → j ≡ k) where
   -- what the answer b makes of a line with the form of row k and the values vs
-  data Judged (s : List ℕ) (k : ℕ) (vs : List (List ℕ)) (b : Line) : Type 0 where
-    number_wrong : b ≡ Refused 12 → (NumbersRight rows k vs → ⊥) → Judged s k vs b
-    data_wrong : b ≡ Refused 13 → NumbersRight rows k vs → (DataRight rows k vs → ⊥) → Judged s k vs b
-    right : (ns bs : List ℕ) → Given (row_at rows k).form ns bs → vs ≡ spellings (row_at rows k).form ns bs → b ≡ said ((row_at rows k).says (λ i. get_or ns i 0)) (length s - length (hex bs)) (length s) → Judged s k vs b
+  data Judged (s : List ℕ) (k : ℕ) (vs : List (List ℕ)) (b : Result Line Refusal) : Type 0 where
+    number_wrong : b ≡ Err NotNumber → (NumbersRight rows k vs → ⊥) → Judged s k vs b
+    data_wrong : b ≡ Err NotData → NumbersRight rows k vs → (DataRight rows k vs → ⊥) → Judged s k vs b
+    right : (ns bs : List ℕ) → Given (row_at rows k).form ns bs → vs ≡ spellings (row_at rows k).form ns bs → b ≡ Ok (said ((row_at rows k).says (λ i. get_or ns i 0)) (length s - length (hex bs)) (length s)) → Judged s k vs b
 
   -- an answer, seen by whether a row has the line
-  data View (s : List ℕ) (b : Line) : Type 0 where
-    long : 200 < length s → b ≡ Refused 10 → View s b
-    none : length s ≤ 200 → ((k : ℕ) (vs : List (List ℕ)) → Matches rows s k vs → ⊥) → b ≡ Refused 11 → View s b
+  data View (s : List ℕ) (b : Result Line Refusal) : Type 0 where
+    long : 200 < length s → b ≡ Err TooLong → View s b
+    none : length s ≤ 200 → ((k : ℕ) (vs : List (List ℕ)) → Matches rows s k vs → ⊥) → b ≡ Err NoForm → View s b
     some : length s ≤ 200 → (k : ℕ) (vs : List (List ℕ)) → Matches rows s k vs → Judged s k vs b → View s b
 
-  view : {s : List ℕ} {b : Line} → LineOf rows s b → View s b
+  view : {s : List ℕ} {b : Result Line Refusal} → LineOf rows s b → View s b
   view (too_long l) = long (omega (arith, l)) refl
   view (no_form l n) = none l n refl
   view (wrong_number k vs l f n) = some l k vs f (number_wrong refl n)
@@ -91,9 +92,9 @@ module _ (rows : List Row) (shapes : (k : ℕ) → k < length rows → Shaped (r
       let p = (row_at rows x.k).form in
       let h = shapes x.k x.listed in
       some l x.k (spellings p x.numbers x.bytes) (record { listed = x.listed; has = subst (λ (t : List ℕ). Has t p (spellings p x.numbers x.bytes)) (sym x.same) (spelt_has p x.numbers x.bytes h x.given) })
-      (right x.numbers x.bytes x.given refl x.answer)
+      (right x.numbers x.bytes x.given refl (ap Ok x.answer))
 
-  judged_same : {s : List ℕ} {k : ℕ} {vs : List (List ℕ)} {a b : Line} → Shaped (row_at rows k).form → Judged s k vs a → Judged s k vs b → a ≡ b
+  judged_same : {s : List ℕ} {k : ℕ} {vs : List (List ℕ)} {a b : Result Line Refusal} → Shaped (row_at rows k).form → Judged s k vs a → Judged s k vs b → a ≡ b
   judged_same h (number_wrong e n) (number_wrong f m) = e ∙ sym f
   judged_same h (number_wrong e n) (data_wrong f m d) = absurd (n m)
   judged_same h (number_wrong e n) (right ns bs g v f) = absurd (n (rw v (spelt_numbers _ ns bs h g)))
@@ -106,7 +107,7 @@ module _ (rows : List Row) (shapes : (k : ℕ) → k < length rows → Shaped (r
       let r = spellings_injective (row_at rows k).form ns ms bs cs h g i (sym v ∙ w) in
       e ∙ rw (r.0, r.1) (sym f)
 
-  view_same : {s : List ℕ} {a b : Line} → View s a → View s b → a ≡ b
+  view_same : {s : List ℕ} {a b : Result Line Refusal} → View s a → View s b → a ≡ b
   view_same (long l e) (long m f) = e ∙ sym f
   view_same (long l e) (none m n f) = absurd (omega arith)
   view_same (long l e) (some m k vs f j) = absurd (omega arith)
@@ -121,5 +122,5 @@ module _ (rows : List Row) (shapes : (k : ℕ) → k < length rows → Shaped (r
       let u : ws ≡ vs = values_unique (row_at rows k).form s ws vs (shapes k f.listed) g'.has f.has in
       judged_same (shapes k f.listed) j (subst (λ (x : List (List ℕ)). Judged s k x b) u (subst (λ (x : ℕ). Judged s x ws b) e o))
 
-  pub same_answer : (s : List ℕ) (a b : Line) → LineOf rows s a → LineOf rows s b → a ≡ b
+  pub same_answer : (s : List ℕ) (a b : Result Line Refusal) → LineOf rows s a → LineOf rows s b → a ≡ b
   same_answer s a b x y = view_same (view x) (view y)

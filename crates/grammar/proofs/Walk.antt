@@ -1,107 +1,72 @@
--- A line read against a form, a text and a value at a time: what holds before each key, and that each key keeps it. Assumes nothing.
-use Prim.Native.Nat.{ℕ, zero, suc, ◌+◌, ◌/◌, ◌%◌, ◌≤◌, ◌<◌, ◌-◌, suc-le-suc}
-use mathlib.Core.{Path.{◌≡◌, refl, subst}, List.{List, [], ◌∷◌}, Logic.⊎_elim}
-use native.Mathlib.{Omega.arith, Nat.{add-zero, le_of_suc-le-suc}}
-use lib.ListN.{length, get_or, take, drop}
-use Rattle.spelling.{specs.Bytes.Below, proofs.{Decide.{Told, at_most_lem, told_both, same_number}, Split.{up_to_within, up_to_part}}}
-use Rattle.grammar.specs.{Form.{Part, value, Value, number, pairs}, Table.number_count}
-use Rattle.grammar.specs.Scan.{value_at, texted, key_text, key_value, field_parts, TextAt, After, there, elsewhere, Filled, ValueRead, Scans}
-use Rattle.grammar.specs.{Scan.{right, wrong, ended, longer, same, other, a_value, nothing_read}, declared.Values.Values}
+-- A line read against a form, a text and a key at a time. Assumes nothing.
+use Prim.Native.Nat.{ℕ, suc, ◌+◌, ◌≤◌, ◌<◌, ◌-◌}
+use mathlib.Core.{Path.{◌≡◌, refl, sym, ap, ap₂, subst}, List.{List, [], ◌∷◌, ◌++◌}, Logic.⊎_elim}
+use native.Mathlib.{Omega.arith, Numerals.add-one}
+use lib.{ListN.{length, get_or, take, drop, length-append, length-drop, drop_of_length-le}, Seq.{drop-cons, drop-drop}}
+use Rattle.std.specs.Prelude.{Option, Some, None}
+use Rattle.spelling.{specs.Bytes.up_to, proofs.{Decide.same_number, Split.{up_to_within, up_to_part}}}
+use Rattle.grammar.specs.Form.{Part, fixed}
+use Rattle.grammar.specs.Scan.{after_value, texted, key_text, key_value, field_parts, After, ValueRead, Scans, ended, longer, same, other, a_value, Reads}
+use Rattle.grammar.specs.declared.{Values.Values, Key.{Key, TheVariants.Core}}
 
 -- ---- a text
 
-module _ (s : List ℕ) (b : ℕ) (t : List ℕ) (at : ℕ) where
-  first_byte : TextAt s at (b ∷ t) → get_or s at 0 ≡ b
-  first_byte h = subst (λ (m : ℕ). get_or s m 0 ≡ b) (add-zero at) (h.1 0 (omega arith))
-
-  rest_text : TextAt s at (b ∷ t) → TextAt s (at + 1) t
-  rest_text h =
-      (omega (arith, h.0), λ k l. let e : at + suc k ≡ at + 1 + k = omega arith in subst (λ (m : ℕ). get_or s m 0 ≡ get_or t k 0) e (h.1 (suc k) (suc-le-suc l)))
-
-  whole_text : at < length s → get_or s at 0 ≡ b → TextAt s (at + 1) t → TextAt s at (b ∷ t)
-  whole_text l e h = (omega (arith, h.0), go)
-    where
-      go : Below (suc (length t)) (λ k. get_or s (at + k) 0 ≡ get_or (b ∷ t) k 0)
-      go zero m = rw (add-zero at) e
-      go (suc k) m = let x : at + 1 + k ≡ at + suc k = omega arith in subst (λ (n : ℕ). get_or s n 0 ≡ get_or t k 0) x (h.1 k (le_of_suc-le-suc m))
-
--- whether a byte is in the line at an offset
-unfoldable pub byte_told : (s : List ℕ) (at b : ℕ) → Told ((at < length s) × (get_or s at 0 ≡ b))
-unfolding at_most_lem same_number
-byte_told s at b = told_both (at_most_lem (suc at) (length s)) (same_number (get_or s at 0) b)
-
 -- a text that is there, and what is read after it
-pub text_read : (s t : List ℕ) (p : List Part) (at : ℕ) (v r : Values) → TextAt s at t → Scans s p (at + length t) v r → Scans s (texted t p) at v r
-text_read s [] p at v r h d = subst (λ (m : ℕ). Scans s p m v r) (add-zero at) d
-text_read s (b ∷ t) p at v r h d =
-    let e : at + suc (length t) ≡ at + 1 + length t = omega arith in
-    same {at = at} (omega (arith, h.0)) (first_byte s b t at h) (text_read s t p (at + 1) v r (rest_text s b t at h) (subst (λ (m : ℕ). Scans s p m v r) e d))
+pub text_read : {n i : ℕ} {p : List Part} {v : Values} {r : Option Values} (t u : List ℕ) → Scans n p u i v r → Scans n (texted t p) (t ++ u) i v r
+text_read [] u d = d
+text_read (b ∷ t) u d = same (text_read t u d)
 
 -- a text that is not there
-pub text_missing : (s t : List ℕ) (p : List Part) (at : ℕ) (v r : Values) → at ≤ length s → (TextAt s at t → ⊥) → r.fault ≡ 11 → Scans s (texted t p) at v r
-text_missing s [] p at v r h n f = absurd (n (omega arith, λ k l. absurd (omega arith)))
-text_missing s (b ∷ t) p at v r h n f =
-    ⊎_elim (λ (l, e). same l e (text_missing s t p (at + 1) v r (omega arith) (λ x. n (whole_text s b t at l e x)) f)) (λ x. other (λ l e. x (l, e)) f) (byte_told s at b)
-
--- a kind, and the keys after it
-pub kind_read : (s t : List ℕ) (p : List Part) (head : ℕ) (r : Values) → 0 < length t → After s 0 t head → Filled s head p r → Scans s (texted t p) 0 (nothing_read s) r
-kind_read s t p head r l (elsewhere x z) f = text_missing s t p 0 (nothing_read s) r (omega arith) x (f.other_kind z)
-kind_read s t p head r l (there x z) f = text_read s t p 0 (nothing_read s) r x (subst (λ (m : ℕ). Scans s p m (nothing_read s) r) z (f.its_kind (λ e. omega arith)))
-
-pub after_within : (s t : List ℕ) (at r : ℕ) → After s at t r → r ≤ length s
-after_within s t at r (elsewhere x z) = omega arith
-after_within s t at r (there x z) = omega (arith, x.0)
+pub text_missing : {n i : ℕ} {v : Values} (p : List Part) (t s : List ℕ) → ((u : List ℕ) → s ≡ t ++ u → ⊥) → Scans n (texted t p) s i v None
+text_missing p [] s h = absurd (h s refl)
+text_missing p (b ∷ t) [] h = other (λ u e. (cc))
+text_missing {n} {i} {v} p (b ∷ t) (c ∷ s) h =
+    ⊎_elim
+    (λ e. subst (λ (x : ℕ). Scans n (fixed b ∷ texted t p) (x ∷ s) i v None) (sym e) (same (text_missing p t s (λ u f. h u (ap₂ (λ (x : ℕ) (l : List ℕ). x ∷ l) e f)))))
+    (λ x. other (λ u f. x (cc))) (same_number c b)
 
 -- ---- a key and its value
 
--- before the last n keys, whose numbers are the digits of k, with the values v read: what they give, the whole gives
-pub record State (s : List ℕ) (head : ℕ) (whole : List Part) (v : Values) (at n k : ℕ) : Type 0 where
-  pub begun : 0 < at
+-- where a text ends that is in the line at an offset
+pub after_within : (s t : List ℕ) (at a : ℕ) → at ≤ length s → After s at t (Some a) → a ≤ length s
+after_within s t at a h x = omega (arith, simp (length-append, length-drop) at (ap length x.0), x.1)
+
+module _ (s : List ℕ) (at a e i : ℕ) (k : Key) (ks : List Key) (v w : Values) where
+  pub key_read :
+      at ≤ length s → After s at (key_text k) (Some a) → e ≡ a + length (up_to 32 (drop a s)) → ValueRead v i a (take (e - a) (drop a s)) (key_value k) w
+      → (r : Option Values) → Scans (length s) (field_parts ks) (drop e s) (suc i) w r → Scans (length s) (field_parts (k ∷ ks)) (drop at s) i v r
+  key_read h x q d r t =
+      let l : a ≤ length s = after_within s (key_text k) at a h x in
+      let f : a ≡ length s - length (drop a s) = simp length-drop (omega arith) in
+      let u : drop e s ≡ after_value (drop a s) = rw q (sym (drop-drop (length (up_to 32 (drop a s))) a s)) in
+      rw x.0
+      (text_read (key_text k) (drop a s)
+      (a_value (subst (λ (m : ℕ). ValueRead v i m (up_to 32 (drop a s)) (key_value k) w) f (subst (λ (y : List ℕ). ValueRead v i a y (key_value k) w) (up_to_part 32 s a e q) d))
+      (subst (λ (y : List ℕ). Scans (length s) (field_parts ks) y (suc i) w r) u t)))
+
+-- before the keys from the i-th on, with the values v read: what they give, the whole gives
+pub record State (s : List ℕ) (head : ℕ) (keys : List Key) (v : Values) (at i : ℕ) : Type 0 where
   pub within : at ≤ length s
-  pub room : v.count + n ≤ number_count
-  pub goes : (r : Values) → Scans s (field_parts n k) at v r → Scans s whole head (nothing_read s) r
+  pub goes : (r : Option Values) → Scans (length s) (field_parts (drop i keys)) (drop at s) i v r → Reads s (field_parts keys) (drop head s) r
 
--- a value adds one number at most
-counted : (s : List ℕ) (at : ℕ) (v w : Values) (q : Value) → ValueRead q v s at w → w.count ≤ v.count + 1
-counted s at v w number (right n l q u) = rw u (omega arith)
-counted s at v w number (wrong q u) = rw u (omega arith)
-counted s at v w pairs (right q u) = rw u (omega arith)
-counted s at v w pairs (wrong q u) = rw u (omega arith)
-
-next_field : (n k : ℕ) → 0 < n → field_parts n k ≡ texted (key_text (k % 16)) (value (key_value (k % 16)) ∷ field_parts (n - 1) (k / 16))
-unfolding field_parts
-next_field zero k h = absurd (omega arith)
-next_field (suc n) k h = let e : suc n - 1 ≡ n = omega arith in rw e
-
-no_field : (n k : ℕ) → n ≤ 0 → field_parts n k ≡ []
-unfolding field_parts
-no_field zero k h = refl
-no_field (suc n) k h = absurd (omega arith)
-
-module _ (s : List ℕ) (head : ℕ) (whole : List Part) (v : Values) (at n k : ℕ) (i : State s head whole v at n k) where
-  pub step_field :
-      (a e : ℕ) (w : Values) → 0 < n → After s at (key_text (k % 16)) a → (a ≡ 0 → ⊥) → e ≡ a + length (value_at s a) → ValueRead (key_value (k % 16)) v (take (e - a) (drop a s)) a w
-      → State s head whole w e (n - 1) (k / 16)
-  step_field a e w h (elsewhere x z) y q d = absurd (y z)
-  step_field a e w h (there x z) y q d =
-      let c = counted (take (e - a) (drop a s)) a v w (key_value (k % 16)) d in
+module _ (s : List ℕ) (head : ℕ) (keys : List Key) (v : Values) (at i : ℕ) (st : State s head keys v at i) where
+  -- the next key is there
+  pub key_there :
+      (a e : ℕ) (w : Values) → i < length keys → After s at (key_text (get_or keys i Core)) (Some a) → e ≡ a + length (up_to 32 (drop a s))
+      → ValueRead v i a (take (e - a) (drop a s)) (key_value (get_or keys i Core)) w → State s head keys w e (i + 1)
+  key_there a e w h x q d =
       record {
-        begun = omega arith;
-        within = omega (arith, up_to_within 32 s a (omega (arith, x.0)));
-        room = omega (arith, i.room);
-        goes = λ r t. i.goes r
-            (rw (next_field n k h)
-            (text_read s (key_text (k % 16)) _ at v r x
-            (subst (λ (m : ℕ). Scans s (value (key_value (k % 16)) ∷ field_parts (n - 1) (k / 16)) m v r) z
-            (a_value (subst (λ (l : List ℕ). ValueRead (key_value (k % 16)) v l a w) (up_to_part 32 s a e q) d) (rw q at t)))));
+        within = rw q (up_to_within 32 s a (after_within s _ at a st.within x));
+        goes = λ r t. st.goes r (rw (drop-cons keys i Core h) (key_read s at a e i (get_or keys i Core) (drop (suc i) keys) v w st.within x q d r (rw (← add-one i) t)));
       }
 
-  pub stop_field : (a : ℕ) (r : Values) → 0 < n → After s at (key_text (k % 16)) a → a ≡ 0 → r.fault ≡ 11 → Scans s whole head (nothing_read s) r
-  stop_field a r h (elsewhere x z) y f = i.goes r (rw (next_field n k h) (text_missing s (key_text (k % 16)) _ at v r i.within x f))
-  stop_field a r h (there x z) y f = absurd (omega (arith, i.begun))
+  -- or another text is
+  pub key_missing : i < length keys → After s at (key_text (get_or keys i Core)) None → Reads s (field_parts keys) (drop head s) None
+  key_missing h x = st.goes None (rw (drop-cons keys i Core h) (text_missing _ (key_text (get_or keys i Core)) (drop at s) x))
 
-  pub stop_long : (r : Values) → n ≤ 0 → at < length s → r.fault ≡ 11 → Scans s whole head (nothing_read s) r
-  stop_long r h l f = i.goes r (rw (no_field n k h) (longer l f))
+  -- the line goes on after the last key
+  pub more_there : length keys ≤ i → at < length s → Reads s (field_parts keys) (drop head s) None
+  more_there h l = st.goes None (rw (drop_of_length-le keys h, drop-cons s at 0 l) longer)
 
-  pub stop_end : n ≤ 0 → length s ≤ at → Scans s whole head (nothing_read s) v
-  stop_end h l = i.goes v (rw (no_field n k h) (ended {at = at} (omega (arith, i.within))))
+  pub no_more : length keys ≤ i → length s ≤ at → Reads s (field_parts keys) (drop head s) (Some v)
+  no_more h l = st.goes (Some v) (rw (drop_of_length-le keys h, drop_of_length-le s l) ended)

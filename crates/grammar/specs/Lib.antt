@@ -1,4 +1,5 @@
 pub mod Form
+pub mod Refusal
 pub mod Table
 pub mod Line
 pub mod Scan

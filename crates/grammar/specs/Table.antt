@@ -1,6 +1,6 @@
 -- The grammar of 01, "Journal and driver": the first line and the step lines; and of 02, Two and Four, the form `fabric=2`. Assumes nothing.
 use Prim.Native.{Nat.{ℕ, zero, suc, ◌+◌}, String.String}
-use Rattle.std.specs.Prelude.{List, [], ◌∷◌, ◌++◌, get_or}
+use Rattle.std.specs.{Prelude.{List, [], ◌∷◌, ◌++◌, get_or}, declared.ops.Range.Range}
 use Rattle.spelling.specs.Text.{text}
 use Rattle.protocol.specs.declared.{Opening.Opening as Sizes, Given.TheVariants.Digits}
 use Rattle.protocol.specs.declared.Call.{Call, TheVariants.{Load, Store, Fence, Evict, Drop, Writeback, Advance, Serve, Receive, Yield, Take, Victim}}
@@ -107,8 +107,7 @@ row_at rows k = get_or rows k no_row
 abbrev pub table : List Row
 table = evict_step ++ steps ++ second_steps ++ openings
 
--- how many numbers a line has at most, where the steps of `fabric=2` alone start, how many of the rows are steps and first lines, and how
--- many forms of journal there are (form 0, where the first line is due, counted)
+-- how many numbers a line has at most, where the steps of `fabric=2` alone start, and how many of the rows are steps and first lines
 abbrev pub number_count : ℕ
 number_count = 5
 
@@ -124,12 +123,9 @@ opening_count = 2
 abbrev pub row_count : ℕ
 row_count = step_count + opening_count
 
-abbrev pub form_count : ℕ
-form_count = 3
-
--- the rows of a form of journal are those from one up to another
-abbrev pub from_of : ℕ → ℕ
-from_of form = get_or (step_count ∷ 0 ∷ 1 ∷ []) form 0
-
-abbrev pub to_of : ℕ → ℕ
-to_of form = get_or (row_count ∷ second_start ∷ step_count ∷ []) form 0
+-- the rows of a form of journal are those from one up to another; no form is known beyond the last
+abbrev pub range_of : ℕ → Range ℕ
+range_of zero = record { start = step_count; end = row_count }
+range_of (suc zero) = record { start = 0; end = second_start }
+range_of (suc (suc zero)) = record { start = 1; end = step_count }
+range_of (suc (suc (suc f))) = record { start = 0; end = 0 }

@@ -3,12 +3,29 @@ use Prim.Native.Nat.{ℕ, ◌+◌}
 use mathlib.Core.{Path.{refl, ◌∙◌, ap, ap₂, subst}, Bool.cond}
 use lib.ListN.{length}
 use Rattle.protocol.specs.{Buffers.Bytes, declared.Counts.Counts}
-use Rattle.spelling.specs.{Over.{has_room, over, PutAt}, declared.Put.TheVariants.{End, Short}}
+use Rattle.spelling.specs.{Over.{has_room, over, PutAt}}
 use Rattle.listing.specs.Record.{tally_text}
 use Rattle.playing.proofs.OneListing.{one_tally_theorem}
-use Rattle.whole.{specs.Theorems.Listed, proofs.OneListed.one_listed_theorem}
+use Rattle.whole.{specs.{Whole.{number_of as number_at_end}, Theorems.Listed, declared.Checked.Checked}, proofs.{Checking.one_check_theorem, OneListed.one_listed_theorem}}
 use Rattle.converting.{specs.Theorems.Left as Converting, proofs.OneConversion.one_conversion_theorem}
-use Rattle.host.specs.Answers.{size_of, number_of, length_or, Left, OneListingForCTheorem, OneTallyForCTheorem, LeftWithLength, OneConversionForCTheorem}
+use Rattle.host.specs.Answers.{size_of, number_of, length_or, LeftWithLine, OneCheckForCTheorem, Left, OneListingForCTheorem, OneTallyForCTheorem, LeftWithLength, OneConversionForCTheorem}
+use Rattle.std.specs.Prelude.{Some, None}
+
+-- what looking a journal over leaves, by its answer
+abbrev checked : Checked → LeftWithLine
+checked x = record { number = number_at_end x.refusal; line = x.line }
+
+pub one_check_for_c_theorem : OneCheckForCTheorem
+one_check_for_c_theorem j =
+    let o = one_check_theorem j in
+    record {
+      answer = checked o.answer;
+      holds = record { refusal = o.answer.refusal; checks = o.holds; number = refl };
+      only =
+          λ b y.
+          ap (λ (n : ℕ). record { number = n; line = b.line }) y.number
+          ∙ ap checked (o.only (record { refusal = y.refusal; line = b.line }) y.checks);
+    }
 
 -- a number and a buffer
 abbrev left : ℕ → Bytes → Left
@@ -32,7 +49,7 @@ one_tally_for_c_theorem j old =
     let t = tally_text o.counts in
     let room = has_room (length old) 0 (length t) in
     record {
-      answer = left (size_of (cond room (End (0 + length t)) Short)) (cond room (over old 0 t) old);
+      answer = left (size_of (cond room (Some (0 + length t)) None)) (cond room (over old 0 t) old);
       holds = record { put = _; counts = o.counts; tally = o.holds; text = record { answer = refl; bytes = refl }; number = refl };
       only =
           λ b y.

@@ -1,19 +1,17 @@
 // What a host simulator calls: lines and whole journals, bytes in, bytes out. The crate `host_c` exports these functions to C, and
 // include/fabric.h declares them.
 //
-// Each one hands its bytes on, to what the programs call too, and says the answer in a number.
+// Each one hands its bytes on, to what the programs call too, and says the answer in a number. Parameters and numbers are those of C.
 #![tactic(auto)]
 
 ghost use Rattle.std.specs.Prelude.{◌≡◌};
-ghost use Rattle.whole.specs.Whole.{Checks};
 ghost use Rattle.convert.specs.declared.To.TheVariants.{First, Second};
-ghost use Rattle.host.specs.{Verdict.Verdict, Answers.{size_of, number_of, length_or, ListsFor, TalliesFor, ConvertsFor}};
+ghost use Rattle.host.specs.{Verdict.Verdict, Answers.{ChecksFor, size_of, number_of, length_or, ListsFor, TalliesFor, ConvertsFor}};
 
-use convert::Converted;
-use spelling::Put;
+use grammar::Refusal;
 
 // What C gets where a text has no room: SIZE_MAX.
-const NO_ROOM: usize = 18446744073709551615;
+const NO_ROOM: usize = usize::MAX;
 
 // 0 for a step line of a `fabric=1` journal, and otherwise its refusal: 10, 11, 12 or 13. The newline is not passed.
 pub fn fabric_check_line(line: &[u8]) -> u32
@@ -25,21 +23,18 @@ pub fn fabric_check_line(line: &[u8]) -> u32
 // 0 for a journal that reads whole, and otherwise the refusal that ends its listing: 7, 10 to 14. `line` is then the number of
 // the last line, or of the one that is refused.
 pub fn fabric_check(journal: &[u8], line: &mut usize) -> u32
-    ensures { Checks journal.now result line.new }
+    ensures { ChecksFor journal.now result line.new }
 {
     let checked = whole::check(journal);
     *line = checked.line;
-    checked.number
+    checked.number()
 }
 
 // Where a text ends, or that it has no room.
-fn size_of(put: Put) -> usize
+fn size_of(put: Option<usize>) -> usize
     ensures { result ≡ size_of put }
 {
-    match put {
-        Put::End(end) => end,
-        Put::Short => NO_ROOM,
-    }
+    put.unwrap_or(NO_ROOM)
 }
 
 // The listing of a journal, at the start of `out`: its length, or SIZE_MAX where it has no room there.
@@ -58,15 +53,15 @@ pub fn fabric_tally(journal: &[u8], out: &mut [u8]) -> usize
 }
 
 // A conversion's answer as a number: 0, with the length of the result in `length`, or its refusal.
-fn answer_of(converted: Converted, length: &mut usize) -> u32
+fn answer_of(converted: Result<usize, Refusal>, length: &mut usize) -> u32
     ensures { (result ≡ number_of converted) × (length.new ≡ length_or converted length.old) }
 {
     match converted {
-        Converted::Length(n) => {
+        Ok(n) => {
             *length = n;
             0
         }
-        Converted::Refused(n) => n,
+        Err(refusal) => u32::from(refusal.number()),
     }
 }
 

@@ -1,9 +1,8 @@
 // What C calls, by the names of include/fabric.h: each function is that of `host`, and promises the same.
 #![tactic(auto)]
 
-ghost use Rattle.whole.specs.Whole.{Checks};
 ghost use Rattle.convert.specs.declared.To.TheVariants.{First, Second};
-ghost use Rattle.host.specs.{Verdict.Verdict, Answers.{ListsFor, TalliesFor, ConvertsFor}};
+ghost use Rattle.host.specs.{Verdict.Verdict, Answers.{ChecksFor, ListsFor, TalliesFor, ConvertsFor}};
 
 // 0 for a step line of a `fabric=1` journal, and otherwise its refusal: 10, 11, 12 or 13. The newline is not passed.
 #[unsafe(no_mangle)]
@@ -17,7 +16,7 @@ pub extern "C" fn fabric_check_line(line: &[u8]) -> u32
 // the last line, or of the one that is refused.
 #[unsafe(no_mangle)]
 pub extern "C" fn fabric_check(journal: &[u8], line: &mut usize) -> u32
-    ensures { Checks journal.now result line.new }
+    ensures { ChecksFor journal.now result line.new }
 {
     host::fabric_check(journal, line)
 }

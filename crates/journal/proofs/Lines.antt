@@ -5,8 +5,9 @@ use native.Mathlib.{Omega.arith, Numerals.add-one}
 use lib.{ListN.{length, get_or, take, drop, length-append, length-drop, drop_of_length-le}, Seq.{drop-cons, drop-drop}}
 use Rattle.protocol.proofs.Tests.{never}
 use Rattle.spelling.{specs.Bytes.{Without, up_to}, proofs.Split.{Edge, up_to_clean, up_to_split, up_to_part}}
-use Rattle.grammar.specs.{Table.rows_of, Line.LineOf, declared.Line.{Line, TheVariants.{Opening as OpeningLine, Step as StepLine, Refused as RefusedLine}}}
-use Rattle.journal.specs.{Journal.{in_journal, LineAt, NextOf, too_much, empty, ended, unended, a_line, goes_on, offset_after}, declared.Next.Next}
+use Rattle.grammar.specs.{Table.rows_of, Line.LineOf, declared.{Line.{Line, TheVariants.{Opening as OpeningLine, Step as StepLine}}, Refusal.Refusal}}
+use Rattle.std.specs.Prelude.{Option, Some, None, Result, Ok, Err}
+use Rattle.journal.specs.{Journal.{Next, in_journal, LineAt, NextOf, too_much, empty, ended, unended, a_line, goes_on, offset_after}, declared.Item.Item}
 
 -- the line from an offset up to a newline at e, or to the end
 module _ (j : List ℕ) (at e : ℕ) (ends : e ≡ at + length (up_to 10 (drop at j))) where
@@ -36,7 +37,7 @@ module _ (j : List ℕ) (at e : ℕ) (ends : e ≡ at + length (up_to 10 (drop a
       subst (Without 10) (sym z) (up_to_clean 10 (drop at j))
 
 -- a line that was read is the answer at its offset
-pub line_answer : (j : List ℕ) (at e form : ℕ) (a : Line) → length j ≤ 65536 → e ≡ at + length (up_to 10 (drop at j)) → e < length j → LineOf (rows_of form) (take (e - at) (drop at j)) a → NextOf j at form (in_journal a at (e + 1))
+pub line_answer : (j : List ℕ) (at e form : ℕ) (a : Result Line Refusal) → length j ≤ 65536 → e ≡ at + length (up_to 10 (drop at j)) → e < length j → LineOf (rows_of form) (take (e - at) (drop at j)) a → NextOf j at form (in_journal a at (e + 1))
 line_answer j at e form a s ends h o = a_line (take (e - at) (drop at j)) (e + 1) s (line_here j at e ends h) o
 
 -- a line lies before the next one, and inside the journal
@@ -49,6 +50,13 @@ line_read (too_much l) g = never (sym g)
 line_read (empty l h e) g = never (sym g)
 line_read (ended l h e) g = never (sym g)
 line_read (unended l h w) g = never (sym g)
-line_read (a_line {a = OpeningLine form sizes} l next s h o) g = (l, h)
-line_read (a_line {a = StepLine call start end} l next s h o) g = (l, h)
-line_read (a_line {a = RefusedLine n} l next s h o) g = never (sym g)
+line_read (a_line {a = Ok (OpeningLine form sizes)} l next s h o) g = (l, h)
+line_read (a_line {a = Ok (StepLine call start end)} l next s h o) g = (l, h)
+line_read (a_line {a = Err refusal} l next s h o) g = never (sym g)
+
+-- what a match on an answer finds: a line, of one kind or the other, or the end
+pub item_found : {j : List ℕ} {at form : ℕ} {o : Option Item} {i k : Item} → NextOf j at form (Ok o) → o ≡ Some i → i ≡ k → NextOf j at form (Ok (Some k))
+item_found {j} {at} {form} x e d = subst (λ (o : Option Item). NextOf j at form (Ok o)) (e ∙ ap Some d) x
+
+pub end_found : {j : List ℕ} {at form : ℕ} {o : Option Item} → NextOf j at form (Ok o) → o ≡ None → NextOf j at form (Ok None)
+end_found {j} {at} {form} x e = subst (λ (o : Option Item). NextOf j at form (Ok o)) e x

@@ -5,9 +5,9 @@ use native.Mathlib.Omega.{arith}
 use lib.{Dec.{leb, eqb}, ListN.{length, drop, length-drop}}
 use borrow.Author.Tests.{le-leb, lt-leb, eq-eqb, ne_eqb}
 use Rattle.spelling.{specs.Bytes.{Without, up_to}, proofs.{Lists.le_or_lt, Decide.{Told, same_number}, Split.up_to_unique}}
-use Rattle.grammar.{specs.{Table.rows_of, Line.LineOf, declared.Line.Line}, proofs.OneAnswer.one_answer_theorem}
-use Rattle.journal.specs.{Journal.{in_journal, LineAt, NextOf, too_much, empty, ended, unended, a_line}, Theorems.OneNextTheorem}
-use Rattle.journal.specs.declared.Next.{Next, TheVariants.{End, Refused}}
+use Rattle.grammar.{specs.{Table.rows_of, Line.LineOf, declared.{Line.Line, Refusal.{Refusal, TheVariants.{TooLong, NoForm, TooMuch}}}}, proofs.OneAnswer.one_answer_theorem}
+use Rattle.journal.specs.{Journal.{Next, in_journal, LineAt, NextOf, too_much, empty, ended, unended, a_line}, Theorems.OneNextTheorem}
+use Rattle.std.specs.Prelude.{None, Result, Ok, Err}
 use Rattle.journal.proofs.Lines.{line_here, none_here, line_inside}
 
 module _ (j : List ℕ) (at form : ℕ) where
@@ -22,9 +22,9 @@ module _ (j : List ℕ) (at form : ℕ) where
   abbrev answer : Next
   answer =
       cond (leb (length j) 65536)
-      (cond (leb (length j) at) (cond (eqb form 0) (Refused 11) End)
-      (cond (leb (length j) end) (Refused 10) (in_journal (one_answer_theorem form line).answer at (end + 1))))
-      (Refused 14)
+      (cond (leb (length j) at) (cond (eqb form 0) (Err NoForm) (Ok None))
+      (cond (leb (length j) end) (Err TooLong) (in_journal (one_answer_theorem form line).answer at (end + 1))))
+      (Err TooMuch)
 
   -- where no newline follows, the line runs to the journal's end
   pub to_the_end : at < length j → Without 10 (drop at j) → length j ≤ end
@@ -48,7 +48,7 @@ module _ (j : List ℕ) (at form : ℕ) where
       let n : next ≡ end + 1 = omega (arith, h.after, ap length e) in
       let x = (one_answer_theorem form line).only a (subst (λ (t : List ℕ). LineOf (rows_of form) t a) (sym e) o) in
       rw (le-leb _ _ s, lt-leb (length j) at (omega (arith, i.0, i.1)), lt-leb (length j) end (omega (arith, i.1)))
-      (ap₂ (λ (c : Line) (k : ℕ). in_journal c at k) x n)
+      (ap₂ (λ (c : Result Line Refusal) (k : ℕ). in_journal c at k) x n)
 
   -- there is one
   some :

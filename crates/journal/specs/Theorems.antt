@@ -3,7 +3,7 @@ use Rattle.std.specs.Prelude.{ℕ, ◌+◌, ◌≤◌}
 use mathlib.Core.{Path.◌≡◌, Bool.true, List.{List, [], ◌∷◌, ◌++◌}}
 use Rattle.std.specs.Prelude.{length, take}
 use Rattle.spelling.specs.{Bytes.Without, One.One}
-use Rattle.journal.specs.{Journal.{NextOf, goes_on, offset_after, form_after}, declared.Next.Next}
+use Rattle.journal.specs.{Journal.{Next, NextOf, goes_on, offset_after, form_after}}
 
 -- each offset of a journal has exactly one answer
 abbrev pub OneNextTheorem : Type 0

@@ -9,12 +9,12 @@
 ghost use Rattle.std.specs.Prelude.{◌≡◌};
 ghost use Rattle.journal.specs.Journal.{NextOf, offset_after, form_after, ReadOf, StepOf};
 
-use grammar::Line;
+use grammar::{Line, Refusal};
 use protocol::{Call, Opening};
 
-// What is at an offset of a journal. `next` is the offset of the line after it.
+// A line at an offset of a journal. `next` is the offset of the line after it.
 #[derive(Clone, Copy)]
-pub enum Next {
+pub enum Item {
     // The first line: the journal's form, and the opening sizes, lease and capacity.
     Opening {
         form: u32,
@@ -28,66 +28,62 @@ pub enum Next {
         end: usize,
         next: usize,
     },
-    // The end of the input.
-    End,
-    // Refused with the scope's number 10 to 14.
-    Refused(u32),
 }
 
-// What is at an offset of a journal of the form given. Form 0 expects the first line.
-pub fn step_at(journal: &[u8], at: usize, form: u32) -> Next
+// What is at an offset of a journal of the form given: a line, the end of the input, or a refusal. Form 0 expects the first line.
+pub fn step_at(journal: &[u8], at: usize, form: u32) -> Result<Option<Item>, Refusal>
     ensures { NextOf journal.now at form result }
 {
     if 65536 < journal.len() {
-        return Next::Refused(14);
+        return Err(Refusal::TooMuch);
     }
     if journal.len() <= at {
         if form == 0 {
-            return Next::Refused(11);
+            return Err(Refusal::NoForm);
         }
-        return Next::End;
+        return Ok(None);
     }
     let e = spelling::run_end(journal, at, b'\n');
     if journal.len() <= e {
-        return Next::Refused(10);
+        return Err(Refusal::TooLong);
     }
-    match grammar::read_line(&journal[at..e], form) {
-        Line::Opening { form, opening } => Next::Opening {
+    let line = grammar::read_line(&journal[at..e], form)?;
+    Ok(Some(match line {
+        Line::Opening { form, opening } => Item::Opening {
             form,
             opening,
             next: e + 1,
         },
-        Line::Step { call, start, end } => Next::Step {
+        Line::Step { call, start, end } => Item::Step {
             call,
             start: at + start,
             end: at + end,
             next: e + 1,
         },
-        Line::Refused(n) => Next::Refused(n),
-    }
+    }))
 }
 
 // The offset after an answer: the next line's; a refusal, or the end, leaves it.
-fn offset_after(at: usize, n: Next) -> usize
+fn offset_after(at: usize, n: Result<Option<Item>, Refusal>) -> usize
     ensures { result ≡ offset_after at n }
 {
     match n {
-        Next::Opening { next, .. } => next,
-        Next::Step { next, .. } => next,
-        Next::End => at,
-        Next::Refused(_) => at,
+        Ok(Some(Item::Opening { next, .. })) => next,
+        Ok(Some(Item::Step { next, .. })) => next,
+        Ok(None) => at,
+        Err(_) => at,
     }
 }
 
 // The form after an answer: the first line names it.
-fn form_after(form: u32, n: Next) -> u32
+fn form_after(form: u32, n: Result<Option<Item>, Refusal>) -> u32
     ensures { result ≡ form_after form n }
 {
     match n {
-        Next::Opening { form: named, .. } => named,
-        Next::Step { .. } => form,
-        Next::End => form,
-        Next::Refused(_) => form,
+        Ok(Some(Item::Opening { form: named, .. })) => named,
+        Ok(Some(Item::Step { .. })) => form,
+        Ok(None) => form,
+        Err(_) => form,
     }
 }
 
@@ -96,7 +92,7 @@ fn form_after(form: u32, n: Next) -> u32
 struct Read {
     at: usize,
     form: u32,
-    next: Next,
+    next: Result<Option<Item>, Refusal>,
 }
 
 // The work of a reader's step, on the slice and the numbers.
@@ -123,7 +119,7 @@ pub struct Reader<'a> {
 #[derive(Clone, Copy)]
 pub struct Step<'a> {
     pub reader: Reader<'a>,
-    pub next: Next,
+    pub next: Result<Option<Item>, Refusal>,
 }
 
 impl<'a> Reader<'a> {

@@ -3,9 +3,10 @@ use Prim.Native.Nat.{ℕ, ◌+◌, ◌-◌, ◌≤◌, ◌<◌}
 use mathlib.Core.{Path.{◌≡◌, refl, ap, ◌∙◌, subst}, Bool.{Bool, true, false}, List.List}
 use native.Mathlib.Omega.{arith}
 use lib.ListN.{length, length-append, length-drop}
-use Rattle.grammar.specs.declared.Line.{Line, TheVariants.{Opening as OpeningLine, Step as StepLine, Refused as RefusedLine}}
-use Rattle.journal.specs.Journal.{in_journal, LineAt, NextOf, too_much, empty, ended, unended, a_line, goes_on, offset_after}
-use Rattle.journal.specs.{Journal.{form_after, StepOf}, Theorems.{Reached, start, on}, declared.{Next.{Next, TheVariants.{Opening, Step, End, Refused}}, Reader.Reader, Step.Step as Reading}}
+use Rattle.std.specs.Prelude.{Some, None, Result, Ok, Err}
+use Rattle.grammar.specs.declared.{Line.{Line, TheVariants.{Opening as OpeningLine, Step as StepLine}}, Refusal.Refusal}
+use Rattle.journal.specs.Journal.{Next, in_journal, LineAt, NextOf, too_much, empty, ended, unended, a_line, goes_on, offset_after}
+use Rattle.journal.specs.{Journal.{form_after, StepOf}, Theorems.{Reached, start, on}, declared.{Item.TheVariants.{Opening, Step}, Reader.Reader, Step.Step as Reading}}
 use Rattle.lines.specs.{Count.CountsLines}
 
 stopped : {A : Type 0} → false ≡ true → A
@@ -18,10 +19,10 @@ Onward j at next = (at < next) × (next ≤ length j)
 line_onward : (j : List ℕ) (at : ℕ) (l : List ℕ) (next : ℕ) → LineAt j at l next → Onward j at next
 line_onward j at l next h = (omega (arith, h.after), omega (arith, h.after, simp (length-append, length-drop) at (ap length h.whole)))
 
-placed_onward : (j : List ℕ) (at next : ℕ) (a : Line) → Onward j at next → goes_on (in_journal a at next) ≡ true → Onward j at (offset_after at (in_journal a at next))
-placed_onward j at next (OpeningLine form sizes) h g = h
-placed_onward j at next (StepLine call x y) h g = h
-placed_onward j at next (RefusedLine n) h g = stopped g
+placed_onward : (j : List ℕ) (at next : ℕ) (a : Result Line Refusal) → Onward j at next → goes_on (in_journal a at next) ≡ true → Onward j at (offset_after at (in_journal a at next))
+placed_onward j at next (Ok (OpeningLine form sizes)) h g = h
+placed_onward j at next (Ok (StepLine call x y)) h g = h
+placed_onward j at next (Err r) h g = stopped g
 
 pub onward : {j : List ℕ} {at form : ℕ} {n : Next} → NextOf j at form n → goes_on n ≡ true → Onward j at (offset_after at n)
 onward (too_much l) g = stopped g
@@ -48,10 +49,10 @@ left j at n = length j - at + one_more (goes_on n)
 
 -- what is found next leaves less to read
 left_less : {j : List ℕ} {at form : ℕ} (n : Next) → NextOf j at form n → left j (offset_after at n) n < length j - at + 1
-left_less (Opening form o next) x = let h = onward x refl in omega (arith, h.0, h.1)
-left_less (Step call from to next) x = let h = onward x refl in omega (arith, h.0, h.1)
-left_less End x = omega arith
-left_less (Refused n) x = omega arith
+left_less (Ok (Some (Opening form o next))) x = let h = onward x refl in omega (arith, h.0, h.1)
+left_less (Ok (Some (Step call from to next))) x = let h = onward x refl in omega (arith, h.0, h.1)
+left_less (Ok None) x = omega arith
+left_less (Err r) x = omega arith
 
 -- so many lines were read on from the start, and the reader is past what was found there
 pub record Counted (j : List ℕ) (lines : ℕ) (s : Reading) : Type 0 where

@@ -7,36 +7,32 @@ ghost use Rattle.std.specs.Prelude.{◌≡◌, ◌≤◌, length};
 ghost use Rattle.journal.specs.Journal.{goes_on};
 ghost use Rattle.lines.specs.Count.{CountsLines};
 
-use journal::{Next, Reader};
+use grammar::Refusal;
+use journal::{Item, Reader};
 use std::io::Read;
 
 // How many lines were read, and what is after them: the end, or a refusal.
 #[derive(Clone, Copy)]
 struct LineCount {
     lines: usize,
-    last: Next,
+    last: Result<Option<Item>, Refusal>,
 }
 
 // Whether reading goes on after an answer.
-fn goes_on(n: Next) -> bool
+fn goes_on(n: Result<Option<Item>, Refusal>) -> bool
     ensures { result ≡ goes_on n }
 {
-    match n {
-        Next::Opening { .. } => true,
-        Next::Step { .. } => true,
-        Next::End => false,
-        Next::Refused(_) => false,
-    }
+    matches!(n, Ok(Some(_)))
 }
 
 // A whole journal, by a reader from its start: each step is that of the reader that the one before returned.
 fn count_lines(journal: &[u8]) -> LineCount
     ensures { CountsLines journal.now result }
 {
-    let mut lines: usize = 0;
+    let mut lines = 0;
     let mut s = Reader::new(journal).next();
     while goes_on(s.next) {
-        lines = lines + 1;
+        lines += 1;
         s = s.reader.next();
     }
     LineCount {
@@ -46,17 +42,13 @@ fn count_lines(journal: &[u8]) -> LineCount
 }
 
 // Reads a journal to its end, or to a read that fails: how many bytes it has. One byte more than the longest journal that is taken suffices
-// to tell one that is too long.
+// to tell one that is too long. It is not `runner::read_input`, which answers an error where a read fails, and not what was read before.
 fn read_journal<R: Read>(input: &mut R, journal: &mut [u8; 65537]) -> usize
     ensures { result ≤ length journal.new }
 {
     let mut done = 0;
-    while done < journal.len() {
-        match input.read(&mut journal[done..]) {
-            Ok(0) => break,
-            Ok(n) => done += n,
-            Err(_) => break,
-        }
+    while let Ok(n @ 1..) = input.read(&mut journal[done..]) {
+        done += n;
     }
     done
 }
@@ -68,9 +60,10 @@ fn main(rt: HostRuntime) {
     let t = count_lines(&journal[..n]);
     let lines = t.lines;
     let _ = match t.last {
-        Next::Refused(number) => println!(rt; "lines={lines} refused={number}"),
-        Next::End => println!(rt; "lines={lines}"),
-        Next::Opening { .. } => println!(rt; "lines={lines}"),
-        Next::Step { .. } => println!(rt; "lines={lines}"),
+        Ok(_) => println!(rt; "lines={lines}"),
+        Err(refusal) => {
+            let number = refusal.number();
+            println!(rt; "lines={lines} refused={number}")
+        }
     };
 }

@@ -7,7 +7,7 @@ use Rattle.protocol.specs.declared.{Place.Place, Name.{Name, TheVariants.{Open, 
 use Rattle.protocol.specs.declared.{Counts.Counts, Answer.{Answer, TheVariants.{Refused, Done, Commit}}, Kind.TheVariants.{Load, Store, Fence}}
 use Rattle.protocol.specs.Step.{meaning}
 use Rattle.spelling.proofs.{DecimalLaws.decimal_short, HexLaws.hex_length}
-use Rattle.listing.specs.{Record.{name_text, record_as, record_text, end_text, tally_text}, Back.done_end}
+use Rattle.listing.specs.{Record.{name_text, record_as, record_text, end_text, tally_text}}
 
 name_length : (d : Name) → length (name_text d) ≤ 32
 name_length Open = omega arith
@@ -23,9 +23,6 @@ name_length Advance = omega arith
 name_length Yield = omega arith
 name_length Take = omega arith
 name_length (Victim l) = omega (arith, decimal_short l)
-
-pub done_length : (d : Name) → length (done_end d) ≤ 39
-done_length d = simp length-append (omega (arith, name_length d))
 
 -- a record has at most 118 bytes beside its data
 pub record_length : (p : Place) (a : Answer) (bytes : List ℕ) → length (record_text p (meaning a bytes)) ≤ 118 + 2 * length bytes

@@ -4,7 +4,8 @@ use mathlib.Core.{Path.{◌≡◌, refl, sym, ◌∙◌, ap₂, subst}, List.{Li
 use native.Mathlib.Omega.{arith}
 use lib.ListN.{length}
 use Rattle.protocol.specs.{Buffers.Bytes, Run.Entry, declared.Call.Call}
-use Rattle.journal.{specs.{Journal.NextOf, declared.Next.{Next, TheVariants.{Opening, Step, End, Refused}}}, proofs.OneNext.one_next_theorem}
+use Rattle.std.specs.Prelude.{Some, None, Ok, Err}
+use Rattle.journal.{specs.{Journal.{Next, NextOf}, declared.Item.TheVariants.{Opening, Step}}, proofs.OneNext.one_next_theorem}
 use Rattle.driver.{specs.Listing.{Ending, entry_at, Between, no_line, a_line, EndsAt, at_end, at_refusal}, proofs.Reading.known}
 use Rattle.playing.specs.{Listing.ReadAs, Theorems.{OneReading, OneReadingTheorem}}
 
@@ -20,8 +21,8 @@ pub record SameStep (g g' : Entry) (n n' : ℕ) : Type 0 where
   pub next : n' ≡ n
 
 pub step_same :
-    {j : Bytes} {at form : ℕ} {call call' : Call} {start end next start' end' next' : ℕ} → NextOf j at form (Step call start end next)
-    → NextOf j at form (Step call' start' end' next') → SameStep (entry_at j call start end) (entry_at j call' start' end') next next'
+    {j : Bytes} {at form : ℕ} {call call' : Call} {start end next start' end' next' : ℕ} → NextOf j at form (Ok (Some (Step call start end next)))
+    → NextOf j at form (Ok (Some (Step call' start' end' next'))) → SameStep (entry_at j call start end) (entry_at j call' start' end') next next'
 step_same {j} {call = c} {call' = c'} {start = p} {end = q} {start' = p'} {end' = q'} x y =
     let s = same_next x y in
     let ec : c' ≡ c = cc in
@@ -36,7 +37,7 @@ ends_same (at_end x) (at_refusal y) = absurd (let s = same_next x y in let z : �
 ends_same (at_refusal x) (at_end y) = absurd (let s = same_next x y in let z : ◌≡◌ {A = ℕ} 0 1 = cc in omega arith)
 ends_same (at_refusal x) (at_refusal y) = let s = same_next x y in cc
 
-pub no_end : {j : Bytes} {form at : ℕ} {e : Ending} {call : Call} {start end next : ℕ} → NextOf j at form (Step call start end next) → EndsAt j form at e → ⊥
+pub no_end : {j : Bytes} {form at : ℕ} {e : Ending} {call : Call} {start end next : ℕ} → NextOf j at form (Ok (Some (Step call start end next))) → EndsAt j form at e → ⊥
 no_end x (at_end y) = let s = same_next x y in let z : ◌≡◌ {A = ℕ} 0 1 = cc in omega arith
 no_end x (at_refusal y) = let s = same_next x y in let z : ◌≡◌ {A = ℕ} 0 1 = cc in omega arith
 
@@ -84,10 +85,10 @@ one {gs = gs} {e = e} r = record { steps = gs; ending = e; holds = r; only = λ 
 reading_on :
     (j : Bytes) (form at : ℕ) → (form ≡ 0 → ⊥) → ((next : ℕ) → at < next → next ≤ length j → OneReading j form next) → (b : Next) → NextOf j at form b
     → OneReading j form at
-reading_on j form at f on (Opening g o next) x = absurd (f (known x).0)
-reading_on j form at f on End x = one (record { to = at; steps = no_line; ends = at_end x })
-reading_on j form at f on (Refused k) x = one (record { to = at; steps = no_line; ends = at_refusal x })
-reading_on j form at f on (Step call start end next) x =
+reading_on j form at f on (Ok (Some (Opening g o next))) x = absurd (f (known x).0)
+reading_on j form at f on (Ok None) x = one (record { to = at; steps = no_line; ends = at_end x })
+reading_on j form at f on (Err k) x = one (record { to = at; steps = no_line; ends = at_refusal x })
+reading_on j form at f on (Ok (Some (Step call start end next))) x =
     let k = (known x).1 in
     let r = (on next k.forward k.inside).holds in
     one (record { to = r.to; steps = a_line x r.steps; ends = r.ends })

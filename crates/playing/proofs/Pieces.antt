@@ -43,7 +43,7 @@ pub pieces_theorem : PiecesTheorem
 unfolding joined
 pieces_theorem j ts (opens {o = o} {gs = gs} {e = e} x) =
     rw (joined_pieces _ _) (opens_listing x)
-pieces_theorem j ts (fails {n = n} x) = rw (joined_one _) (fails_listing x)
+pieces_theorem j ts (fails {r = n} x) = rw (joined_one _) (fails_listing x)
 
 -- ---- from a checkpoint on
 

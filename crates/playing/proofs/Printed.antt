@@ -11,6 +11,7 @@ use Rattle.protocol.specs.declared.{Place.Place, Opening.Opening as Sizes, Count
 use Rattle.protocol.proofs.{Own.{Own, step_own}, Order.{Theorem.{order_theorem, sort_theorem}, Sequential.sequential_theorem}}
 use Rattle.spelling.proofs.Texts.{some_line, cut_line}
 use Rattle.listing.specs.Record.{record_as, record_text, end_text}
+use Rattle.grammar.specs.Refusal.{number}
 use Rattle.driver.specs.Listing.{Ending, ended, stopped, lines, last_lines}
 use Rattle.playing.specs.{Listing.opens, Printed.{a_done, a_refusal, an_end, Prints, no_line, a_commit, another}}
 use Rattle.playing.specs.Printed.{OnePrintedTheorem, PrintedTheorem, OfEveryListing, ListingOrderTheorem, SequentialListingTheorem}
@@ -61,7 +62,7 @@ end_prints k = subst (λ (t : Bytes). Prints t []) (append-nil (end_text k)) (an
 last_prints : (k : Counts) (e : Ending) → Prints (last_lines k e) []
 unfolding record_as
 last_prints k ended = end_prints k
-last_prints k (stopped n) = another (a_refusal _ n) (end_prints _)
+last_prints k (stopped n) = another (a_refusal _ (number n)) (end_prints _)
 
 -- nor does the first, of an opening that is accepted
 opening_prints : (o : Sizes) {t : Bytes} {H : List (Commit Bytes)} → open_refusal o ≡ 0 → Prints t H → Prints (record_text (place 0) (open_reply o) ++ t) H

@@ -15,6 +15,7 @@ use Rattle.protocol.specs.declared.Effect.{Effect}
 use Rattle.journal.proofs.Lines.{line_read, line_inside}
 use Rattle.listing.{specs.Record.record_text, proofs.Lengths.{record_length, end_length}}
 use Rattle.driver.proofs.{Reading.known, Counting.few_none, Resuming.{resumes_again, steps_long, leads_on}, Putting.refused_length}
+use Rattle.grammar.specs.{Refusal.number, declared.Refusal.{Refusal}}
 use Rattle.driver.specs.Listing.{Ending, ended, stopped, entry_at, lines, last_lines, not_opened}
 use Rattle.driver.specs.Play.{resumable, Piece, a_step, the_end, Tells, finished, more, unfit, first_checkpoint, Begins, opens, fails, no_room, no_room_to_end, Starts}
 use Rattle.driver.specs.declared.{Checkpoint.Checkpoint, Progress.{Progress, TheVariants.More}, Played.Played}
@@ -58,7 +59,7 @@ step_length at m call given = go (eqb (refusal m call given) 0) refl _ _ _
 last_length : (k : Counts) (e : Ending) → length (last_lines k e) ≤ piece_bytes
 last_length k ended = omega (arith, end_length k)
 last_length k (stopped n) =
-    simp length-append (omega (arith, refused_length (place (k.steps + 1)) n, end_length (sum k (one_of 1 ARefusal))))
+    simp length-append (omega (arith, refused_length (place (k.steps + 1)) (number n), end_length (sum k (one_of 1 ARefusal))))
 
 -- what is written next, whatever it is
 piece_length : {j : Bytes} {s : Checkpoint} {p q t : Bytes} → Piece j s p q t → length t ≤ piece_bytes
@@ -75,8 +76,8 @@ opening_length o = go (eqb (open_refusal o) 0)
     go true = omega (arith, record_length (place 0) (Done Open) [])
     go false = omega (arith, refused_length (place 0) (open_refusal o))
 
-unopened_length : (n : ℕ) → length (not_opened n) ≤ piece_bytes
-unopened_length n = simp length-append (omega (arith, refused_length (place 0) n, end_length (one_of 0 ARefusal)))
+unopened_length : (n : Refusal) → length (not_opened n) ≤ piece_bytes
+unopened_length n = simp length-append (omega (arith, refused_length (place 0) (number n), end_length (one_of 0 ARefusal)))
 
 -- ---- the run gets to its end
 
@@ -114,7 +115,7 @@ told_begun :
 told_begun {room = room} (opens x h t u) k = running (begun_resumes {room = room} (opens x h t u) refl)
 told_begun (fails n t u) k = listed
 told_begun (no_room {o = o} x h t u r) k = absurd (omega (arith, opening_length o, ap length u))
-told_begun (no_room_to_end {n = n} x t u r) k = absurd (omega (arith, unopened_length n, ap length u))
+told_begun (no_room_to_end {r = n} x t u r) k = absurd (omega (arith, unopened_length n, ap length u))
 
 pub play_advances_theorem : PlayAdvancesTheorem
 play_advances_theorem j from p q old p' q' new r x s h = told_onward x.tells s (omega (arith, text_and_room x.fills))

@@ -4,7 +4,9 @@ use mathlib.Core.{Path.{◌≡◌, sym, ◌∙◌, ap, ap₂}, List.[]}
 use native.Mathlib.Omega.{arith}
 use lib.ListN.{length}
 use Rattle.protocol.specs.{Buffers.Bytes, Refusals.open_refusal, Step.open_reply, Run.place, declared.Opening.Opening as Sizes}
-use Rattle.journal.specs.{Journal.NextOf, declared.Next.TheVariants.Opening}
+use Rattle.std.specs.Prelude.{Some, Ok}
+use Rattle.grammar.specs.declared.Refusal.{Refusal}
+use Rattle.journal.specs.{Journal.NextOf, declared.Item.TheVariants.Opening}
 use Rattle.listing.specs.Record.{record_text}
 use Rattle.driver.specs.{Listing.{NotOpened, not_opened}, declared.{Checkpoint.Checkpoint, Progress.{Progress, TheVariants.{Finished, More, Short}}}}
 use Rattle.driver.specs.Play.{first_checkpoint, unopened, Begins, opens, fails, no_room, no_room_to_end}
@@ -23,15 +25,15 @@ started g s t = record { progress = g; checkpoint = s; text = t }
 -- what it tells of a journal where the first text has room
 data First (j : Bytes) : Started → Type 0 where
   opened :
-      {form : ℕ} {o : Sizes} {next : ℕ} → NextOf j 0 0 (Opening form o next) → open_refusal o ≡ 0
+      {form : ℕ} {o : Sizes} {next : ℕ} → NextOf j 0 0 (Ok (Some (Opening form o next))) → open_refusal o ≡ 0
       → First j (started More (first_checkpoint next form o) (record_text (place 0) (open_reply o)))
-  failed : {n : ℕ} → NotOpened j n → First j (started Finished unopened (not_opened n))
+  failed : {n : Refusal} → NotOpened j n → First j (started Finished unopened (not_opened n))
 
 first_same : {j : Bytes} {a b : Started} → First j a → First j b → a ≡ b
 first_same (opened x e) (opened y f) = let z = same_next x y in ap₂ (started More) (cc) (cc)
 first_same (opened x e) (failed n) = absurd (opened_not x e n)
 first_same (failed n) (opened x e) = absurd (opened_not x e n)
-first_same (failed n) (failed m) = ap (λ (k : ℕ). started Finished unopened (not_opened k)) (refusal_same n m)
+first_same (failed n) (failed m) = ap (λ (k : Refusal). started Finished unopened (not_opened k)) (refusal_same n m)
 
 -- that, or there was no room for the text
 data Wrote (j : Bytes) (a : Started) (room : ℕ) : Type 0 where

@@ -1,8 +1,9 @@
 -- The listing of a journal in the pieces that it is written in.
-use Rattle.std.specs.Prelude.{ℕ, ◌+◌, List, [], ◌∷◌, ◌++◌}
+use Rattle.std.specs.Prelude.{◌+◌, List, [], ◌∷◌, ◌++◌}
 use Rattle.protocol.specs.{Buffers.Bytes, Machine.{Machine, fresh_machine}, Step.open_reply, Run.{Entry, Record, place, run}}
 use Rattle.protocol.specs.{Counts.{nothing_met, sum, tally}, declared.{Opening.Opening as Sizes, Counts.Counts}}
 use Rattle.listing.specs.Record.{record_text}
+use Rattle.grammar.specs.declared.Refusal.{Refusal}
 use Rattle.driver.specs.Listing.{Ending, last_lines, NotOpened, not_opened}
 use Rattle.playing.specs.Listing.{Opens}
 
@@ -21,4 +22,4 @@ pub data Pieces (journal : Bytes) : List Bytes → Type 0 where
   opens :
       {o : Sizes} {gs : List Entry} {e : Ending} → Opens journal o gs e
       → Pieces journal (record_text (place 0) (open_reply o) ∷ pieces_from (fresh_machine o) nothing_met gs e)
-  fails : {n : ℕ} → NotOpened journal n → Pieces journal (not_opened n ∷ [])
+  fails : {r : Refusal} → NotOpened journal r → Pieces journal (not_opened r ∷ [])

@@ -7,7 +7,8 @@ use lib.{Dec.{leb, eqb}, ListN.take, Seq.set-get_or}
 use borrow.Author.Tests.{leb-false, eqb-false}
 use Rattle.protocol.specs.{Pick.{pick, both, fails}, Fresh.{fresh_core, fresh_cell, fresh_line}, Buffers.{Bytes, There, moved_private, moved_shared}}
 use Rattle.protocol.specs.{Copies.{is_held}, Given.bytes_given}
-use Rattle.protocol.specs.Machine.{Machine, Pieces, copy_at, copies_of, victim_of, core_of, line_of, fresh_machine, written, applied}
+use Rattle.protocol.specs.Machine.{Machine, copy_at, copies_of, victim_of, core_of, line_of, fresh_machine, written, applied}
+use Rattle.protocol.specs.declared.Pieces.{Pieces}
 use Rattle.protocol.specs.Refusals.{brings_copy, no_room, state_rules, state_refusal, refusal}
 use Rattle.protocol.specs.Tables.{yielded, load_owned, store_table, fence_table, advance_table, evict_table, serve_asked, serve_load, receive_grant, receive_renew}
 use Rattle.protocol.specs.Tables.{yield_table, take_table, victim_table, table_of}

@@ -5,18 +5,20 @@ use Prim.Native.Nat.{ℕ, ◌≤◌}
 use mathlib.Core.{Path.{◌≡◌, refl, sym}, Bool.{Bool, true, false}, List.[]}
 use native.Mathlib.Omega.{arith}
 use lib.{Dec.{leb, eqb}, ListN.length}
+use Rattle.std.specs.Prelude.{Option, Some, None}
 use borrow.Author.Tests.{leb-true, leb-false, lt-ltb, eqb-true}
 use Rattle.protocol.specs.{Pick.{pick, both, fails}, Stamps.can_add, Buffers.{Bytes, There}, Copies.{is_held, is_shared, is_owned}, Given.bytes_given}
-use Rattle.protocol.specs.Machine.{Machine, Pieces, pieces_at, core_at, copy_at, line_at, slot_line, owner_of, core_of, line_of, applied}
+use Rattle.protocol.specs.Machine.{Machine, pieces_at, core_at, copy_at, line_at, slot_line, owner_of, core_of, line_of, applied}
+use Rattle.protocol.specs.declared.Pieces.{Pieces}
 use Rattle.protocol.specs.Refusals.{is_empty, is_asked, is_answered, has_owner, stands, in_flight, load_asks, store_passes}
 use Rattle.protocol.specs.Refusals.{serve_passes, state_rules, state_refusal, refusal}
 use Rattle.protocol.specs.Tables.{refused_row, asking, load_owned, load_shared, load_table, store_table, fence_table, advance_table, evict_table, same_version}
 use Rattle.protocol.specs.Tables.{leased_to, serve_load, serve_asked, serve_table, receive_renew, receive_grant, receive_table, yield_table, take_table, victim_table, table_of}
 use Rattle.protocol.specs.{Tables.effect_of, Step.{refused, Outcome, accepted, step}}
 use Rattle.protocol.specs.declared.{Stamp.Stamp, Copy.{Copy, TheVariants.{None as NoCopy, Shared as CopyShared, Owned as CopyOwned}}}
-use Rattle.protocol.specs.declared.{Want.{Want, TheVariants.{Load as WantLoad, Store as WantStore}}, Held.Held}
+use Rattle.protocol.specs.declared.Want.{Want, TheVariants.{Load as WantLoad, Store as WantStore}}
 use Rattle.protocol.specs.declared.{Slot.{Slot, TheVariants.{Empty, Asked, Answered}}, Manager.{Manager, TheVariants.{Shared, Owned}}}
-use Rattle.protocol.specs.declared.{Writeback.{Writeback, TheVariants.{None as NoWriteback, Flight}}, Opening.Opening, State.State}
+use Rattle.protocol.specs.declared.{Flight.Flight, Opening.Opening, State.State}
 use Rattle.protocol.specs.declared.Call.{Call, TheVariants.{Load, Store, Fence, Evict, Drop, Writeback as WriteBack, Advance}}
 use Rattle.protocol.specs.declared.{Call.TheVariants.{Serve, Receive, Yield, Take, Victim}, Given.Given, Effect.Effect}
 use Rattle.protocol.specs.declared.Name.{Name, TheVariants.{Drop as Dropped, Evict as Evicted, Writeback as WrittenBack}}
@@ -47,13 +49,13 @@ pub data Row (c l : ℕ) (p : Pieces) (o : Opening) : Call → Effect → Type 0
       → Row c l p o call (evict_table n (CopyShared w r) p)
   evicts_owned : {call : Call} {n : Name} {d : Bool} {w r : Stamp} → WritesBack c l call n → p.copy ≡ CopyOwned d w r
       → Row c l p o call (evict_table n (CopyOwned d w r) p)
-  recalls : {a : Want} {t : Stamp} {h : Held} {k : ℕ} → p.core.slot ≡ Asked a l t h → p.line.manager ≡ Owned k
+  recalls : {a : Want} {t : Stamp} {h : Option Stamp} {k : ℕ} → p.core.slot ≡ Asked a l t h → p.line.manager ≡ Owned k
       → Row c l p o (Serve c) (serve_asked (Owned k) a c l t h p o)
-  renews : {t : Stamp} {h : Held} {w r : Stamp} → p.core.slot ≡ Asked WantLoad l t h → p.line.manager ≡ Shared w r
+  renews : {t : Stamp} {h : Option Stamp} {w r : Stamp} → p.core.slot ≡ Asked WantLoad l t h → p.line.manager ≡ Shared w r
       → same_version h w ≡ true → can_add t o.lease ≡ true → Row c l p o (Serve c) (serve_load true l w (leased_to r t o.lease) p)
-  shares : {t : Stamp} {h : Held} {w r : Stamp} → p.core.slot ≡ Asked WantLoad l t h → p.line.manager ≡ Shared w r
+  shares : {t : Stamp} {h : Option Stamp} {w r : Stamp} → p.core.slot ≡ Asked WantLoad l t h → p.line.manager ≡ Shared w r
       → same_version h w ≡ false → can_add t o.lease ≡ true → Row c l p o (Serve c) (serve_load false l w (leased_to r t o.lease) p)
-  grants : {t : Stamp} {h : Held} {w r : Stamp} → p.core.slot ≡ Asked WantStore l t h → p.line.manager ≡ Shared w r
+  grants : {t : Stamp} {h : Option Stamp} {w r : Stamp} → p.core.slot ≡ Asked WantStore l t h → p.line.manager ≡ Shared w r
       → Row c l p o (Serve c) (serve_asked (Shared w r) WantStore c l t h p o)
   gets_share : {w r : Stamp} → p.core.slot ≡ Answered GrantShare l w r → Row c l p o (Receive c) (receive_grant GrantShare w r p)
   gets_own : {w r : Stamp} → p.core.slot ≡ Answered GrantOwn l w r → Row c l p o (Receive c) (receive_grant GrantOwn w r p)
@@ -64,7 +66,7 @@ pub data Row (c l : ℕ) (p : Pieces) (o : Opening) : Call → Effect → Type 0
       → Row c l p o (Receive c) (receive_renew (CopyOwned d v q) r p)
   yields : {d : Bool} {w r : Stamp} → p.copy ≡ CopyOwned d w r → p.line.manager ≡ Owned c → stands p.line.recall ≡ true
       → Row c l p o (Yield l) (yield_table (CopyOwned d w r) p)
-  takes : {w r : Stamp} → p.line.writeback ≡ Flight w r → Row c l p o (Take l) (take_table (Flight w r) p)
+  takes : {f : Flight} → p.line.writeback ≡ Some f → Row c l p o (Take l) (take_table (Some f) p)
   names_victim : Row c l p o (Victim c) (victim_table p)
 
 -- the owner of an owned line
@@ -107,7 +109,7 @@ module _ {p : Pieces} {o : Opening} where
   writeback_row_lem c l (CopyShared w r) e h = never (sym h)
   writeback_row_lem c l (CopyOwned d w r) e h = evicts_owned writeback e
 
-  asked_row : (c l n : ℕ) (a : Want) (t : Stamp) (h : Held) (v : Manager) → p.core.slot ≡ Asked a l t h → p.line.manager ≡ v
+  asked_row : (c l n : ℕ) (a : Want) (t : Stamp) (h : Option Stamp) (v : Manager) → p.core.slot ≡ Asked a l t h → p.line.manager ≡ v
       → serve_passes (Asked a n t h) v o ≡ false → Row c l p o (Serve c) (serve_asked v a c l t h p o)
   unfolding serve_asked
   asked_row c l n a t h (Owned k) e i f = recalls e i
@@ -145,9 +147,9 @@ module _ {p : Pieces} {o : Opening} where
   yield_row_lem c l (CopyShared w r) e h i k = never (sym h)
   yield_row_lem c l (CopyOwned d w r) e h i k = yields e i k
 
-  take_row : (c l : ℕ) (v : Writeback) → p.line.writeback ≡ v → in_flight v ≡ true → Row c l p o (Take l) (take_table v p)
-  take_row c l NoWriteback e h = never (sym h)
-  take_row c l (Flight w r) e h = takes e
+  take_row : (c l : ℕ) (v : Option Flight) → p.line.writeback ≡ v → in_flight v ≡ true → Row c l p o (Take l) (take_table v p)
+  take_row c l None e h = never (sym h)
+  take_row c l (Some f) e h = takes e
 
 -- the pieces that a call is about
 abbrev pub pieces_of : Call → State → Pieces

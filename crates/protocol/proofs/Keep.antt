@@ -4,7 +4,8 @@ use Prim.Native.Nat.{ℕ}
 use mathlib.Core.{Path.{◌≡◌, refl, sym, ◌∙◌}, Bool.{true, false}}
 use lib.ListN.{length}
 use borrow.Author.Tests.{lt-ltb, eq-eqb}
-use Rattle.protocol.specs.{Pick.first, Buffers.{Bytes, There, given_fits}, About.about, Given.bytes_given, Machine.{Machine, Pieces, core_of, line_of, applied}}
+use Rattle.protocol.specs.{Pick.first, Buffers.{Bytes, There, given_fits}, About.about, Given.bytes_given, Machine.{Machine, core_of, line_of, applied}}
+use Rattle.protocol.specs.declared.Pieces.{Pieces}
 use Rattle.protocol.specs.{Refusals.{owner_fits, slot_fits, owners_fit, slots_fit, state_fits, buffers_fit, machine_refusal, wrong_count}, Step.step}
 use Rattle.protocol.specs.declared.{Core.Core, ManagerLine.ManagerLine, Opening.Opening, Call.Call, Effect.Effect}
 use Rattle.protocol.specs.Tables.{load_owned, store_table, fence_table, advance_table, evict_table, serve_asked, serve_load, receive_grant, receive_renew}

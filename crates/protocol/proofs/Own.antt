@@ -1,7 +1,8 @@
 -- A commit is its call's own: what a call answers as its commit is the commit that is read off the call and its answer, whatever the machine.
 use Prim.Native.Nat.{ℕ}
 use mathlib.Core.{Path.{◌≡◌, refl}, List.{[], ◌∷◌}}
-use Rattle.protocol.specs.{Buffers.{Bytes, copy_bytes}, Given.bytes_given, Machine.{Machine, Pieces, core_of, line_of}}
+use Rattle.protocol.specs.{Buffers.{Bytes, copy_bytes}, Given.bytes_given, Machine.{Machine, core_of, line_of}}
+use Rattle.protocol.specs.declared.Pieces.{Pieces}
 use Rattle.protocol.specs.Step.{Reply, refused, done, commit, Outcome, meaning, commit_bytes, accepted, step}
 use Rattle.protocol.specs.{Run.commit_at, declared.{Place.Place, Opening.Opening, Call.Call, Effect.Effect}}
 use Rattle.protocol.specs.Tables.{load_owned, store_table, fence_table, advance_table, evict_table, serve_asked, serve_load, receive_grant, receive_renew}

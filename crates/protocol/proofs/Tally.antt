@@ -4,7 +4,8 @@ use Prim.Native.Nat.{ℕ, ◌+◌}
 use mathlib.Core.{Path.{◌≡◌, refl, sym}, Bool.{Bool, true}, List.{List, [], ◌∷◌}}
 use native.Mathlib.Omega.{arith}
 use Rattle.protocol.specs.{Pick.{pick, how_many}, Fresh.fresh_core, Buffers.{Bytes, copy_bytes}, Given.bytes_given}
-use Rattle.protocol.specs.Machine.{Machine, Pieces, core_of, line_of, fresh_machine, applied}
+use Rattle.protocol.specs.Machine.{Machine, core_of, line_of, fresh_machine, applied}
+use Rattle.protocol.specs.declared.Pieces.{Pieces}
 use Rattle.protocol.specs.{Refusals.{is_empty, is_asked}, Step.{Outcome, meaning, commit_bytes, accepted, step}, Run.{Entry, Record, run}}
 use Rattle.protocol.specs.{Counts.{class_of, same_class, is_of, number}, Tally.{NumberedTheorem, asked_cores, TallyTheorem}}
 use Rattle.protocol.specs.declared.{Slot.{Slot, TheVariants.{Empty, Asked, Answered}}, Core.Core, Opening.Opening, Call.Call, Effect.Effect}

@@ -1,9 +1,9 @@
 -- "Fresh, for given sizes and lease: every timestamp 0, slots empty, no copies, manager lines shared, no recall, no writeback, .. One fresh
 -- core and one fresh line are fixed values that every opening uses." (`fresh_machine` adds "all bytes 0".)
-use Rattle.std.specs.Prelude.{◌*◌, replicate}
+use Rattle.std.specs.Prelude.{◌*◌, replicate, None}
 use Rattle.protocol.specs.{Stamps.stamp, Limits.{most_cores, most_lines}, declared.{Copy.TheVariants.None as NoCopy, Slot.TheVariants.Empty}}
 use Rattle.protocol.specs.declared.{Manager.TheVariants.Shared, Recall.TheVariants.None as NoRecall}
-use Rattle.protocol.specs.declared.{Writeback.TheVariants.None as NoWriteback, Core.Core, Cell.Cell, ManagerLine.ManagerLine, Opening.Opening}
+use Rattle.protocol.specs.declared.{Core.Core, Cell.Cell, ManagerLine.ManagerLine, Opening.Opening}
 use Rattle.protocol.specs.declared.State.{State}
 
 -- the fresh core: both clocks 0, the slot empty
@@ -16,7 +16,7 @@ fresh_cell = record { copy = NoCopy }
 
 -- the fresh line: shared, no recall, no writeback
 abbrev pub fresh_line : ManagerLine
-fresh_line = record { manager = Shared (stamp 0) (stamp 0); recall = NoRecall; writeback = NoWriteback }
+fresh_line = record { manager = Shared (stamp 0) (stamp 0); recall = NoRecall; writeback = None }
 
 -- the fresh state of an opening
 abbrev pub fresh_state : Opening → State

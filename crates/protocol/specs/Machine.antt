@@ -4,6 +4,7 @@ use Rattle.std.specs.Prelude.{ℕ, ◌+◌, ◌*◌, get_or, set, replicate}
 use Rattle.protocol.specs.{Buffers.{Bytes, private_length, shared_length, moved_private, moved_shared}, Limits.most_lines, About.{about, named_line}, Copies.{held_below, victim_below}}
 use Rattle.protocol.specs.{Fresh.{fresh_core, fresh_cell, fresh_line, fresh_state}, declared.Copy.Copy}
 use Rattle.protocol.specs.declared.{Slot.{Slot, TheVariants.{Empty, Asked, Answered}}, Core.Core}
+use Rattle.protocol.specs.declared.Pieces.{Pieces}
 use Rattle.protocol.specs.declared.{Manager.{Manager, TheVariants.{Shared, Owned}}, ManagerLine.ManagerLine, Opening.Opening, State.State}
 use Rattle.protocol.specs.declared.{Call.Call, Who.{Who, TheVariants.{Named as NamedCore, Owner, Nobody}}}
 use Rattle.protocol.specs.declared.{Which.{Which, TheVariants.{Named as NamedLine, Asked as OfAsked, Answered as OfAnswered, Nothing, Victim as OfVictim}}, Effect.Effect}
@@ -44,13 +45,6 @@ victim_of s c = victim_below (copy_at s c) s.opening.lines
 
 -- the pieces of the machine that a step looks at, beside the opening: a line's number, one core, its copy of that line, the manager's line,
 -- and how many copies the core holds
-pub record Pieces : Type 0 where
-  pub number : ℕ
-  pub core : Core
-  pub copy : Copy
-  pub line : ManagerLine
-  pub copies : ℕ
-
 abbrev pub pieces : ℕ → Core → Copy → ManagerLine → ℕ → Pieces
 pieces l k x m n = record { number = l; core = k; copy = x; line = m; copies = n }
 

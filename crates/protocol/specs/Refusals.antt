@@ -1,18 +1,19 @@
 -- The refusals of the calls, in the scope document's order: "Checked in this order; first that applies." 30 is of 02, Two; that 13 is the
 -- first check of a store in digits of 02, Three; 31, and the 26 of victim, of 02, Four; that a store to a dirty line is never 27 of 02, Six.
-use Rattle.std.specs.Prelude.{ℕ, ◌%◌}
+use Rattle.std.specs.Prelude.{ℕ, ◌%◌, Option, Some, None}
 use mathlib.Core.{Bool.{Bool, true, false}, List.{List, [], ◌∷◌}}
 use lib.{Dec.{ltb, leb, eqb}, ListN.{length, take}}
 use Rattle.protocol.specs.{Pick.{pick, both, fails, every, Rule, first, ◌gives◌}, Stamps.{earlier, can_add}, Limits.opening_fits}
 use Rattle.protocol.specs.{Buffers.{Bytes, private_length, shared_length}, About.about, Copies.{is_held, is_shared, is_owned}, Given.{given_as, bytes_given}}
-use Rattle.protocol.specs.Machine.{Machine, Pieces, pieces_at, core_of, line_of}
+use Rattle.protocol.specs.Machine.{Machine, pieces_at, core_of, line_of}
+use Rattle.protocol.specs.declared.Pieces.{Pieces}
 use Rattle.protocol.specs.declared.{Stamp.Stamp, Copy.{Copy, TheVariants.{None as NoCopy, Shared as CopyShared, Owned as CopyOwned}}}
 use Rattle.protocol.specs.declared.Want.TheVariants.{Load as WantLoad, Store as WantStore}
 use Rattle.protocol.specs.declared.Grant.{Grant, TheVariants.{Share as GrantShare, Renew as GrantRenew, Own as GrantOwn}}
 use Rattle.protocol.specs.declared.{Slot.{Slot, TheVariants.{Empty, Asked, Answered}}, Core.Core}
 use Rattle.protocol.specs.declared.Manager.{Manager, TheVariants.{Shared, Owned}}
 use Rattle.protocol.specs.declared.Recall.{Recall, TheVariants.{None as NoRecall, Downgrade, Flush}}
-use Rattle.protocol.specs.declared.{Writeback.{Writeback, TheVariants.{None as NoWriteback, Flight}}, ManagerLine.ManagerLine}
+use Rattle.protocol.specs.declared.{Flight.Flight, ManagerLine.ManagerLine}
 use Rattle.protocol.specs.declared.{Opening.Opening, State.State}
 use Rattle.protocol.specs.declared.Call.{Call, TheVariants.{Load, Store, Fence, Evict, Drop, Writeback as WriteBack, Advance}}
 use Rattle.protocol.specs.declared.Call.TheVariants.{Serve, Receive, Yield, Take, Victim}
@@ -145,9 +146,9 @@ stands Downgrade = true
 stands Flush = true
 
 -- a writeback is in flight
-abbrev pub in_flight : Writeback → Bool
-in_flight NoWriteback = false
-in_flight (Flight w r) = true
+abbrev pub in_flight : Option Flight → Bool
+in_flight None = false
+in_flight (Some f) = true
 
 -- a load must ask: "shared, lts > rts, or none"
 abbrev pub load_asks : Copy → Stamp → Bool

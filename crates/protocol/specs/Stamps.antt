@@ -4,8 +4,8 @@
 -- timestamp, a place only with a place."
 use Rattle.std.specs.Prelude.{ℕ, ◌+◌, ◌<◌, max}
 use mathlib.Core.{Path.◌≡◌, Bool.{Bool, true, false}, Logic.◌⊎◌}
-use Rattle.std.specs.Prelude.{ltb, leb, eqb}
-use Rattle.protocol.specs.{Pick.pick, declared.{Stamp.Stamp, Sum.{Sum, TheVariants.{At, Passes}}, Place.Place, Key.Key}}
+use Rattle.std.specs.Prelude.{ltb, leb, eqb, Option, Some, None}
+use Rattle.protocol.specs.{Pick.pick, declared.{Stamp.Stamp, Place.Place, Key.Key}}
 
 -- a number as a timestamp
 abbrev pub stamp : ℕ → Stamp
@@ -43,9 +43,9 @@ later a b = stamp (max a.0 b.0)
 abbrev pub can_add : Stamp → ℕ → Bool
 can_add t n = at_most (plus t n) greatest
 
--- the timestamp n later, or that it passes the greatest
-abbrev pub after : Stamp → ℕ → Sum
-after t n = pick (can_add t n) (At (plus t n)) Passes
+-- the timestamp n later, or none where it passes the greatest
+abbrev pub after : Stamp → ℕ → Option Stamp
+after t n = pick (can_add t n) (Some (plus t n)) None
 
 -- "One commit precedes another if its timestamp is smaller, or if the timestamps are equal and its place is smaller."
 abbrev pub Precedes : Key → Key → Type 0

@@ -1,16 +1,16 @@
 -- The step tables, on the pieces that a step looks at: core c, its copy of line l, the manager's line l.
 -- A row gives the answer, the new pieces, and which line of bytes moves. They are read only where no refusal applies.
-use Rattle.std.specs.Prelude.{ℕ, Bool, true, false, eqb}
-use Rattle.protocol.specs.{Pick.pick, Stamps.{plus, at_most, same, later}, Clock.{loaded, store_time, stored, fenced, advanced}, Machine.Pieces}
+use Rattle.std.specs.Prelude.{ℕ, Bool, true, false, eqb, Option, Some, None}
+use Rattle.protocol.specs.{Pick.pick, Stamps.{plus, at_most, same, later}, Clock.{loaded, store_time, stored, fenced, advanced}}
+use Rattle.protocol.specs.declared.Pieces.{Pieces}
 use Rattle.protocol.specs.{Refusals.state_refusal, declared.{Stamp.Stamp, Clocks.Clocks}}
 use Rattle.protocol.specs.declared.Copy.{Copy, TheVariants.{None as NoCopy, Shared as CopyShared, Owned as CopyOwned}}
 use Rattle.protocol.specs.declared.Want.{Want, TheVariants.{Load as WantLoad, Store as WantStore}}
-use Rattle.protocol.specs.declared.Held.{Held, TheVariants.{None as NothingHeld, Version}}
 use Rattle.protocol.specs.declared.Grant.{Grant, TheVariants.{Share as GrantShare, Renew as GrantRenew, Own as GrantOwn}}
 use Rattle.protocol.specs.declared.{Slot.{Slot, TheVariants.{Empty, Asked, Answered}}, Core.Core}
 use Rattle.protocol.specs.declared.Manager.{Manager, TheVariants.{Shared, Owned}}
 use Rattle.protocol.specs.declared.Recall.{Recall, TheVariants.{None as NoRecall, Downgrade, Flush}}
-use Rattle.protocol.specs.declared.{Writeback.{Writeback, TheVariants.{None as NoWriteback, Flight}}, ManagerLine.ManagerLine}
+use Rattle.protocol.specs.declared.{Flight.Flight, ManagerLine.ManagerLine}
 use Rattle.protocol.specs.declared.Opening.{Opening}
 use Rattle.protocol.specs.declared.Call.{Call, TheVariants.{Load, Store, Fence, Evict, Drop, Writeback as WriteBack, Advance}}
 use Rattle.protocol.specs.declared.Call.TheVariants.{Serve, Receive, Yield, Take, Victim}
@@ -39,10 +39,10 @@ refused_row n p = row (Refused n) Still p.core p.copy p.line
 -- ---- ask
 
 -- "the wts of the shared copy held, or none"
-abbrev pub held_of : Copy → Held
-held_of NoCopy = NothingHeld
-held_of (CopyShared w r) = Version w
-held_of (CopyOwned d w r) = NothingHeld
+abbrev pub held_of : Copy → Option Stamp
+held_of NoCopy = None
+held_of (CopyShared w r) = Some w
+held_of (CopyOwned d w r) = None
 
 -- "ask. The slot becomes asked": load or store, line, the lts when asked, the wts of the shared copy held
 abbrev pub asking : Want → ℕ → Pieces → Effect
@@ -107,7 +107,7 @@ advance_table by p = row (Done Advanced) Still (clocked p.core (advanced p.core.
 
 -- the line with a writeback in flight
 abbrev pub written_back : ManagerLine → Stamp → Stamp → ManagerLine
-written_back m w r = record { manager = m.manager; recall = m.recall; writeback = Flight w r }
+written_back m w r = record { manager = m.manager; recall = m.recall; writeback = Some (record { wts = w; rts = r }) }
 
 -- "shared: copy becomes none. Owned: its wts, rts and bytes become the writeback, copy none." 02, Two: drop is the first of these, writeback the
 -- second, and "evict does whichever fits the copy". The name is the answer's
@@ -126,9 +126,9 @@ recalled WantLoad Downgrade = Downgrade
 recalled WantLoad Flush = Flush
 
 -- "the asked wts equals the manager's"
-abbrev pub same_version : Held → Stamp → Bool
-same_version NothingHeld w = false
-same_version (Version v) w = same v w
+abbrev pub same_version : Option Stamp → Stamp → Bool
+same_version None w = false
+same_version (Some v) w = same v w
 
 -- the line with another manager part
 abbrev pub managed : ManagerLine → Manager → ManagerLine
@@ -146,7 +146,7 @@ serve_load false l w r p = row (Done Share) MoveAnswer (slotted p.core (Answered
 -- "line owned: answer recall .. Slot stays."
 -- "shared, load: rts becomes max(rts, asked lts + lease). If the asked wts equals the manager's, the slot becomes renew .. otherwise share"
 -- "shared, store: manager line becomes owned by that core; slot becomes own, with bytes"
-unfoldable pub serve_asked : Manager → Want → ℕ → ℕ → Stamp → Held → Pieces → Opening → Effect
+unfoldable pub serve_asked : Manager → Want → ℕ → ℕ → Stamp → Option Stamp → Pieces → Opening → Effect
 serve_asked (Owned k) a c l t h p o =
     row (Done RecallSent) Still p.core p.copy
     (record { manager = p.line.manager; recall = recalled a p.line.recall; writeback = p.line.writeback })
@@ -197,10 +197,10 @@ yield_table NoCopy p = refused_row 24 p
 -- ---- take
 
 -- "manager takes the writeback, becomes shared; recall none, writeback none"
-unfoldable pub take_table : Writeback → Pieces → Effect
-take_table (Flight w r) p =
-    row (Done Taken) MoveTake p.core p.copy (record { manager = Shared w r; recall = NoRecall; writeback = NoWriteback })
-take_table NoWriteback p = refused_row 25 p
+unfoldable pub take_table : Option Flight → Pieces → Effect
+take_table (Some f) p =
+    row (Done Taken) MoveTake p.core p.copy (record { manager = Shared f.wts f.rts; recall = NoRecall; writeback = None })
+take_table None p = refused_row 25 p
 
 -- ---- victim
 

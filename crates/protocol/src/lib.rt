@@ -7,33 +7,27 @@
 #![tactic(auto)]
 
 ghost use mathlib.Core.{Path.◌≡◌, List.[]};
+ghost use Rattle.protocol.specs.{Pick.pick, Buffers.{private_length, shared_length}};
 ghost use Rattle.protocol.specs.Stamps.{greatest, at_most, earlier, same, made_earlier, later, after, precedes};
 ghost use Rattle.protocol.specs.{Clock.{loaded, stored, fenced, advanced}, Fresh.{fresh_core, fresh_cell, fresh_line, fresh_state, smallest}};
-ghost use Rattle.protocol.specs.{Limits.{within, opening_fits}, About.{concerns, about}, Given.{given_as, count_as}, Step.{meaning, valued}};
-ghost use Rattle.protocol.specs.{Pick.pick, Counts.{is_serve, name_class, commit_class, class_of}};
+ghost use Rattle.protocol.specs.{Limits.{within, opening_fits}, About.{concerns, about}, Given.{given_as, count_as}, Step.meaning};
+ghost use Rattle.protocol.specs.{Counts.{is_serve, name_class, class_of}, Tables.{row, clocked, slotted, managed, written_back}};
 
 // A logical timestamp. It is compared only with another timestamp.
-#[derive(Clone, Copy)]
+#[derive(Clone, Copy, PartialEq, Eq, PartialOrd, Ord, Debug)]
 pub struct Stamp(pub u32);
 
 // A call's position in the list of calls, from 1. It is compared only with another place.
-#[derive(Clone, Copy)]
+#[derive(Clone, Copy, PartialEq, Eq, PartialOrd, Ord, Debug)]
 pub struct Place(pub u64);
 
-// A timestamp so much later: still one, or past the greatest (refusal 27).
-#[derive(Clone, Copy)]
-pub enum Sum {
-    At(Stamp),
-    Passes,
-}
-
-// What commits are sorted by: the timestamp, and the place among equal timestamps.
-#[derive(Clone, Copy)]
+// What commits are sorted by: the timestamp, and the place among equal timestamps. The derived order is that of the fields.
+#[derive(Clone, Copy, PartialEq, Eq, PartialOrd, Ord, Debug)]
 pub struct Key(pub Stamp, pub Place);
 
 impl Stamp {
     // The greatest timestamp.
-    pub const GREATEST: Stamp = Stamp(4294967295);
+    pub const GREATEST: Stamp = Stamp(u32::MAX);
 
     pub fn greatest() -> Stamp
         ensures { result ≡ greatest }
@@ -45,40 +39,35 @@ impl Stamp {
     pub fn at_most(self, other: Stamp) -> bool
         ensures { result ≡ at_most self other }
     {
-        self.0 <= other.0
+        self <= other
     }
 
     // Whether this timestamp is smaller than the other.
     pub fn earlier(self, other: Stamp) -> bool
         ensures { result ≡ earlier self other }
     {
-        self.0 < other.0
+        self < other
     }
 
     // Whether two timestamps are equal.
     pub fn same(self, other: Stamp) -> bool
         ensures { result ≡ same self other }
     {
-        self.0 == other.0
+        self == other
     }
 
     // The later of two timestamps.
     pub fn later(self, other: Stamp) -> Stamp
         ensures { result ≡ later self other }
     {
-        if self.earlier(other) { other } else { self }
+        self.max(other)
     }
 
-    // The timestamp n later, where that is one.
-    pub fn after(self, n: u32) -> Sum
+    // The timestamp n later, or None where it passes the greatest (refusal 27).
+    pub fn after(self, n: u32) -> Option<Stamp>
         ensures { result ≡ after self n }
     {
-        let most = Stamp::GREATEST;
-        if n <= most.0 - self.0 {
-            Sum::At(Stamp(self.0 + n))
-        } else {
-            Sum::Passes
-        }
+        self.0.checked_add(n).map(Stamp)
     }
 }
 
@@ -87,7 +76,7 @@ impl Place {
     pub fn made_earlier(self, other: Place) -> bool
         ensures { result ≡ made_earlier self other }
     {
-        self.0 < other.0
+        self < other
     }
 }
 
@@ -96,18 +85,12 @@ impl Key {
     pub fn precedes(self, other: Key) -> bool
         ensures { result ≡ precedes self other }
     {
-        if self.0.earlier(other.0) {
-            return true;
-        }
-        if self.0.same(other.0) {
-            return self.1.made_earlier(other.1);
-        }
-        false
+        self < other
     }
 }
 
 // A core's pair of clocks: the timestamp of its last load or fence, and of its last store.
-#[derive(Clone, Copy)]
+#[derive(Clone, Copy, PartialEq, Eq, Debug)]
 pub struct Clocks {
     pub lts: Stamp,
     pub sts: Stamp,
@@ -151,7 +134,7 @@ impl Clocks {
 // A core's private copy of a line: wts is the timestamp of the store that made it, rts the end of
 // its lease, dirty whether this core has stored to it since it became owned. dirty is first, in
 // the room beside the variant's tag: a copy then takes 12 bytes, not 16.
-#[derive(Clone, Copy)]
+#[derive(Clone, Copy, PartialEq, Eq, Debug)]
 pub enum Copy {
     None,
     Shared { wts: Stamp, rts: Stamp },
@@ -159,36 +142,29 @@ pub enum Copy {
 }
 
 // What a request asks for.
-#[derive(Clone, Copy)]
+#[derive(Clone, Copy, PartialEq, Eq, Debug)]
 pub enum Want {
     Load,
     Store,
 }
 
-// The version of the shared copy that a core held when it asked.
-#[derive(Clone, Copy)]
-pub enum Held {
-    None,
-    Version(Stamp),
-}
-
 // What the manager grants.
-#[derive(Clone, Copy)]
+#[derive(Clone, Copy, PartialEq, Eq, Debug)]
 pub enum Grant {
     Share,
     Renew,
     Own,
 }
 
-// A core's request slot.
-#[derive(Clone, Copy)]
+// A core's request slot. Where it asks, `held` is the version of the shared copy that the core held then, if it held one.
+#[derive(Clone, Copy, PartialEq, Eq, Debug)]
 pub enum Slot {
     Empty,
     Asked {
         want: Want,
         line: usize,
         lts: Stamp,
-        held: Held,
+        held: Option<Stamp>,
     },
     Answered {
         grant: Grant,
@@ -198,7 +174,7 @@ pub enum Slot {
     },
 }
 
-#[derive(Clone, Copy)]
+#[derive(Clone, Copy, PartialEq, Eq, Debug)]
 pub struct Core {
     pub clocks: Clocks,
     pub slot: Slot,
@@ -219,10 +195,24 @@ impl Core {
     {
         Core::FRESH
     }
+
+    // The core with other clocks.
+    pub fn clocked(self, clocks: Clocks) -> Core
+        ensures { result ≡ clocked self clocks }
+    {
+        Core { clocks, ..self }
+    }
+
+    // The core with another slot.
+    pub fn slotted(self, slot: Slot) -> Core
+        ensures { result ≡ slotted self slot }
+    {
+        Core { slot, ..self }
+    }
 }
 
 // An element of the state's array of copies.
-#[derive(Clone, Copy)]
+#[derive(Clone, Copy, PartialEq, Eq, Debug)]
 pub struct Cell {
     pub copy: Copy,
 }
@@ -239,14 +229,14 @@ impl Cell {
 }
 
 // A line at the manager: shared with wts and rts, or owned by a core.
-#[derive(Clone, Copy)]
+#[derive(Clone, Copy, PartialEq, Eq, Debug)]
 pub enum Manager {
     Shared { wts: Stamp, rts: Stamp },
     Owned { core: usize },
 }
 
 // What the manager has asked a line's owner for.
-#[derive(Clone, Copy)]
+#[derive(Clone, Copy, PartialEq, Eq, Debug)]
 pub enum Recall {
     None,
     Downgrade,
@@ -254,18 +244,18 @@ pub enum Recall {
 }
 
 // A version on its way back to the manager.
-#[derive(Clone, Copy)]
-pub enum Writeback {
-    None,
-    Flight { wts: Stamp, rts: Stamp },
+#[derive(Clone, Copy, PartialEq, Eq, Debug)]
+pub struct Flight {
+    pub wts: Stamp,
+    pub rts: Stamp,
 }
 
-// A line as the manager keeps it.
-#[derive(Clone, Copy)]
+// A line as the manager keeps it: `writeback` is the version on its way back, if one is.
+#[derive(Clone, Copy, PartialEq, Eq, Debug)]
 pub struct ManagerLine {
     pub manager: Manager,
     pub recall: Recall,
-    pub writeback: Writeback,
+    pub writeback: Option<Flight>,
 }
 
 impl ManagerLine {
@@ -276,7 +266,7 @@ impl ManagerLine {
             rts: Stamp(0),
         },
         recall: Recall::None,
-        writeback: Writeback::None,
+        writeback: None,
     };
 
     pub fn fresh() -> ManagerLine
@@ -284,10 +274,27 @@ impl ManagerLine {
     {
         ManagerLine::FRESH
     }
+
+    // The line with another manager part.
+    pub fn managed(self, manager: Manager) -> ManagerLine
+        ensures { result ≡ managed self manager }
+    {
+        ManagerLine { manager, ..self }
+    }
+
+    // The line with a version on its way back.
+    pub fn written_back(self, wts: Stamp, rts: Stamp) -> ManagerLine
+        ensures { result ≡ written_back self wts rts }
+    {
+        ManagerLine {
+            writeback: Some(Flight { wts, rts }),
+            ..self
+        }
+    }
 }
 
 // What an engine is opened with: its sizes, its lease, and how many copies a core may hold.
-#[derive(Clone, Copy)]
+#[derive(Clone, Copy, PartialEq, Eq, Debug)]
 pub struct Opening {
     pub cores: usize,
     pub lines: usize,
@@ -325,24 +332,37 @@ impl Opening {
     }
 
     // Whether the sizes, the lease and the capacity lie inside the limits.
+    #[tactic(auto, unfolding(crate::specs::Limits::opening_fits))]
     pub fn fits(self) -> bool
         ensures { result ≡ opening_fits self }
     {
-        let lease = self.lease as usize;
-        let longest = Opening::MOST_LEASE as usize;
-        if !within(self.cores, Opening::MOST_CORES) {
-            return false;
+        within(self.cores, Opening::MOST_CORES)
+            && within(self.lines, Opening::MOST_LINES)
+            && within(self.width, Opening::MOST_WIDTH)
+            && within(self.lease as usize, Opening::MOST_LEASE as usize)
+            && within(self.cap, self.lines)
+    }
+
+    // How many bytes the private buffer has; 0 where the sizes lie outside the limits.
+    pub fn private_length(self) -> usize
+        ensures { result ≡ pick (opening_fits self) (private_length self) 0 }
+    {
+        if self.fits() {
+            self.cores * self.lines * self.width
+        } else {
+            0
         }
-        if !within(self.lines, Opening::MOST_LINES) {
-            return false;
+    }
+
+    // How many bytes the shared buffer has; 0 where the sizes lie outside the limits.
+    pub fn shared_length(self) -> usize
+        ensures { result ≡ pick (opening_fits self) (shared_length self) 0 }
+    {
+        if self.fits() {
+            (2 * self.lines + self.cores) * self.width
+        } else {
+            0
         }
-        if !within(self.width, Opening::MOST_WIDTH) {
-            return false;
-        }
-        if !within(lease, longest) {
-            return false;
-        }
-        within(self.cap, self.lines)
     }
 }
 
@@ -350,15 +370,12 @@ impl Opening {
 fn within(n: usize, most: usize) -> bool
     ensures { result ≡ within n most }
 {
-    if n < 1 {
-        return false;
-    }
-    n <= most
+    1 <= n && n <= most
 }
 
 // The engine's state. The copy of core c, line l is cell c × MOST_LINES + l. Only cores and lines
 // inside the opening's sizes take part.
-#[derive(Clone, Copy)]
+#[derive(Clone, Copy, PartialEq, Eq, Debug)]
 pub struct State {
     pub opening: Opening,
     pub core: [Core; Opening::MOST_CORES],
@@ -371,23 +388,17 @@ impl State {
     pub fn fresh(opening: Opening) -> State
         ensures { result ≡ fresh_state opening }
     {
-        let k = Core::fresh();
-        let e = Cell::fresh();
-        let l = ManagerLine::fresh();
-        let core = [k; Opening::MOST_CORES];
-        let cell = [e; Opening::MOST_COPIES];
-        let line = [l; Opening::MOST_LINES];
         State {
             opening,
-            core,
-            cell,
-            line,
+            core: [Core::fresh(); Opening::MOST_CORES],
+            cell: [Cell::fresh(); Opening::MOST_COPIES],
+            line: [ManagerLine::fresh(); Opening::MOST_LINES],
         }
     }
 }
 
 // How a store's bytes are given: as they are, or as the digits that spell them, two a byte.
-#[derive(Clone, Copy)]
+#[derive(Clone, Copy, PartialEq, Eq, Debug)]
 pub enum Given {
     Bytes,
     Digits,
@@ -408,7 +419,7 @@ impl Given {
 // The calls. A store's bytes are given beside the call, as bytes or as digits. Evict gives up whatever copy there is; drop a shared
 // one, writeback an owned one; victim names the line that a core would give up. A new call is last, here and in each match: the
 // others then take no instruction more. `given` is first, in the room beside the variant's tag: a call then takes 24 bytes, not 32.
-#[derive(Clone, Copy)]
+#[derive(Clone, Copy, PartialEq, Eq, Debug)]
 pub enum Call {
     Load {
         core: usize,
@@ -456,7 +467,7 @@ pub enum Call {
 }
 
 // The core that a call is about: the one that it names, the owner of its line, or none.
-#[derive(Clone, Copy)]
+#[derive(Clone, Copy, PartialEq, Eq, Debug)]
 pub enum Who {
     Named(usize),
     Owner,
@@ -465,7 +476,7 @@ pub enum Who {
 
 // The line that a call is about: the one that it names, the one in its core's slot, which is asked or answered, none, or its core's
 // victim.
-#[derive(Clone, Copy)]
+#[derive(Clone, Copy, PartialEq, Eq, Debug)]
 pub enum Which {
     Named(usize),
     Asked,
@@ -476,7 +487,7 @@ pub enum Which {
 
 // What a call does to its core's clocks, and so what it may commit, and how a store's bytes are given; a transfer moves a request or
 // a line between a core and the manager, and commits nothing; so does victim, which moves nothing.
-#[derive(Clone, Copy)]
+#[derive(Clone, Copy, PartialEq, Eq, Debug)]
 pub enum Act {
     Load,
     Store(Given),
@@ -491,17 +502,14 @@ impl Act {
         ensures { result ≡ given_as self }
     {
         match self {
-            Act::Load => Given::Bytes,
             Act::Store(given) => given,
-            Act::Fence => Given::Bytes,
-            Act::Advance(_) => Given::Bytes,
-            Act::Transfer => Given::Bytes,
+            _ => Given::Bytes,
         }
     }
 }
 
 // What a call is about.
-#[derive(Clone, Copy)]
+#[derive(Clone, Copy, PartialEq, Eq, Debug)]
 pub struct About {
     pub core: Who,
     pub line: Which,
@@ -550,7 +558,7 @@ fn concerns(core: Who, line: Which, act: Act) -> About
 }
 
 // The name of what was done, where nothing was refused or committed; a victim's has its line.
-#[derive(Clone, Copy)]
+#[derive(Clone, Copy, PartialEq, Eq, Debug)]
 pub enum Name {
     Open,
     Ask,
@@ -568,7 +576,7 @@ pub enum Name {
 }
 
 // A commit's kind and, but for a fence, its line.
-#[derive(Clone, Copy)]
+#[derive(Clone, Copy, PartialEq, Eq, Debug)]
 pub enum Kind {
     Load { line: usize },
     Store { line: usize },
@@ -576,8 +584,9 @@ pub enum Kind {
 }
 
 // What a call answers: the number of its refusal, the name of what was done, or a commit. The bytes
-// of a load's or a store's commit are beside the answer.
-#[derive(Clone, Copy)]
+// of a load's or a store's commit are beside the answer. A refusal is a number, since `Class::of`, `tables::span_of` and
+// `listing::put_record` are promised for every number, and the `refused` of specs/Step has any.
+#[derive(Clone, Copy, PartialEq, Eq, Debug)]
 pub enum Answer {
     Refused(u8),
     Done(Name),
@@ -586,7 +595,7 @@ pub enum Answer {
 
 // What a call with its answer counts as: a commit by its kind, an ask, what a serve answered, a refusal, or nothing
 // of these.
-#[derive(Clone, Copy)]
+#[derive(Clone, Copy, PartialEq, Eq, Debug)]
 pub enum Class {
     Load,
     Store,
@@ -603,80 +612,44 @@ pub enum Class {
 fn is_serve(call: Call) -> bool
     ensures { result ≡ is_serve call }
 {
-    match call {
-        Call::Load { .. } => false,
-        Call::Store { .. } => false,
-        Call::Fence { .. } => false,
-        Call::Evict { .. } => false,
-        Call::Advance { .. } => false,
-        Call::Serve { .. } => true,
-        Call::Receive { .. } => false,
-        Call::Yield { .. } => false,
-        Call::Take { .. } => false,
-        Call::Drop { .. } => false,
-        Call::Writeback { .. } => false,
-        Call::Victim { .. } => false,
-    }
+    matches!(call, Call::Serve { .. })
 }
 
-// A class that is counted where a serve answers: a receive answers the same again.
-fn served(serves: bool, class: Class) -> Class
-    ensures { result ≡ pick serves class Class.Other }
-{
-    if serves {
-        return class;
-    }
-    Class::Other
-}
-
-// The class of an answer that names what was done.
+// The class of an answer that names what was done. A share, a renewal and an own are counted where a serve answers them: a
+// receive answers the same again.
 fn name_class(serves: bool, name: Name) -> Class
     ensures { result ≡ name_class serves name }
 {
     match name {
-        Name::Open => Class::Other,
         Name::Ask => Class::Ask,
-        Name::Recall => Class::Other,
-        Name::Share => served(serves, Class::Share),
-        Name::Renew => served(serves, Class::Renew),
-        Name::Own => served(serves, Class::Own),
-        Name::Drop => Class::Other,
-        Name::Evict => Class::Other,
-        Name::Advance => Class::Other,
-        Name::Yield => Class::Other,
-        Name::Take => Class::Other,
-        Name::Writeback => Class::Other,
-        Name::Victim { .. } => Class::Other,
-    }
-}
-
-// The class of a commit.
-fn commit_class(kind: Kind) -> Class
-    ensures { result ≡ commit_class (valued kind []) }
-{
-    match kind {
-        Kind::Load { .. } => Class::Load,
-        Kind::Store { .. } => Class::Store,
-        Kind::Fence => Class::Fence,
+        Name::Share if serves => Class::Share,
+        Name::Renew if serves => Class::Renew,
+        Name::Own if serves => Class::Own,
+        _ => Class::Other,
     }
 }
 
 impl Class {
     // The class of a call with its answer.
+    #[tactic(auto, unfolding(crate::specs::Step::meaning))]
     pub fn of(call: Call, answer: Answer) -> Class
         ensures { result ≡ class_of call (meaning answer []) }
     {
         match answer {
             Answer::Refused(_) => Class::Refused,
             Answer::Done(name) => name_class(is_serve(call), name),
-            Answer::Commit { kind, .. } => commit_class(kind),
+            Answer::Commit { kind, .. } => match kind {
+                Kind::Load { .. } => Class::Load,
+                Kind::Store { .. } => Class::Store,
+                Kind::Fence => Class::Fence,
+            },
         }
     }
 }
 
 // How many step lines were met, how many of them were commits and refusals, and how many were of each class that the
 // tally counts.
-#[derive(Clone, Copy)]
+#[derive(Clone, Copy, PartialEq, Eq, Debug)]
 pub struct Counts {
     pub steps: u64,
     pub commits: u64,
@@ -707,7 +680,7 @@ impl Counts {
 }
 
 // Which line of bytes a step moves, and where to.
-#[derive(Clone, Copy)]
+#[derive(Clone, Copy, PartialEq, Eq, Debug)]
 pub enum Move {
     // No bytes move.
     Still,
@@ -723,8 +696,34 @@ pub enum Move {
     Take,
 }
 
+// The pieces of the machine that a step looks at: a line's number, one core, its copy of that line, the manager's line, and how
+// many copies the core holds.
+#[derive(Clone, Copy, PartialEq, Eq, Debug)]
+pub struct Pieces {
+    pub number: usize,
+    pub core: Core,
+    pub copy: Copy,
+    pub line: ManagerLine,
+    pub copies: usize,
+}
+
+impl Pieces {
+    // An answer and the bytes that move, with the pieces as they are.
+    pub fn row(self, answer: Answer, moves: Move) -> Effect
+        ensures { result ≡ row answer moves self.core self.copy self.line }
+    {
+        Effect {
+            answer,
+            moves,
+            core: self.core,
+            copy: self.copy,
+            line: self.line,
+        }
+    }
+}
+
 // What a step makes of the core, the copy and the manager's line that it looks at.
-#[derive(Clone, Copy)]
+#[derive(Clone, Copy, PartialEq, Eq, Debug)]
 pub struct Effect {
     pub answer: Answer,
     pub moves: Move,

@@ -5,13 +5,15 @@ use mathlib.Core.{Path.{◌≡◌, refl, ◌∙◌, ap, subst}, Bool.true, List.
 use native.Mathlib.Omega.{arith}
 use lib.{Dec.{lit≤, lit<}, ListN.{length, drop, length-append}}
 use borrow.Author.Tests.{lt-ltb, le-ltb}
-use Rattle.protocol.specs.{Pick.first, Limits.opening_fits, Buffers.Bytes, Machine.{Machine, fresh_machine}, Step.step, Run.Entry}
+use Rattle.protocol.specs.{Limits.opening_fits, Buffers.Bytes, Machine.{Machine, fresh_machine}, Step.step, Run.Entry}
 use Rattle.protocol.specs.declared.{Opening.Opening as Sizes, Call.TheVariants.Serve}
 use Rattle.spelling.specs.{Decimal.{decimal, decimal_up_to}, Hex.{hex, unhex}, Text.text, Over.over}
 use Rattle.grammar.specs.Form.{lay, Given, spellings}
 use Rattle.convert.specs.{Spelling.{opening_line, step_lines, journal_of}, Forms.converted}
 use Rattle.convert.specs.Conversion.{Reads, unlike, result_of, refusal_of, answer_of, buffer_of, Converts, reads}
-use Rattle.convert.specs.declared.{To.{To, TheVariants.{First, Second}}, Converted.TheVariants.{Length, Refused}}
+use Rattle.std.specs.Prelude.{Ok, Err}
+use Rattle.grammar.specs.declared.Refusal.TheVariants.{TooMuch}
+use Rattle.convert.specs.declared.To.{To, TheVariants.{First, Second}}
 use Rattle.converting.proofs.Back.{AllFit, reads_back}
 use Rattle.reference_points.specs.{Numbers.opening, Conversions.{least_first, least_second, long_first, serves}}
 use Rattle.reference_points.proofs.{Rows.calling, Reading.call}
@@ -95,18 +97,18 @@ module _
     conversion : Converts Second journal old (answer_of Second o (times n) (length old)) (buffer_of Second o (times n) old)
     conversion = reads r
 
-    fits : length result ≤ 65536 → length result ≤ length old → Converts Second journal old (Length (length result)) (over old 0 result)
-    unfolding refusal_of unlike first
+    fits : length result ≤ 65536 → length result ≤ length old → Converts Second journal old (Ok (length result)) (over old 0 result)
+    unfolding refusal_of unlike
     fits h room = rw (i, e, le-ltb 65536 (length result) h, le-ltb (length old) (length result) room) at conversion
 
-    too_long : 65536 < length result → Converts Second journal old (Refused 14) old
-    unfolding refusal_of unlike first
+    too_long : 65536 < length result → Converts Second journal old (Err TooMuch) old
+    unfolding refusal_of unlike
     too_long h = rw (i, e, lt-ltb 65536 (length result) h) at conversion
 
 -- ---- 65,536 bytes, and one more
 
 pub longest :
-    (old : Bytes) → 65536 ≤ length old → Converts Second (least_first ++ serves 4093) old (Length 65536) ((least_second ++ serves 4093) ++ drop 65536 old)
+    (old : Bytes) → 65536 ≤ length old → Converts Second (least_first ++ serves 4093) old (Ok 65536) ((least_second ++ serves 4093) ++ drop 65536 old)
 unfolding calling lay spellings decimal decimal_up_to
 longest old h =
     let e : length (least_second ++ serves 4093) ≡ 65536 = length_of least_second 4093 in
@@ -117,7 +119,7 @@ longest old h =
 abbrev long_second : Bytes
 long_second = text "fabric=2 cores=1 lines=1 width=1 lease=100 cap=1\n"
 
-pub longer : (old : Bytes) → Converts Second (long_first ++ serves 4093) old (Refused 14) old
+pub longer : (old : Bytes) → Converts Second (long_first ++ serves 4093) old (Err TooMuch) old
 unfolding calling lay spellings decimal decimal_up_to
 longer old =
     too_long (sizes 100) 4093 (long_first ++ serves 4093) (long_second ++ serves 4093) old refl

@@ -6,7 +6,8 @@ use Rattle.protocol.specs.{Pick.how_many, Machine.fresh_machine, Run.{Entry, run
 use Rattle.protocol.specs.declared.Call.TheVariants.{Load, Store, Serve, Receive, Take}
 use Rattle.protocol.specs.declared.Given.TheVariants.{Digits as AsDigits}
 use Rattle.spelling.specs.{Decimal.{decimal, decimal_up_to}, Hex.hex, Text.text}
-use Rattle.journal.specs.{Journal.{NextOf, empty, ended as at_last}, Theorems.{Reached, start, on}, declared.Next.TheVariants.Opening}
+use Rattle.std.specs.Prelude.{Some, Ok}
+use Rattle.journal.specs.{Journal.{NextOf, empty, ended as at_last}, Theorems.{Reached, start, on}, declared.Item.TheVariants.Opening}
 use Rattle.listing.specs.Record.{record_as, end_text, tally_text}
 use Rattle.driver.specs.Listing.{ended, no_line, a_line, at_end, lines, refused_first}
 use Rattle.playing.specs.Listing.{ReadAs, Opens, opens, counted, nothing}
@@ -14,7 +15,7 @@ use Rattle.reference_points.specs.{Numbers.opening, Sample.{sample_journal, Samp
 use Rattle.reference_points.proofs.{Rows.calling, Lines.answer, Reading.{line, call}}
 
 -- the first line opens an engine
-first : NextOf sample_journal 0 0 (Opening 1 (opening 1 1 1 10 1) 42)
+first : NextOf sample_journal 0 0 (Ok (Some (Opening 1 (opening 1 1 1 10 1) 42)))
 unfolding answer
 first = line sample_journal 0 0 refl refl
 

@@ -4,7 +4,9 @@ use Rattle.protocol.specs.{Pick.how_many, Machine.fresh_machine, Run.{Entry, run
 use Rattle.protocol.specs.declared.Call.TheVariants.{Load, Store, Drop, Writeback as WriteBack, Serve, Receive, Victim}
 use Rattle.protocol.specs.declared.{Given.TheVariants.Digits as AsDigits, Opening.Opening as Sizes}
 use Rattle.spelling.specs.{Decimal.{decimal, decimal_up_to}, Hex.hex, Text.text}
-use Rattle.journal.specs.{Journal.NextOf, Theorems.{Reached, start, on}, declared.Next.TheVariants.Opening}
+use Rattle.std.specs.Prelude.{Some, Ok}
+use Rattle.grammar.specs.declared.Refusal.TheVariants.{NoForm}
+use Rattle.journal.specs.{Journal.NextOf, Theorems.{Reached, start, on}, declared.Item.TheVariants.Opening}
 use Rattle.listing.specs.Record.{record_as, end_text, tally_text}
 use Rattle.driver.specs.Listing.{stopped, no_line, a_line, at_refusal, lines}
 use Rattle.playing.specs.Listing.{ReadAs, Opens, opens, counted}
@@ -15,7 +17,7 @@ use Rattle.reference_points.proofs.{Rows.calling, Lines.answer, Reading.{line, c
 abbrev sizes : Sizes
 sizes = opening 1 2 1 10 1
 
-first : NextOf second_journal 0 0 (Opening 2 sizes 48)
+first : NextOf second_journal 0 0 (Ok (Some (Opening 2 sizes 48)))
 unfolding answer
 first = line second_journal 0 0 refl refl
 
@@ -25,7 +27,7 @@ calls =
     call (Store AsDigits 0 0) (text "07") ∷ call (Serve 0) [] ∷ call (Receive 0) [] ∷ call (Victim 0) [] ∷ call (Load 0 1) [] ∷ call (Serve 0) []
     ∷ call (Receive 0) [] ∷ call (Drop 0 0) [] ∷ call (WriteBack 0 0) [] ∷ call (Receive 0) [] ∷ []
 
-reads : ReadAs second_journal 2 48 calls (stopped 11)
+reads : ReadAs second_journal 2 48 calls (stopped NoForm)
 unfolding answer
 reads =
     record {
@@ -35,7 +37,7 @@ reads =
     }
 
 -- so it opens, and is read
-opened : Opens second_journal sizes calls (stopped 11)
+opened : Opens second_journal sizes calls (stopped NoForm)
 unfolding calling
 opened = record { form = 2; next = 48; first = first; accepted = refl; reads = reads }
 

@@ -8,7 +8,8 @@ use Rattle.protocol.specs.declared.{Answer.TheVariants.Done as Named, Name.TheVa
 use Rattle.spelling.specs.Text.{text}
 use Rattle.tables.specs.Spans.{span_of}
 use Rattle.engine.specs.History.{MadeFrom, none, next, records_of, history}
-use Rattle.journal.specs.{Journal.{NextOf, ended as at_last}, declared.Next.TheVariants.Opening}
+use Rattle.std.specs.Prelude.{Some, Ok}
+use Rattle.journal.specs.{Journal.{NextOf, ended as at_last}, declared.Item.TheVariants.Opening}
 use Rattle.driver.specs.Listing.{ended, no_line, a_line, at_end}
 use Rattle.playing.{specs.Listing.{ReadAs, Opens, opens}, proofs.Printed.printed_theorem}
 use Rattle.reference_points.specs.{Commits.{small, narrow, exchanges, given_up, spelled, filled, repeated, entry_of}, Chain.{Expected, expected, chain}}
@@ -40,7 +41,7 @@ pair_committed = refl
 
 -- ---- the journal
 
-first : NextOf pair_journal 0 0 (Opening 1 pair 42)
+first : NextOf pair_journal 0 0 (Ok (Some (Opening 1 pair 42)))
 unfolding answer
 first = line pair_journal 0 0 refl refl
 

@@ -2,13 +2,14 @@
 --
 -- The machine is that of the rows, with another capacity. Core 1 holds line 0 up to 4, line 1 up to 12 and line 3, owned, up to 9; of line 2 it holds
 -- what the pieces say. Its copy of line 4, which lies outside the sizes, counts for nothing.
-use Rattle.std.specs.Prelude.{ℕ, ◌≤◌}
+use Rattle.std.specs.Prelude.{ℕ, ◌≤◌, Some as Version}
 use mathlib.Core.{Path.◌≡◌, List.{List, [], ◌∷◌}}
 use Rattle.std.specs.Prelude.{set, take}
-use Rattle.protocol.specs.{Fresh.fresh_state, Machine.{Machine, machine, fresh_machine, copies_of, Pieces}, Run.{Entry, run}, Stamps.stamp, Step.{Reply, refused, done, Outcome, step}}
+use Rattle.protocol.specs.{Fresh.fresh_state, Machine.{Machine, machine, fresh_machine, copies_of}, Run.{Entry, run}, Stamps.stamp, Step.{Reply, refused, done, Outcome, step}}
+use Rattle.protocol.specs.declared.Pieces.{Pieces}
 use Rattle.protocol.specs.declared.{Call.{Call, TheVariants.{Receive, Victim}}, Copy.TheVariants.None as NoCopy, State.State}
 use Rattle.protocol.specs.declared.Grant.TheVariants.{Share as GrantShare, Renew as GrantRenew, Own as GrantOwn}
-use Rattle.protocol.specs.declared.{Want.TheVariants.Load as WantLoad, Held.TheVariants.Version, Slot.TheVariants.Empty, Recall.TheVariants.None as NoRecall}
+use Rattle.protocol.specs.declared.{Want.TheVariants.Load as WantLoad, Slot.TheVariants.Empty, Recall.TheVariants.None as NoRecall}
 use Rattle.protocol.specs.declared.Name.TheVariants.{Share as share, Renew as renew, Own as own, Drop as dropped, Victim as victim}
 use Rattle.reference_points.specs.Rows.{core, asked, answered, asked_elsewhere, busy, greatest, shared_copy, clean_copy, dirty_copy, shared_line, owned_line, pieces, Places, places, unmoved}
 use Rattle.reference_points.specs.Rows.{manager_bytes, writeback_bytes, answer_bytes, given, machine_of, cell, Agree}

@@ -1,6 +1,6 @@
 -- Journals between the two forms, as worked examples (02, Five): texts in and texts out, with the answer and the buffer after it; the refusals, and
 -- which of two comes first; each step in the other form, and each line as it is spelt.
-use Rattle.std.specs.Prelude.{ℕ, zero, suc, ◌≤◌, ◌<◌}
+use Rattle.std.specs.Prelude.{ℕ, zero, suc, ◌≤◌, ◌<◌, Ok, Err}
 use mathlib.Core.{Path.◌≡◌, Bool.false, List.{List, [], ◌∷◌, ◌++◌}}
 use Rattle.std.specs.Prelude.{length, drop, replicate}
 use Rattle.protocol.specs.{Buffers.Bytes, declared.{Copy.{Copy, TheVariants.None as NoCopy}, Slot.TheVariants.Empty}}
@@ -8,7 +8,8 @@ use Rattle.protocol.specs.declared.Call.{Call, TheVariants.{Load, Store, Fence, 
 use Rattle.protocol.specs.declared.Given.TheVariants.{Digits as AsDigits}
 use Rattle.spelling.specs.Text.{text}
 use Rattle.convert.specs.{Spelling.{step_line, opening_line}, Forms.{in_first, in_second}, Conversion.{unlike, Converts}}
-use Rattle.convert.specs.declared.{To.{To, TheVariants.{First, Second}}, Converted.TheVariants.{Length, Refused}}
+use Rattle.grammar.specs.{Refusal.number, declared.Refusal.Refusal}
+use Rattle.convert.specs.declared.To.{To, TheVariants.{First, Second}}
 use Rattle.reference_points.specs.Rows.{core, shared_copy, clean_copy, dirty_copy, shared_line, pieces, state_of, Agree}
 use Rattle.reference_points.specs.Numbers.{opening}
 
@@ -16,9 +17,13 @@ use Rattle.reference_points.specs.Numbers.{opening}
 abbrev pub lent : ℕ → Bytes
 lent n = replicate n 46
 
--- a journal that is refused with this number, and a buffer that stays as it was. No result fits that buffer
+-- a journal that is refused with this number, and a buffer that stays as it was
+abbrev pub Untouched : To → Bytes → Bytes → ℕ → Type 0
+Untouched to journal old n = (r : Refusal) × (number r ≡ n) × Converts to journal old (Err r) old
+
+-- .. and a buffer that no result fits
 abbrev pub Refuses : To → Bytes → ℕ → Type 0
-Refuses to journal n = Converts to journal (text "kept") (Refused n) (text "kept")
+Refuses to journal n = Untouched to journal (text "kept") n
 
 -- ---- from 1 to 2
 
@@ -242,18 +247,18 @@ step_texts =
 
 pub record ConversionsTheorem : Type 0 where
   -- "success answers the result's length and leaves the bytes past it": two of them, or none, where the result has the buffer's length
-  pub second : Converts Second of_first (lent 463) (Length 461) (to_second ++ text "..")
-  pub first : Converts First of_second (lent 350) (Length 350) to_first
-  pub second_alone : Converts Second greatest_first (lent 54) (Length 54) greatest_second
-  pub first_alone : Converts First greatest_second (lent 49) (Length 47) (greatest_first ++ text "..")
+  pub second : Converts Second of_first (lent 463) (Ok 461) (to_second ++ text "..")
+  pub first : Converts First of_second (lent 350) (Ok 350) to_first
+  pub second_alone : Converts Second greatest_first (lent 54) (Ok 54) greatest_second
+  pub first_alone : Converts First greatest_second (lent 49) (Ok 47) (greatest_first ++ text "..")
   -- "A result .. over the buffer, is 14 too", by one byte; "Any refusal leaves the buffer untouched"
-  pub second_short : Converts Second of_first (lent 460) (Refused 14) (lent 460)
-  pub first_short : Converts First greatest_second (lent 46) (Refused 14) (lent 46)
-  pub no_buffer : Converts Second least_first [] (Refused 14) []
+  pub second_short : Untouched Second of_first (lent 460) 14
+  pub first_short : Untouched First greatest_second (lent 46) 14
+  pub no_buffer : Untouched Second least_first [] 14
   -- "A result over 65,536 bytes": 48 + 16 × 4,093 are not over it, and 49 + 16 × 4,093 are, however long the buffer is. The journals have 6 bytes less
   pub most : (old : Bytes) → 65536 ≤ length old
-      → Converts Second (least_first ++ serves 4093) old (Length 65536) ((least_second ++ serves 4093) ++ drop 65536 old)
-  pub one_more : (old : Bytes) → Converts Second (long_first ++ serves 4093) old (Refused 14) old
+      → Converts Second (least_first ++ serves 4093) old (Ok 65536) ((least_second ++ serves 4093) ++ drop 65536 old)
+  pub one_more : (old : Bytes) → Untouched Second (long_first ++ serves 4093) old 14
   -- "32, from 2 to 1 only, for cap other than lines". It comes before 14, "the last check"
   pub other_cap : Refuses First (text "fabric=2 cores=1 lines=2 width=1 lease=10 cap=1\n") 32
   -- "a victim step", whether it answers a line or 26
@@ -292,7 +297,7 @@ pub record ConversionsTheorem : Type 0 where
   pub empty_first : Refuses First [] 11
   pub empty_second : Refuses Second [] 11
   -- "Input over 65,536 bytes is 14", whatever it says
-  pub input : (to : To) (journal old : Bytes) → 65536 < length journal → Converts to journal old (Refused 14) old
+  pub input : (to : To) (journal old : Bytes) → 65536 < length journal → Untouched to journal old 14
   -- "evict becomes writeback if the core then holds an owned copy, else drop"; "drop and writeback become evict"
   pub into_second : Agree got_second told_second into_second
   pub into_first : Agree got_first told_first into_first

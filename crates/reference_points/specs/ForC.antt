@@ -3,9 +3,8 @@
 use Rattle.std.specs.Prelude.{ℕ, [], ◌++◌, replicate}
 use Rattle.protocol.specs.Buffers.{Bytes}
 use Rattle.spelling.specs.Text.{text}
-use Rattle.whole.specs.Whole.{Checks}
 use Rattle.convert.specs.declared.To.TheVariants.{First, Second}
-use Rattle.host.specs.Answers.{ListsFor, TalliesFor, ConvertsFor}
+use Rattle.host.specs.Answers.{ChecksFor, ListsFor, TalliesFor, ConvertsFor}
 use Rattle.reference_points.specs.{Sample.{sample_journal, sample_listing, sample_tally}, Conversions.{lent, of_first, to_second, of_second, to_first}}
 
 -- a lent buffer
@@ -29,9 +28,9 @@ sample_start = text "n=0 done=open\n" ++ text "n=1 done=ask\n" ++ text "n=2 done
 
 pub record ForCTheorem : Type 0 where
   -- fabric_check: a journal that reads whole has seven lines; the line that is refused is the third; of an empty journal it is the first
-  pub whole : Checks sample_journal 0 7
-  pub third : Checks wrong_journal 11 3
-  pub none : Checks [] 11 1
+  pub whole : ChecksFor sample_journal 0 7
+  pub third : ChecksFor wrong_journal 11 3
+  pub none : ChecksFor [] 11 1
   -- fabric_list: with room for two bytes more, with just enough, with less
   pub listed : ListsFor sample_journal (marks 183) (sample_listing ++ marks 2) 181
   pub just_listed : ListsFor sample_journal (marks 181) sample_listing 181

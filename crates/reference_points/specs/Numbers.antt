@@ -3,13 +3,14 @@
 --
 -- Two numbers of which one speaks of another call (21 and 22, say) never meet. Nor do 6 and 27 (lts + 0 passes nothing), 20 and 27 (a store asks
 -- only where its copy is not owned), 21 and 27 (only an asked slot has an asked lts). 7 is an opening's alone.
-use Rattle.std.specs.Prelude.{ℕ, List, [], ◌∷◌, ◌++◌, map, drop, replicate}
-use Rattle.protocol.specs.{Stamps.stamp, Buffers.Bytes, Machine.{Machine, machine, fresh_machine, Pieces}}
+use Rattle.std.specs.Prelude.{ℕ, None as NothingHeld, Some as Version, List, [], ◌∷◌, ◌++◌, map, drop, replicate}
+use Rattle.protocol.specs.{Stamps.stamp, Buffers.Bytes, Machine.{Machine, machine, fresh_machine}}
+use Rattle.protocol.specs.declared.Pieces.{Pieces}
 use Rattle.protocol.specs.declared.Call.{Call, TheVariants.{Load, Store, Fence, Evict, Drop, Writeback as WriteBack, Advance, Serve, Receive, Yield}}
 use Rattle.protocol.specs.declared.Given.TheVariants.{Bytes as AsBytes}
 use Rattle.protocol.specs.declared.{Call.TheVariants.{Take, Victim}, Opening.Opening}
 use Rattle.protocol.specs.declared.{Name.TheVariants.Open, Copy.TheVariants.None as NoCopy, State.State}
-use Rattle.protocol.specs.declared.{Want.TheVariants.{Load as WantLoad, Store as WantStore}, Held.TheVariants.{None as NothingHeld, Version}}
+use Rattle.protocol.specs.declared.Want.TheVariants.{Load as WantLoad, Store as WantStore}
 use Rattle.protocol.specs.declared.{Grant.TheVariants.{Share as GrantShare, Own as GrantOwn}, Slot.TheVariants.{Empty, Asked, Answered}}
 use Rattle.protocol.specs.{declared.Recall.TheVariants.{None as NoRecall, Downgrade, Flush}, Step.{Reply, refused, done, Outcome, step, open_reply, opened}}
 use Rattle.reference_points.specs.Rows.{core, asked, answered, asked_elsewhere, answered_elsewhere, shared_copy, clean_copy, dirty_copy, pieces, shared_line}

@@ -3,10 +3,11 @@
 --
 -- What a point does not name is set so that a step which looks at it or changes it shows: where nothing is asked, the slot is in use for another
 -- line, and the manager's line has a recall and a writeback; a load finds sts later than all the rest.
-use Rattle.std.specs.Prelude.{ℕ, List, [], ◌∷◌}
-use Rattle.protocol.specs.{Stamps.stamp, Machine.Pieces, Step.{refused, done}, declared.{Copy.{Copy, TheVariants.None as NoCopy}, ManagerLine.ManagerLine}}
+use Rattle.std.specs.Prelude.{ℕ, None as NothingHeld, Some as Version, List, [], ◌∷◌}
+use Rattle.protocol.specs.{Stamps.stamp, Step.{refused, done}, declared.{Copy.{Copy, TheVariants.None as NoCopy}, ManagerLine.ManagerLine}}
+use Rattle.protocol.specs.declared.Pieces.{Pieces}
 use Rattle.protocol.specs.declared.{Name.TheVariants.Share as share, Want.TheVariants.Load as WantLoad, Grant.TheVariants.Share as GrantShare}
-use Rattle.protocol.specs.declared.{Held.TheVariants.{None as NothingHeld, Version}, Recall.TheVariants.None as NoRecall}
+use Rattle.protocol.specs.declared.Recall.TheVariants.{None as NoRecall}
 use Rattle.protocol.specs.declared.Call.TheVariants.{Load, Serve}
 use Rattle.reference_points.specs.Rows.{core, asked, answered, asked_elsewhere, shared_copy, clean_copy, dirty_copy, shared_line, owned_line, pieces}
 use Rattle.reference_points.specs.{Rows.{busy, greatest, unmoved, Row, row, AllHold}, Steps.{asking, loading_over, storing, fencing_over, with_bytes}}

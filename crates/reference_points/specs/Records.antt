@@ -6,6 +6,7 @@ use Rattle.protocol.specs.declared.{Counts.Counts, Name.TheVariants.{Open, Ask, 
 use Rattle.spelling.specs.Text.{text}
 use Rattle.protocol.specs.declared.Given.TheVariants.{Digits as AsDigits}
 use Rattle.listing.specs.Record.{record_as, record_text, end_text}
+use Rattle.grammar.specs.declared.Refusal.TheVariants.{Unfit, NoForm}
 use Rattle.driver.specs.Listing.{ended, stopped, last_lines, not_opened}
 use Rattle.reference_points.specs.Rows.{Agree}
 
@@ -76,6 +77,6 @@ pub record RecordsTheorem : Type 0 where
   pub end : end_text met ≡ text "end=12 commits=3 refused=4\n"
   pub ended : last_lines met ended ≡ text "end=12 commits=3 refused=4\n"
   -- "Numbers 7 and 10 to 14 end the run, after `refused=` and the end line"
-  pub stopped : last_lines met (stopped 11) ≡ text "n=13 refused=11\n" ++ text "end=13 commits=3 refused=5\n"
+  pub stopped : last_lines met (stopped NoForm) ≡ text "n=13 refused=11\n" ++ text "end=13 commits=3 refused=5\n"
   -- "(a bad opening or 14: n=0, end=0; empty input: 11)"
-  pub not_opened : not_opened 7 ≡ text "n=0 refused=7\n" ++ text "end=0 commits=0 refused=1\n"
+  pub not_opened : not_opened Unfit ≡ text "n=0 refused=7\n" ++ text "end=0 commits=0 refused=1\n"

@@ -2,16 +2,18 @@
 --
 -- The machine has 3 cores, 4 lines and a width of 5, and a row is about core 1 and line 2. The other cores, lines and copies hold something of
 -- their own, and so do cores and lines outside the sizes, so that a step which looks or writes elsewhere shows. No two bytes are equal.
-use Rattle.std.specs.Prelude.{ℕ, zero, suc}
+use Rattle.std.specs.Prelude.{ℕ, zero, suc, Option, Some, None as NoWriteback}
+use Rattle.std.specs.Prelude.{None as NothingHeld, Some as Version}
 use mathlib.Core.{Path.◌≡◌, Bool.{true, false}, List.{List, [], ◌∷◌, ◌++◌}}
 use Rattle.std.specs.Prelude.{set, replicate}
 use Rattle.protocol.specs.{Stamps.stamp, Fresh.{fresh_core, fresh_cell, fresh_line}, Buffers.Bytes, Step.{Reply, Outcome, step}}
-use Rattle.protocol.specs.Machine.{Machine, machine, Pieces}
+use Rattle.protocol.specs.Machine.{Machine, machine}
+use Rattle.protocol.specs.declared.{Pieces.Pieces, Stamp.Stamp}
 use Rattle.protocol.specs.declared.Copy.{Copy, TheVariants.{None as NoCopy, Shared as CopyShared, Owned as CopyOwned}}
-use Rattle.protocol.specs.declared.{Want.{Want, TheVariants.{Load as WantLoad, Store as WantStore}}, Held.{Held, TheVariants.{None as NothingHeld, Version}}}
+use Rattle.protocol.specs.declared.Want.{Want, TheVariants.{Load as WantLoad, Store as WantStore}}
 use Rattle.protocol.specs.declared.{Grant.{Grant, TheVariants.{Share as GrantShare, Own as GrantOwn}}, Slot.{Slot, TheVariants.{Asked, Answered}}, Core.Core, Cell.Cell}
 use Rattle.protocol.specs.declared.{Manager.TheVariants.{Shared, Owned}, Recall.{Recall, TheVariants.{None as NoRecall, Downgrade, Flush}}}
-use Rattle.protocol.specs.declared.{Writeback.TheVariants.{None as NoWriteback, Flight}, ManagerLine.ManagerLine, State.State, Call.Call}
+use Rattle.protocol.specs.declared.{ManagerLine.ManagerLine, State.State, Call.Call}
 
 -- ---- parts of a machine
 
@@ -20,7 +22,7 @@ abbrev pub core : ℕ → ℕ → Slot → Core
 core lts sts s = record { clocks = record { lts = stamp lts; sts = stamp sts }; slot = s }
 
 -- its slot: asked for line 2, at an lts; or answered for line 2, with wts and rts
-abbrev pub asked : Want → ℕ → Held → Slot
+abbrev pub asked : Want → ℕ → Option Stamp → Slot
 asked a lts h = Asked a 2 (stamp lts) h
 
 abbrev pub answered : Grant → ℕ → ℕ → Slot
@@ -61,7 +63,7 @@ abbrev pub with_recall : Recall → ManagerLine → ManagerLine
 with_recall k m = record { manager = m.manager; recall = k; writeback = m.writeback }
 
 abbrev pub with_writeback : ℕ → ℕ → ManagerLine → ManagerLine
-with_writeback wts rts m = record { manager = m.manager; recall = m.recall; writeback = Flight (stamp wts) (stamp rts) }
+with_writeback wts rts m = record { manager = m.manager; recall = m.recall; writeback = Some (record { wts = stamp wts; rts = stamp rts }) }
 
 -- the same with both
 abbrev pub busy : ManagerLine → ManagerLine

@@ -1,11 +1,12 @@
 -- The store whose bytes are given in digits (02, Three), row by row: what it does to the core, its copy and the bytes; and its refusals, of which
 -- 13 is the first.
-use Rattle.std.specs.Prelude.{ℕ}
+use Rattle.std.specs.Prelude.{ℕ, None as NothingHeld, Some as Version}
 use mathlib.Core.{Path.◌≡◌, List.{List, [], ◌∷◌, ◌++◌, map}}
-use Rattle.protocol.specs.{Stamps.stamp, Buffers.Bytes, Machine.{Machine, Pieces}, Step.{Reply, done, commit, store, Outcome, step}}
+use Rattle.protocol.specs.{Stamps.stamp, Buffers.Bytes, Machine.Machine, Step.{Reply, done, commit, store, Outcome, step}}
+use Rattle.protocol.specs.declared.Pieces.{Pieces}
 use Rattle.protocol.specs.declared.{Call.TheVariants.Store, Given.TheVariants.Digits as AsDigits, Name.TheVariants.Ask as ask}
 use Rattle.protocol.specs.declared.{Copy.TheVariants.None as NoCopy, Slot.TheVariants.Empty, Recall.TheVariants.None as NoRecall}
-use Rattle.protocol.specs.declared.{Want.TheVariants.Store as WantStore, Held.TheVariants.{None as NothingHeld, Version}}
+use Rattle.protocol.specs.declared.Want.TheVariants.{Store as WantStore}
 use Rattle.spelling.specs.{Text.text, Hex.unhex}
 use Rattle.reference_points.specs.Rows.{core, asked, asked_elsewhere, shared_copy, clean_copy, dirty_copy, pieces, shared_line, owned_line, busy, Places}
 use Rattle.reference_points.specs.Rows.{places, manager_bytes, writeback_bytes, answer_bytes, unmoved, machine_of, Agree}

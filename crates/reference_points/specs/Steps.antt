@@ -1,11 +1,11 @@
 -- The step tables of 01 and of 02, Two and Six, row by row: beside the reference points, what each step does to the core, its copy, the
 -- manager's line and the bytes. What it leaves shows where there is something to leave: a slot in use, a copy held, a recall and a writeback. So
 -- does a number that comes early.
-use Rattle.std.specs.Prelude.{ℕ}
+use Rattle.std.specs.Prelude.{ℕ, Option, None as NothingHeld, Some as Version}
 use mathlib.Core.{Path.◌≡◌, List.{List, [], ◌∷◌, ◌++◌, map}}
-use Rattle.protocol.specs.{Stamps.stamp, Machine.{machine, Pieces}, Step.{done, commit, load, store, fence, Outcome, step}, Evict.fitting}
+use Rattle.protocol.specs.{Stamps.stamp, Machine.machine, Step.{done, commit, load, store, fence, Outcome, step}, Evict.fitting}
+use Rattle.protocol.specs.declared.{Pieces.Pieces, Stamp.Stamp}
 use Rattle.protocol.specs.declared.{Copy.{Copy, TheVariants.None as NoCopy}, Want.{Want, TheVariants.{Load as WantLoad, Store as WantStore}}}
-use Rattle.protocol.specs.declared.Held.{Held, TheVariants.{None as NothingHeld, Version}}
 use Rattle.protocol.specs.declared.{Grant.TheVariants.{Share as GrantShare, Renew as GrantRenew, Own as GrantOwn}, Slot.{Slot, TheVariants.{Empty, Answered}}}
 use Rattle.protocol.specs.declared.{Recall.{Recall, TheVariants.{None as NoRecall, Downgrade, Flush}}, ManagerLine.ManagerLine, State.State}
 use Rattle.protocol.specs.declared.Call.{Call, TheVariants.{Load, Store, Fence, Evict, Drop, Writeback as WriteBack, Advance, Serve, Receive, Yield, Take}}
@@ -36,7 +36,7 @@ also_at lts sts rs = rs ++ map (at_clocks lts sts) rs
 
 -- "ask. The slot becomes asked" with "load or store, line, the lts when asked, the wts of the shared copy held, or none": lts, and the copy and the
 -- manager's line, which stay
-abbrev pub asking : ℕ → Call → Want → Copy → Held → ManagerLine → Row
+abbrev pub asking : ℕ → Call → Want → Copy → Option Stamp → ManagerLine → Row
 asking lts call a x h m = doing (pieces (core lts 40 Empty) x m) call ask (pieces (core lts 40 (asked a lts h)) x m) unmoved
 
 abbrev pub ask_rows : List Row
@@ -202,10 +202,10 @@ recalling a k k' =
 
 -- a request for the shared line, by a core with this copy, which stays: the asked lts, what is asked for, the version held; the manager's line; its
 -- answer, the slot, the line and the bytes after it
-abbrev pub serving_over : Copy → ℕ → Want → Held → ManagerLine → Name → Slot → ManagerLine → Places → Row
+abbrev pub serving_over : Copy → ℕ → Want → Option Stamp → ManagerLine → Name → Slot → ManagerLine → Places → Row
 serving_over x lts a h m d s m' b = doing (pieces (core 7 9 (asked a lts h)) x m) (Serve 1) d (pieces (core 7 9 s) x m') b
 
-abbrev pub serving : ℕ → Want → Held → ManagerLine → Name → Slot → ManagerLine → Places → Row
+abbrev pub serving : ℕ → Want → Option Stamp → ManagerLine → Name → Slot → ManagerLine → Places → Row
 serving = serving_over (shared_copy 3 8)
 
 -- the manager's bytes as the answer

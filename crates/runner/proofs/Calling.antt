@@ -6,14 +6,14 @@ use lib.ListN.{length, take, drop, replicate}
 use Rattle.std.specs.Prelude.{Option, Result, Ok, Err}
 use Rattle.std.specs.Io.KnownBytes.{Appends}
 use Rattle.std.proofs.{Common.take-append-drop, KnownBytes.{Appends-nil, Appends-trans, Keeps-refl, Keeps-trans}}
-use Rattle.protocol.{specs.{Buffers.{Bytes, private_length, shared_length}, declared.Counts.Counts}, proofs.{Tests.never, Extents.{Inside, inside}}}
+use Rattle.protocol.{specs.{Limits.opening_fits, Buffers.{Bytes, private_length, shared_length}, declared.Counts.Counts}, proofs.Tests.never}
 use Rattle.driver.specs.{Play.{run_from, resumable, Plays, Tells, finished, more, unfit, Starts}, declared.Checkpoint.Checkpoint}
-use Rattle.driver.{specs.declared.{Progress.{Progress, TheVariants.{Finished, More}}, Played.Played}, proofs.{Resuming.resumes, Starting.start_fits}}
-use Rattle.playing.specs.{Listing.Listing, Calls.{joined, PlaysOn, last, next, over, begun}, Pieces.lines_of}
-use Rattle.playing.specs.Theorems.{Begun, listed, running, Onward, ends, further}
-use Rattle.playing.proofs.{Whole.{whole_theorem, begins_pieces}, Progressing.{start_advances_theorem, play_advances_theorem}, OneReading.one_reading_theorem}
+use Rattle.driver.{specs.declared.{Progress.{Progress, TheVariants.{More}}, Played.Played}, proofs.{Resuming.resumes, Starting.start_fits}}
+use Rattle.playing.specs.{Listing.Listing, Calls.{joined, PlaysOn, last, next, over, begun, more_to_play}, Pieces.lines_of}
+use Rattle.playing.specs.Theorems.{Begun, listed, running, Onward}
+use Rattle.playing.proofs.{Calling.{on_over, on_more, begun_over, begun_more}, Whole.{whole_theorem, begins_pieces}, Progressing.{start_advances_theorem, play_advances_theorem}, OneReading.one_reading_theorem}
 use Rattle.playing.proofs.Pieces.{PiecesAt, onward as onward_pieces, ended as ended_pieces, joined_append, joined_lines, joined_pieces, pieces_theorem}
-use Rattle.runner.specs.Ran.{more_to_play, Gets, Kept, kept, unwritten, ListingFrom, RanFrom, ended, stopped, RanWhole, whole, part}
+use Rattle.runner.specs.Ran.{Gets, Kept, kept, unwritten, ListingFrom, RanFrom, ended, stopped, RanWhole, whole, part}
 use Rattle.runner.specs.Moved.{Gave}
 use Rattle.runner.specs.declared.Texts.{Texts, TheVariants.{Written, Dropped}}
 
@@ -107,17 +107,6 @@ called_start texts old s h =
       listing = λ t x. x;
     }
 
--- with room, a call of `play` that does not go on is finished, and one that goes on is further on in the journal
-on_over : {j : Bytes} {from there : Checkpoint} {g : Progress} → Onward j from there g → more_to_play g ≡ false → g ≡ Finished
-on_over ends e = refl
-on_over (further a s) e = never e
-
-on_more :
-    {j : Bytes} {from there : Checkpoint} {g : Progress} → Onward j from there g → more_to_play g ≡ true
-    → (g ≡ More) × (from.at < there.at) × (resumable (length j) there ≡ true)
-on_more ends e = never (sym e)
-on_more (further a s) e = (refl, a, s)
-
 -- what a call wrote that goes on stands before the listing from where it got to
 told_more :
     {j : Bytes} {from : Checkpoint} {p q : Bytes} {there : Checkpoint} {p' q' text : Bytes} {room : ℕ} {g : Progress} → Tells j from p q there p' q' text room g
@@ -197,14 +186,6 @@ module _ {j : Bytes} {from : Checkpoint} {p₀ q₀ : Bytes} {there : Checkpoint
 
 -- ---- the first call
 
-begun_over : {j : Bytes} {there : Checkpoint} {g : Progress} → Begun j there g → more_to_play g ≡ false → g ≡ Finished
-begun_over listed e = refl
-begun_over (running s) e = never e
-
-begun_more : {j : Bytes} {there : Checkpoint} {g : Progress} → Begun j there g → more_to_play g ≡ true → (g ≡ More) × (resumable (length j) there ≡ true)
-begun_more listed e = never (sym e)
-begun_more (running s) e = (refl, s)
-
 module _ {j out new : Bytes} {r : Played} (x : Starts j out new r) where
   -- the listing from the first checkpoint, on buffers of zeros, stands behind what the first call wrote
   behind :
@@ -222,9 +203,9 @@ module _ {j out new : Bytes} {r : Played} (x : Starts j out new r) where
     pub whole_more : more_to_play r.progress ≡ true → (r.progress ≡ More) × (resumable (length j) r.checkpoint ≡ true)
     whole_more e = begun_more begins e
 
-    -- then the sizes of the engine that was opened lie inside the limits
-    pub whole_inside : more_to_play r.progress ≡ true → Inside r.checkpoint.state.opening
-    whole_inside e = inside _ (start_fits x (whole_more e).0)
+    -- then the engine that was opened fits
+    pub whole_fits : more_to_play r.progress ≡ true → opening_fits r.checkpoint.state.opening ≡ true
+    whole_fits e = start_fits x (whole_more e).0
 
     -- the listing begins with what the first call wrote
     begins_in : {g : Progress} → Begun j r.checkpoint g → r.progress ≡ g → (rest : Bytes) × Listing j (take r.written new ++ rest)

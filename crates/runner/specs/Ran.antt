@@ -1,18 +1,11 @@
 -- How a whole journal is played, and what a writer gets of its listing, where the writer's bytes are known.
-use mathlib.Core.{Bool.{Bool, true, false}, List.{List, ◌++◌}}
+use mathlib.Core.{List.{List, ◌++◌}}
 use Rattle.std.specs.Prelude.{◌≡◌, Option, Result, Ok, Err}
 use Rattle.std.specs.Io.KnownBytes.{Appends, Keeps}
 use Rattle.protocol.specs.{Buffers.Bytes, Machine.machine, Run.Entry, declared.Counts.Counts}
-use Rattle.driver.specs.{Listing.Ending, declared.{Checkpoint.Checkpoint, Progress.{Progress, TheVariants.{Finished, More, Short, Unfit}}}}
+use Rattle.driver.specs.{Listing.Ending, declared.{Checkpoint.Checkpoint}}
 use Rattle.playing.specs.{Listing.{ReadAs, listing_from, Listing, Tally}, Calls.{joined, PlaysOn, Playing}}
 use Rattle.runner.specs.{Moved.GaveSome, declared.Texts.{Texts, TheVariants.{Written, Dropped}}}
-
--- whether there is more to play after a call
-abbrev pub more_to_play : Progress → Bool
-more_to_play Finished = false
-more_to_play More = true
-more_to_play Short = false
-more_to_play Unfit = false
 
 -- a writer gets a text that is written, and nothing of one that is dropped
 abbrev pub Gets : Texts → Option Bytes → Option Bytes → Bytes → Type 0

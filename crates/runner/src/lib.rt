@@ -11,7 +11,8 @@ mod streams;
 ghost use Rattle.std.specs.Prelude.{◌≤◌, length};
 ghost use mathlib.Core.{Path.◌≡◌, Bool.true};
 ghost use Rattle.driver.specs.Play.{resumable};
-ghost use Rattle.runner.specs.{Ran.{more_to_play, Kept, RanFrom, RanWhole}, Input.ReadInto, Moved.Took};
+ghost use Rattle.playing.specs.Calls.{more_to_play};
+ghost use Rattle.runner.specs.{Ran.{Kept, RanFrom, RanWhole}, Input.ReadInto, Moved.Took};
 
 use driver::{Checkpoint, Progress};
 use protocol::Counts;
@@ -36,15 +37,10 @@ pub fn read_input<R: Read>(input: &mut R, buf: &mut [u8; 65537]) -> io::Result<u
 
 // Whether there is more to play after a call. Neither `start` with room for its text nor `play` from a checkpoint that it
 // returned answers `Short` or `Unfit`, so where there is no more the listing is whole.
-fn more_to_play(progress: Progress) -> bool
+pub fn more_to_play(progress: Progress) -> bool
     ensures { result ≡ more_to_play progress }
 {
-    match progress {
-        Progress::Finished => false,
-        Progress::More => true,
-        Progress::Short => false,
-        Progress::Unfit => false,
-    }
+    matches!(progress, Progress::More)
 }
 
 // Writes a text, or drops it: an error where the writer does not take it.
@@ -57,7 +53,7 @@ fn keep<W: Write>(texts: Texts, text: &[u8], to: &mut W) -> io::Result<()>
     }
 }
 
-// Plays a journal from a checkpoint on.
+// Plays a journal from a checkpoint on. The buffers are parameters of their own, as of `driver::play`.
 fn play_on<W: Write>(
     journal: &[u8],
     from: Checkpoint,
@@ -74,11 +70,9 @@ fn play_on<W: Write>(
     let mut there = from;
     loop {
         let played = driver::play(journal, there, private, shared, out);
-        let written = played.written;
-        let progress = played.progress;
-        keep(texts, &out[..written], to)?;
+        keep(texts, &out[..played.written], to)?;
         there = played.checkpoint;
-        if !more_to_play(progress) {
+        if !more_to_play(played.progress) {
             return Ok(there.counts);
         }
     }
@@ -93,25 +87,17 @@ pub fn play_whole<W: Write>(journal: &[u8], texts: Texts, to: &mut W) -> io::Res
     let mut private = [0u8; 65536];
     let mut shared = [0u8; 9216];
     let played = driver::start(journal, &mut out);
-    let written = played.written;
-    let progress = played.progress;
-    keep(texts, &out[..written], to)?;
+    keep(texts, &out[..played.written], to)?;
     let checkpoint = played.checkpoint;
-    if !more_to_play(progress) {
+    if !more_to_play(played.progress) {
         return Ok(checkpoint.counts);
     }
-    let state = checkpoint.state;
-    let opening = state.opening;
-    let cores = opening.cores;
-    let lines = opening.lines;
-    let width = opening.width;
-    let n = cores * lines * width;
-    let m = (2 * lines + cores) * width;
+    let opening = checkpoint.state.opening;
     play_on(
         journal,
         checkpoint,
-        &mut private[0..n],
-        &mut shared[0..m],
+        &mut private[0..opening.private_length()],
+        &mut shared[0..opening.shared_length()],
         &mut out,
         texts,
         to,

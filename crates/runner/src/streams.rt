@@ -17,7 +17,8 @@ pub enum Fault {
 // How many reads that a signal interrupts are tried again.
 const MOST_RETRIES: usize = 1000;
 
-// Reads into buf, until the input ends or buf is full. Each pass of the loop reads a byte or more, or is one of the retries.
+// Reads into buf, until the input ends or buf is full. Each pass of the loop reads a byte or more, or is one of the retries. The library's
+// `read_to_end` does not say what was read before an error, as `Took` does.
 pub(crate) fn read_all<R: Read>(input: &mut R, buf: &mut [u8]) -> io::Result<usize>
     ensures count { ReadInto result buf.new }
     ensures bytes { Took (R.remaining input.old) (R.remaining input.new) result buf.new }
@@ -39,7 +40,8 @@ pub(crate) fn read_all<R: Read>(input: &mut R, buf: &mut [u8]) -> io::Result<usi
     Ok(done)
 }
 
-// Writes all of a text, or stops at the first write that takes nothing or fails, also where a signal interrupted it.
+// Writes all of a text, or stops at the first write that takes nothing or fails, also where a signal interrupted it. The library's
+// `write_all` does not say what was written before an error, as `Gave` does.
 pub fn write_all<W: Write>(out: &mut W, text: &[u8]) -> io::Result<()>
     ensures bytes { Gave (W.contents out.old) (W.contents out.new) result text.now }
 {

@@ -6,9 +6,8 @@
 // more, and a blank. The kinds are L load, S store (the byte and a `-`), s store of no bytes,
 // H store in digits (the byte, four times), F fence, E evict, D drop, W writeback, A advance (by the digit), M advance by the greatest number,
 // V serve, R receive, Y yield, T take and C victim (the copy to give up). The core and the line say besides what is shown.
-use super::print;
-use engine::Returned;
-use protocol::{Call, Given, Opening, State};
+use super::session::Session;
+use protocol::{Call, Given, Opening};
 
 // The call of a kind; a take where the kind is none.
 fn call_of(kind: u8, core: usize, line: usize, by: u32) -> Call {
@@ -29,10 +28,7 @@ fn call_of(kind: u8, core: usize, line: usize, by: u32) -> Call {
         b'D' => Call::Drop { core, line },
         b'W' => Call::Writeback { core, line },
         b'A' => Call::Advance { core, by },
-        b'M' => Call::Advance {
-            core,
-            by: 4294967295,
-        },
+        b'M' => Call::Advance { core, by: u32::MAX },
         b'V' => Call::Serve { core },
         b'R' => Call::Receive { core },
         b'Y' => Call::Yield { line },
@@ -41,67 +37,27 @@ fn call_of(kind: u8, core: usize, line: usize, by: u32) -> Call {
     }
 }
 
-// Makes a call of a kind, with the byte that says by how much, or what is stored.
-fn make(
-    d: Returned,
-    private: &mut [u8],
-    shared: &mut [u8],
-    kind: u8,
-    core: usize,
-    line: usize,
-    value: u8,
-) -> Returned {
-    let call = call_of(kind, core, line, (value % 16) as u32);
-    let given = [value, b'-'];
-    let digits = [value, value, value, value];
-    if kind == b's' {
-        return engine::step(d.state, private, shared, call, b"");
-    }
-    if kind == b'H' {
-        return engine::step(d.state, private, shared, call, &digits);
-    }
-    engine::step(d.state, private, shared, call, &given)
-}
-
-// The number of a digit.
-fn digit(b: u8) -> usize {
-    b as usize % 16
-}
-
 // Plays a list on an engine of three cores, two lines of two bytes, a lease of 2, and this capacity.
 fn play(rt: &impl Print, cap: usize, list: &[u8]) {
-    let mut private = [0u8; 12];
-    let mut shared = [0u8; 14];
-    let o = engine::open(Opening {
+    let mut s = Session::<12, 14>::open(Opening {
         cores: 3,
         lines: 2,
         width: 2,
         lease: 2,
         cap,
     });
-    let answer = o.answer;
-    let state = o.state;
-    print::record(rt, 0, answer, b"");
-    let mut d = Returned {
-        answer,
-        start: 0,
-        count: 0,
-        state,
-    };
-    let mut at = 0;
-    let mut n = 1;
-    while at < list.len() {
-        if list.len() - at < 5 {
-            return;
+    s.print_record(rt, 0);
+    for (i, &[kind, core, line, value, _]) in list.as_chunks::<5>().0.iter().enumerate() {
+        let core = usize::from(core % 16);
+        let line = usize::from(line % 16);
+        let call = call_of(kind, core, line, u32::from(value % 16));
+        // What a store is given; other calls pass over it.
+        match kind {
+            b's' => s.call(|s, p, q| engine::step(s, p, q, call, b"")),
+            b'H' => s.call(|s, p, q| engine::step(s, p, q, call, &[value; 4])),
+            _ => s.call(|s, p, q| engine::step(s, p, q, call, &[value, b'-'])),
         }
-        let kind = list[at];
-        let core = digit(list[at + 1]);
-        let line = digit(list[at + 2]);
-        let value = list[at + 3];
-        d = make(d, &mut private, &mut shared, kind, core, line, value);
-        print::call(rt, n, d, &private, &shared, core, line);
-        at += 5;
-        n += 1;
+        s.print(rt, i as u64 + 1, core, line);
     }
 }
 
@@ -141,30 +97,23 @@ pub(crate) fn play_all(rt: &impl Print) {
     outside(rt);
 }
 
-// A load of line 0 by core 0, and what is shown then.
-fn load<'a>(rt: &impl Print, n: u64, s: State, private: &'a mut [u8], shared: &'a mut [u8]) {
-    let d = engine::load(s, private, shared, 0, 0);
-    print::call(rt, n, d, private, shared, 0, 0);
-}
-
 // 7; and on the state that a refused opening returns, 2 with a shared buffer that is too short,
 // and 1 with a lease of 0.
 fn outside(rt: &impl Print) {
-    let o = engine::open(Opening {
+    let mut short = Session::<1, 2>::open(Opening {
         cores: 17,
         lines: 1,
         width: 1,
         lease: 1,
         cap: 1,
     });
-    let answer = o.answer;
-    let mut s = o.state;
-    print::record(rt, 0, answer, b"");
-    let mut private = [0u8; 1];
-    let mut short = [0u8; 2];
-    load(rt, 1, s, &mut private, &mut short);
-    s.opening.lease = 0;
-    let mut copy = [0u8; 1];
-    let mut shared = [0u8; 3];
-    load(rt, 2, s, &mut copy, &mut shared);
+    short.print_record(rt, 0);
+    let mut broken = Session::<1, 3>::on(short.last());
+    short.call(|s, p, q| engine::load(s, p, q, 0, 0));
+    short.print(rt, 1, 0, 0);
+    broken.call(|mut s, p, q| {
+        s.opening.lease = 0;
+        engine::load(s, p, q, 0, 0)
+    });
+    broken.print(rt, 2, 0, 0);
 }

@@ -8,40 +8,32 @@
 
 mod list;
 mod named;
-mod print;
+mod session;
 
-use engine::Returned;
 use protocol::Opening;
-
-// Prints the record of the n-th call, and line 0 as core 0 sees it.
-fn shown<'a>(rt: &impl Print, n: u64, d: Returned, private: &'a [u8], shared: &'a [u8]) {
-    print::call(rt, n, d, private, shared, 0, 0);
-}
+use session::Session;
 
 fn main(rt: HostRuntime) {
-    let mut private = [0u8; 1];
-    let mut shared = [0u8; 3];
-    let o = engine::open(Opening {
+    let mut s = Session::<1, 3>::open(Opening {
         cores: 1,
         lines: 1,
         width: 1,
         lease: 10,
         cap: 1,
     });
-    let answer = o.answer;
-    print::record(&rt, 0, answer, b"");
-    let mut d = engine::store(o.state, &mut private, &mut shared, 0, 0, b"\x07");
-    shown(&rt, 1, d, &private, &shared);
-    d = engine::serve(d.state, &mut private, &mut shared, 0);
-    shown(&rt, 2, d, &private, &shared);
-    d = engine::receive(d.state, &mut private, &mut shared, 0);
-    shown(&rt, 3, d, &private, &shared);
-    d = engine::store(d.state, &mut private, &mut shared, 0, 0, b"\x07");
-    shown(&rt, 4, d, &private, &shared);
-    d = engine::load(d.state, &mut private, &mut shared, 0, 0);
-    shown(&rt, 5, d, &private, &shared);
-    d = engine::take(d.state, &mut private, &mut shared, 0);
-    shown(&rt, 6, d, &private, &shared);
+    s.print_record(&rt, 0);
+    s.call(|s, p, q| engine::store(s, p, q, 0, 0, b"\x07"));
+    s.print(&rt, 1, 0, 0);
+    s.call(|s, p, q| engine::serve(s, p, q, 0));
+    s.print(&rt, 2, 0, 0);
+    s.call(|s, p, q| engine::receive(s, p, q, 0));
+    s.print(&rt, 3, 0, 0);
+    s.call(|s, p, q| engine::store(s, p, q, 0, 0, b"\x07"));
+    s.print(&rt, 4, 0, 0);
+    s.call(|s, p, q| engine::load(s, p, q, 0, 0));
+    s.print(&rt, 5, 0, 0);
+    s.call(|s, p, q| engine::take(s, p, q, 0));
+    s.print(&rt, 6, 0, 0);
     named::play_all(&rt);
     list::play_all(&rt);
 }

@@ -1,10 +1,11 @@
 -- Laws of the decimal spelling. Assumes nothing.
 use Prim.Native.Nat.{ℕ, zero, suc, ◌+◌, ◌*◌, ◌/◌, ◌%◌, ◌≤◌, ◌<◌, ◌-◌, ◌^◌}
-use mathlib.Core.{Path.{◌≡◌, refl, sym, ◌∙◌, ap, ap₂}, List.{List, [], ◌∷◌, ◌++◌}, Logic.{⊎_elim}}
+use mathlib.Core.{Path.{◌≡◌, refl, sym, ◌∙◌, ap, ap₂, subst}, List.{List, [], ◌∷◌, ◌++◌}, Logic.{⊎_elim}}
 use native.Mathlib.{Numerals.add-one, Omega.arith, Nat.{le_trans, pow-suc}}
 use lib.{ListN.{length, get_or, take, drop, length-append, get_or-append}, Dec.lit<, Seq.{split_at, get_or-take, take_all, take-suc}}
 use borrow.Author.Tests.{lt-ltb, le-ltb}
-use Rattle.spelling.specs.{Bytes.All, Decimal.{decimal_up_to, decimal, greatest}}
+use Rattle.spelling.specs.{Bytes.All, Decimal.{decimal_up_to, decimal, greatest, NumberOf}}
+use Rattle.std.specs.Prelude.{None}
 use Rattle.spelling.proofs.Lists.{le_or_lt, High, all_append, all_at}
 
 -- n has at most k + 1 digits
@@ -132,33 +133,56 @@ pub decimal_short : (n : ℕ) → length (decimal n) ≤ 20
 unfolding decimal
 decimal_short n = short_up_to 19 n
 
--- what keeps a list from being a number's spelling
-pub not_empty : (s : List ℕ) (n : ℕ) → n ≤ greatest → s ≡ decimal n → length s ≡ 0 → ⊥
-not_empty s n h e z = omega (arith, decimal_nonempty n (omega arith), ap length e)
+-- ---- a number that is read digit by digit
 
-pub not_digit : (s : List ℕ) (i n : ℕ) → n ≤ greatest → s ≡ decimal n → i < length s → Digit (get_or s i 0)
+not_digit : (s : List ℕ) (i n : ℕ) → n ≤ greatest → s ≡ decimal n → i < length s → Digit (get_or s i 0)
 not_digit s i n h e hi = rw e (all_at Digit (decimal n) (decimal_digits n h) i (rw e at hi))
 
-pub not_lead : (s : List ℕ) (i n : ℕ) → n ≤ greatest → s ≡ decimal n → 1 ≤ i → i < length s → take i s ≡ decimal 0 → ⊥
+not_lead : (s : List ℕ) (i n : ℕ) → n ≤ greatest → s ≡ decimal n → 1 ≤ i → i < length s → take i s ≡ decimal 0 → ⊥
 not_lead s i n h e h1 hi t =
     let z : n ≡ 0 = (decimal_first n (omega arith)).1 (ap (λ (l : List ℕ). get_or l 0 0) (sym e) ∙ sym (get_or-take i s 0 0 h1) ∙ ap (λ (l : List ℕ). get_or l 0 0) (t ∙ decimal_digit 0 (lit< tt))) in
     omega (arith, ap length (e ∙ ap decimal z ∙ decimal_digit 0 (lit< tt)))
 
-pub not_over : (s : List ℕ) (i v n : ℕ) → n ≤ greatest → s ≡ decimal n → i < length s → v ≤ greatest → take i s ≡ decimal v → v * 10 + (get_or s i 0 - 48) ≤ n
+not_over : (s : List ℕ) (i v n : ℕ) → s ≡ decimal n → i < length s → take i s ≡ decimal v → v * 10 + (get_or s i 0 - 48) ≤ n
 unfolding value
-not_over s i v n h e hi hv t =
+not_over s i v n e hi t =
     let whole-value : value 0 s ≡ n = ap (value 0) e ∙ value_decimal n in
     let parts : value 0 s ≡ value (value 0 (take i s) * 10 + (get_or s i 0 - 48)) (drop (suc i) s) = ap (value 0) (split_at s i 0 hi) ∙ value_append 0 (take i s) _ in
     let front : value 0 (take i s) ≡ v = ap (value 0) t ∙ value_decimal v in
     omega (arith, value_grows (value 0 (take i s) * 10 + (get_or s i 0 - 48)) (drop (suc i) s))
 
-pub first_digit : (s : List ℕ) → 0 < length s → Digit (get_or s 0 0) → take 1 s ≡ decimal (get_or s 0 0 - 48)
-first_digit s h d =
-    take-suc s 0 0 h ∙ ap (λ (b : ℕ). b ∷ []) (omega arith) ∙ sym (decimal_digit (get_or s 0 0 - 48) (omega arith))
+-- b can stand behind the number v as one digit more
+abbrev pub Follows : ℕ → ℕ → Type 0
+Follows v b = (48 ≤ b) × (b ≤ 57) × (0 < v) × (v * 10 + (b - 48) ≤ greatest)
 
-pub next_digit : (s : List ℕ) (i v : ℕ) → i < length s → Digit (get_or s i 0) → 0 < v → v * 10 + (get_or s i 0 - 48) ≤ greatest → take i s ≡ decimal v → take (i + 1) s ≡ decimal (v * 10 + (get_or s i 0 - 48))
-next_digit s i v hi d hv h t =
-    rw (add-one i) (take-suc s i 0 hi ∙ ap₂ (λ (l : List ℕ) (b : ℕ). l ++ (b ∷ [])) t (omega arith) ∙ sym (decimal_more v (get_or s i 0 - 48) hv (omega arith) (omega arith)))
+pub no_empty : (s : List ℕ) → length s ≡ 0 → NumberOf s None
+no_empty s z (n, h, e) = omega (arith, decimal_nonempty n (omega arith), ap length e)
 
-pub whole : (s : List ℕ) (i v : ℕ) → length s ≤ i → take i s ≡ decimal v → s ≡ decimal v
-whole s i v h t = sym (take_all i s h) ∙ t
+-- bytes of which the first is b
+module _ (s : List ℕ) (b : ℕ) (rest : List ℕ) (p : s ≡ b ∷ rest) where
+  at : (i : ℕ) → get_or s (i + 1) 0 ≡ get_or rest i 0
+  at i = rw (p, add-one i)
+
+  size : length s ≡ length rest + 1
+  size = rw p (omega arith)
+
+  pub no_first : (Digit b → ⊥) → NumberOf s None
+  no_first f (n, h, e) = f (subst (λ (l : List ℕ). Digit (get_or l 0 0)) p (not_digit s 0 n h e (omega (arith, size))))
+
+  pub first_digit : Digit b → take 1 s ≡ decimal (b - 48)
+  first_digit d = rw p (ap (λ (x : ℕ). x ∷ []) (omega arith) ∙ sym (decimal_digit (b - 48) (omega arith)))
+
+  pub no_next : (i v : ℕ) → i < length rest → take (i + 1) s ≡ decimal v → (Follows v (get_or rest i 0) → ⊥) → NumberOf s None
+  no_next i v hi t f (n, h, e) =
+      let d : Digit (get_or rest i 0) = subst Digit (at i) (not_digit s (i + 1) n h e (omega (arith, size))) in
+      let w : v * 10 + (get_or rest i 0 - 48) ≤ n = subst (λ (x : ℕ). v * 10 + (x - 48) ≤ n) (at i) (not_over s (i + 1) v n e (omega (arith, size)) t) in
+      ⊎_elim (λ (z : 1 ≤ v). f (d.0, d.1, z, omega arith))
+      (λ (z : v < 1). let v0 : v ≡ 0 = omega arith in not_lead s (i + 1) n h e (omega arith) (omega (arith, size)) (t ∙ ap decimal v0)) (le_or_lt 1 v)
+
+  pub next_digit : (i v : ℕ) → i < length rest → take (i + 1) s ≡ decimal v → Follows v (get_or rest i 0) → take (i + 1 + 1) s ≡ decimal (v * 10 + (get_or rest i 0 - 48))
+  next_digit i v hi t f =
+      let h : i + 1 < length s = omega (arith, size) in
+      rw (add-one (i + 1)) (take-suc s (i + 1) 0 h ∙ ap₂ (λ (l : List ℕ) (x : ℕ). l ++ (x ∷ [])) t (at i ∙ omega arith) ∙ sym (decimal_more v (get_or rest i 0 - 48) f.2 (omega arith) (omega arith)))
+
+  pub whole : (i v : ℕ) → length rest ≤ i → take (i + 1) s ≡ decimal v → s ≡ decimal v
+  whole i v h t = sym (take_all (i + 1) s (omega (arith, size))) ∙ t

@@ -1,11 +1,11 @@
 -- Laws of the hex spelling. Assumes nothing.
 use Prim.Native.Nat.{ℕ, zero, suc, ◌+◌, ◌*◌, ◌/◌, ◌%◌, ◌≤◌, ◌<◌, ◌-◌}
-use mathlib.Core.{Path.{◌≡◌, refl, ◌∙◌, ap, ap₂}, List.{List, [], ◌∷◌}, Logic.{◌⊎◌, inl, inr, ⊎_elim}}
+use mathlib.Core.{Bool.{Bool, true, false}, Path.{◌≡◌, refl, ◌∙◌, ap, ap₂}, List.{List, [], ◌∷◌}, Logic.{◌⊎◌, inl, inr, ⊎_elim}}
 use native.Mathlib.Omega.{arith}
 use lib.ListN.{length, get_or}
 use borrow.Author.Tests.{lt-ltb, le-ltb}
-use Rattle.spelling.specs.{Bytes.{All, Byte}, Hex.{digit, nibble, hex, unhex, Spells, IsData, HexDigit}}
-use Rattle.spelling.proofs.Lists.{le_or_lt, High, all_at}
+use Rattle.spelling.specs.{Bytes.{All, Byte, Test}, Hex.{digit, nibble, hex, unhex, Spells, IsData, DataTest, HexDigit}}
+use Rattle.spelling.proofs.Lists.{le_or_lt, High}
 
 nibble_below : (b : ℕ) → nibble b < 16
 nibble_below b = omega arith
@@ -92,9 +92,6 @@ hex_length (b ∷ bs) = omega (arith, hex_length bs)
 pub spells_length : (v bs : List ℕ) → Spells v bs → (length v ≡ 2 * length bs)
 spells_length v bs s = ap length s.same ∙ hex_length bs
 
-pub spells_at : (v bs : List ℕ) (i : ℕ) → Spells v bs → i < length v → HexDigit (get_or v i 0)
-spells_at v bs i s h = rw s.same (all_at HexDigit (hex bs) (hex_digits bs s.bytes) i (rw s.same at h))
-
 nibble_digit : (d : ℕ) → d < 16 → nibble (digit d) ≡ d
 nibble_digit d h =
     ⊎_elim (λ k. rw (le-ltb d 10 k) (nibble_high (87 + d) (omega arith) (omega arith) ∙ omega arith))
@@ -140,3 +137,13 @@ pub hex_high : (bs : List ℕ) → All High (hex bs)
 unfolding hex
 hex_high [] = tt
 hex_high (b ∷ bs) = (digit_high (b / 16), (digit_high (b % 16), hex_high bs))
+
+-- hex digits, some and even in number, are data
+pub data_all : (v : List ℕ) (t : Bool) → (0 < length v) × (length v % 2 ≡ 0) → Test (All HexDigit v) t → DataTest v t
+data_all v true h a = (unhex v, spelt v a h.1 h.0)
+data_all v false h n = λ (bs, s). n (rw s.same (hex_digits bs s.bytes))
+
+-- and nothing else is
+pub data_none : (v : List ℕ) (t : Bool) → t ≡ false → ((0 < length v) × (length v % 2 ≡ 0) → ⊥) → DataTest v t
+data_none v true e n = absurd (let z : ◌≡◌ {A = ℕ} 0 1 = cc in omega arith)
+data_none v false e n = λ (bs, s). n (omega (arith, spells_length v bs s, s.some), omega (arith, spells_length v bs s))

@@ -1,10 +1,10 @@
 -- Laws of the bytes up to the next byte of some kind: a blank ends a value, a newline ends a line. Assumes nothing.
-use Prim.Native.Nat.{ℕ, zero, suc, ◌+◌, ◌≤◌, ◌<◌, ◌-◌}
-use mathlib.Core.{Path.{◌≡◌, refl, ◌∙◌, ap}, List.{List, [], ◌∷◌, ◌++◌}, Logic.{◌⊎◌, inl, inr, ⊎_elim}}
-use native.Mathlib.{Omega.arith, Nat.add-zero, Numerals.add-one}
-use lib.{ListN.{length, get_or, take, drop, length-append, length-drop, drop_of_length-le}, Seq.{drop-cons, take-append_seam}}
+use Prim.Native.Nat.{ℕ, suc, ◌+◌, ◌≤◌, ◌<◌, ◌-◌}
+use mathlib.Core.{Path.{◌≡◌, refl, sym, ◌∙◌, ap, ap₂}, List.{List, [], ◌∷◌, ◌++◌}, Logic.{◌⊎◌, inl, inr, ⊎_elim}}
+use native.Mathlib.{Omega.arith, Numerals.add-one}
+use lib.{ListN.{length, get_or, take, drop, length-append, length-drop, drop_of_length-le}, Seq.{drop-cons, drop-drop, drop_at, take-append_seam}}
 use borrow.Author.Tests.{eq-eqb, ne_eqb}
-use Rattle.spelling.specs.Bytes.{Without, up_to, Below}
+use Rattle.spelling.specs.Bytes.{Without, up_to}
 use Rattle.spelling.proofs.Decide.{same_number}
 
 module _ (stop : ℕ) where
@@ -40,17 +40,21 @@ module _ (stop : ℕ) where
   up_to_unique [] r c (inr e) = rw e.1 (stopped stop e.0 refl)
   up_to_unique (b ∷ v) r c e = other b (v ++ r) c.0 ∙ ap (λ (l : List ℕ). b ∷ l) (up_to_unique v r c.1 e)
 
-  -- one byte more
+  -- a text without the byte more
+  up_to_past : (v r : List ℕ) → Without stop v → up_to stop (v ++ r) ≡ v ++ up_to stop r
+  up_to_past [] r c = refl
+  up_to_past (b ∷ v) r c = other b (v ++ r) c.0 ∙ ap (λ (l : List ℕ). b ∷ l) (up_to_past v r c.1)
+
+  pub up_to_run : (s v r : List ℕ) (i n : ℕ) → i ≤ length s → length v ≡ n → drop i s ≡ v ++ r → Without stop v
+      → (drop (i + n) s ≡ r) × (length (up_to stop (drop i s)) ≡ n + length (up_to stop (drop (i + n) s))) × (i + n ≤ length s)
+  up_to_run s v r i n w h e c =
+      let d : drop (i + n) s ≡ r = sym (drop-drop n i s) ∙ ap (drop n) e ∙ drop_at v r n h in
+      let more : length (up_to stop (drop i s)) ≡ length v + length (up_to stop r) = ap (λ (l : List ℕ). length (up_to stop l)) e ∙ ap length (up_to_past v r c) ∙ length-append v (up_to stop r) in
+      (d, more ∙ ap₂ (λ (k : ℕ) (l : List ℕ). k + length (up_to stop l)) h (sym d), omega (arith, simp (length-drop, length-append) at (ap length e)))
+
+  -- one byte more, or the byte itself
   pub up_to_at : (s : List ℕ) (i : ℕ) → i < length s → (get_or s i 0 ≡ stop → ⊥) → length (up_to stop (drop i s)) ≡ 1 + length (up_to stop (drop (i + 1) s))
   up_to_at s i h n = rw (add-one i, drop-cons s i 0 h, other (get_or s i 0) (drop (suc i) s) n) (omega arith)
-
-  -- n bytes more
-  pub up_to_run : (s : List ℕ) (i n : ℕ) → i + n ≤ length s → Below n (λ k. get_or s (i + k) 0 ≡ stop → ⊥) → i + length (up_to stop (drop i s)) ≡ (i + n) + length (up_to stop (drop (i + n) s))
-  up_to_run s i zero h c = rw (add-zero i)
-  up_to_run s i (suc n) h c =
-      let e : i + n + 1 ≡ i + suc n = omega arith in
-      let l = ap (λ (k : ℕ). length (up_to stop (drop k s))) e in
-      omega (arith, up_to_run s i n (omega arith) (λ k m. c k (omega arith)), up_to_at s (i + n) (omega arith) (c n (omega arith)), l)
 
   pub up_to_stop : (s : List ℕ) (i : ℕ) → i < length s → get_or s i 0 ≡ stop → length (up_to stop (drop i s)) ≡ 0
   up_to_stop s i h e = rw (drop-cons s i 0 h, stopped (get_or s i 0) (drop (suc i) s) e)

@@ -1,10 +1,11 @@
 -- Laws of tests: what a computed Boolean says, and of tests made of others. Assumes nothing.
 use Prim.Native.Nat.{ℕ, ◌+◌, ◌≤◌}
-use mathlib.Core.{Path.{◌≡◌, refl}, Bool.{Bool, true, false, not, ◌&&◌, ◌||◌}, Logic.{◌⊎◌, inl, inr, ⊎_elim}}
+use mathlib.Core.{Path.{◌≡◌, refl}, Bool.{Bool, true, false, not, ◌&&◌, ◌||◌}, Logic.{◌⊎◌, inl, inr, ⊎_elim}, List.List}
 use native.Mathlib.Omega.{arith}
-use lib.Dec.{leb, eqb}
+use lib.{Dec.{leb, eqb}, ListN.{length, get_or}}
 use borrow.Author.{Tests.{leb-true, leb-false, eqb-true, eqb-false, not-true, not-false}, Count.below_more}
-use Rattle.spelling.specs.Bytes.{Test, Below}
+use Rattle.spelling.specs.Bytes.{All, Test, Below}
+use Rattle.spelling.proofs.Lists.{all_from, all_at}
 
 test_by : {A : Type 0} (t : Bool) → (t ≡ true → A) → (t ≡ false → A → ⊥) → Test A t
 test_by true f g = f refl
@@ -37,3 +38,8 @@ pub test_more : (P : ℕ → Type 0) (n : ℕ) (t u : Bool) → Test (Below n P)
 test_more P n true true a b = below_more _ n a b
 test_more P n true false a b = λ h. b (h n (omega arith))
 test_more P n false u a b = λ h. a (λ k l. h k (omega arith))
+
+-- a test of each byte is one of all
+pub test_all : (P : ℕ → Type 0) (s : List ℕ) (n : ℕ) (t : Bool) → n ≡ length s → Test (Below n (λ k. P (get_or s k 0))) t → Test (All P s) t
+test_all P s n true e a = all_from P s (λ k h. a k (omega arith))
+test_all P s n false e a = λ x. a (λ k h. all_at P s x k (omega arith))

@@ -4,24 +4,24 @@ use mathlib.Core.{Path.{◌≡◌, refl, sym, ◌∙◌, ap}, List.List, Logic.�
 use native.Mathlib.Omega.{arith}
 use Rattle.spelling.specs.Decimal.{decimal, NumberOf}
 use Rattle.spelling.specs.Theorems.{NumberOneTheorem, DecimalRoundTripTheorem, HexRoundTripTheorem}
-use Rattle.spelling.specs.declared.Number.{Number, TheVariants.{Value, Wrong}}
+use Rattle.std.specs.Prelude.{Option, Some, None}
 use Rattle.spelling.proofs.{Decide.number_told, DecimalLaws.decimal_injective, HexLaws.{unhex_hex, data_spelt}}
 
 -- ---- numbers
 
-number_same : (v : List ℕ) (q r : Number) → NumberOf v q → NumberOf v r → q ≡ r
-number_same v (Value n) (Value m) x y = ap Value (decimal_injective n m (sym x.1 ∙ y.1))
-number_same v (Value n) Wrong x y = absurd (y (n, omega (arith, x.0), x.1))
-number_same v Wrong (Value m) x y = absurd (x (m, omega (arith, y.0), y.1))
-number_same v Wrong Wrong x y = refl
+number_same : (v : List ℕ) (q r : Option ℕ) → NumberOf v q → NumberOf v r → q ≡ r
+number_same v (Some n) (Some m) x y = ap Some (decimal_injective n m (sym x.1 ∙ y.1))
+number_same v (Some n) None x y = absurd (y (n, omega (arith, x.0), x.1))
+number_same v None (Some m) x y = absurd (x (m, omega (arith, y.0), y.1))
+number_same v None None x y = refl
 
 pub number_one_theorem : NumberOneTheorem
 number_one_theorem v =
-    ⊎_elim (λ (n, h, e). record { answer = Value n; holds = (omega (arith, h), e); only = λ r x. number_same v r (Value n) x (omega (arith, h), e) })
-    (λ n. record { answer = Wrong; holds = n; only = λ r x. number_same v r Wrong x n }) (number_told v)
+    ⊎_elim (λ (n, h, e). record { answer = Some n; holds = (omega (arith, h), e); only = λ r x. number_same v r (Some n) x (omega (arith, h), e) })
+    (λ n. record { answer = None; holds = n; only = λ r x. number_same v r None x n }) (number_told v)
 
 pub decimal_round_trip_theorem : DecimalRoundTripTheorem
-decimal_round_trip_theorem = ((λ n r h x. number_same (decimal n) r (Value n) x (omega (arith, h), refl)), (λ s n x. sym x.1))
+decimal_round_trip_theorem = ((λ n r h x. number_same (decimal n) r (Some n) x (omega (arith, h), refl)), (λ s n x. sym x.1))
 
 -- ---- data
 

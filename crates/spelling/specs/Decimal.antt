@@ -1,8 +1,7 @@
 -- N of 01: a number in decimal, without leading zeros, at most 4,294,967,295. Assumes nothing.
 use Rattle.std.specs.Prelude.{ℕ, zero, suc, ◌+◌, ◌/◌, ◌%◌, ◌≤◌}
 use mathlib.Core.{Path.◌≡◌, List.{List, [], ◌∷◌, ◌++◌}, Bool.cond}
-use Rattle.std.specs.Prelude.{ltb}
-use Rattle.spelling.specs.declared.Number.{Number, TheVariants.{Value, Wrong}}
+use Rattle.std.specs.Prelude.{ltb, Option, Some, None}
 
 -- n in decimal: its last digit, after the digits of the rest where there is a rest. At most k + 1 digits.
 unfoldable pub decimal_up_to : ℕ → ℕ → List ℕ
@@ -22,7 +21,7 @@ greatest = 4294967295
 abbrev pub IsNumber : List ℕ → Type 0
 IsNumber v = (n : ℕ) × (n ≤ greatest) × (v ≡ decimal n)
 
--- what reading the bytes v as a number finds
-abbrev pub NumberOf : List ℕ → Number → Type 0
-NumberOf v (Value n) = (n ≤ greatest) × (v ≡ decimal n)
-NumberOf v Wrong = IsNumber v → ⊥
+-- what reading the bytes v as a number finds: its value, or that they are no number
+abbrev pub NumberOf : List ℕ → Option ℕ → Type 0
+NumberOf v (Some n) = (n ≤ greatest) × (v ≡ decimal n)
+NumberOf v None = IsNumber v → ⊥

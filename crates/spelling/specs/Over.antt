@@ -2,7 +2,7 @@
 use Rattle.std.specs.Prelude.{ℕ, ◌+◌, ◌-◌}
 use mathlib.Core.{Path.◌≡◌, Bool.{Bool, false, cond}, List.{List, ◌++◌}}
 use lib.{Dec.leb, ListN.{length, take, drop}}
-use Rattle.spelling.specs.declared.Put.{Put, TheVariants.{End, Short}}
+use Rattle.std.specs.Prelude.{Option, Some, None}
 
 -- whether n bytes fit at an offset of a buffer of this size
 abbrev pub has_room : ℕ → ℕ → ℕ → Bool
@@ -13,9 +13,9 @@ abbrev pub over : List ℕ → ℕ → List ℕ → List ℕ
 over old at t = take at old ++ (t ++ drop (at + length t) old)
 
 -- the text t was put at an offset: if it fits, the buffer holds it there and the answer is the offset after it;
--- if it does not, the answer says so and the buffer is as it was
-pub record PutAt (old : List ℕ) (at : ℕ) (t new : List ℕ) (r : Put) : Type 0 where
-  pub answer : r ≡ cond (has_room (length old) at (length t)) (End (at + length t)) Short
+-- if it does not, the answer is None and the buffer is as it was
+pub record PutAt (old : List ℕ) (at : ℕ) (t new : List ℕ) (r : Option ℕ) : Type 0 where
+  pub answer : r ≡ cond (has_room (length old) at (length t)) (Some (at + length t)) None
   pub bytes : new ≡ cond (has_room (length old) at (length t)) (over old at t) old
 
 -- whether twenty bytes, as many as a number has at most, lie before an offset of a buffer of this size

@@ -3,7 +3,7 @@
 use Rattle.std.specs.Prelude.{ℕ, ◌≤◌}
 use mathlib.Core.{Path.◌≡◌, List.List}
 use Rattle.spelling.specs.{Bytes.{All, Byte}, One.One, Decimal.{decimal, greatest, NumberOf}, Hex.{hex, unhex, IsData}}
-use Rattle.spelling.specs.declared.Number.{Number, TheVariants.Value}
+use Rattle.std.specs.Prelude.{Option, Some}
 
 -- bytes are exactly one number, or none
 abbrev pub NumberOneTheorem : Type 0
@@ -12,8 +12,8 @@ NumberOneTheorem = (v : List ℕ) → One (NumberOf v)
 -- a number that is printed is read back; one that is read prints as it was
 abbrev pub DecimalRoundTripTheorem : Type 0
 DecimalRoundTripTheorem =
-    ((n : ℕ) (r : Number) → n ≤ greatest → NumberOf (decimal n) r → r ≡ Value n)
-    × ((s : List ℕ) (n : ℕ) → NumberOf s (Value n) → decimal n ≡ s)
+    ((n : ℕ) (r : Option ℕ) → n ≤ greatest → NumberOf (decimal n) r → r ≡ Some n)
+    × ((s : List ℕ) (n : ℕ) → NumberOf s (Some n) → decimal n ≡ s)
 
 -- the digits that are printed of bytes spell those bytes; data spell bytes that print as they were
 abbrev pub HexRoundTripTheorem : Type 0

@@ -4,164 +4,124 @@
 // back as it was, and what is read prints as it was.
 #![tactic(auto)]
 
-ghost use Rattle.std.specs.Prelude.{◌≡◌, ◌+◌, ◌≤◌, ◌<◌, length, get_or, drop};
-ghost use Rattle.spelling.specs.{Bytes.{up_to, Test, Below}, Decimal.{decimal, NumberOf}, Hex.{digit, nibble, hex, unhex, DataTest, HexTest}};
-ghost use Rattle.spelling.specs.Over.{has_room, PutAt, PutBefore};
+ghost use Rattle.std.specs.Prelude.{◌≡◌, ◌+◌, ◌-◌, ◌*◌, ◌≤◌, ◌<◌, length, drop, SomeIff};
+ghost use Rattle.spelling.specs.{Bytes.{All, up_to, Test, Without}, Decimal.{decimal, NumberOf}, Hex.{digit, nibble, hex, unhex, HexDigit, DataTest, HexTest}};
+ghost use Rattle.spelling.specs.Over.{PutAt, PutBefore};
 
-// Whether none of the eight bytes from `at` on is `stop`. Every byte is looked at, so that they can be compared at once.
-fn is_clear(s: &[u8], at: usize, stop: u8) -> bool
-    requires { at + 8 ≤ length s.now }
-    ensures { Test (Below 8 (λ k. get_or s.now (at + k) 0 ≡ stop → ⊥)) result }
+// Whether none of the bytes is `stop`. Every byte is looked at, so that they can be compared at once: with `all` it is slower.
+fn is_clear(s: &[u8], stop: u8) -> bool
+    ensures { Test (Without stop s.now) result }
 {
     let mut clear = true;
-    let mut k: usize = 0;
-    while k < 8 {
-        clear = clear & (s[at + k] != stop);
-        k += 1;
+    for b in s {
+        clear = clear & (*b != stop);
     }
     clear
 }
 
-// An offset at or after `at`, before which no byte from `at` on is `stop`: eight bytes at a time.
-fn past_clear(s: &[u8], at: usize, stop: u8) -> usize
-    ensures { at + length (up_to stop (drop at s.now)) ≡ result + length (up_to stop (drop result s.now)) }
+// How many bytes from the front on are surely not `stop`: eight bytes at a time.
+fn clear_len(s: &[u8], stop: u8) -> usize
+    ensures within { result ≤ length s.now }
+    ensures clear { length (up_to stop s.now) ≡ result + length (up_to stop (drop result s.now)) }
 {
-    let mut p = at;
-    if s.len() < 8 {
-        return p;
-    }
-    while p <= s.len() - 8 {
-        if !is_clear(s, p, stop) {
-            return p;
+    let mut n: usize = 0;
+    for eight in s.chunks_exact(8) {
+        if !is_clear(eight, stop) {
+            return n;
         }
-        p += 8;
+        n += 8;
     }
-    p
+    n
 }
 
 // Where the next byte `stop` is, from `at` on, or else the end: a blank ends a value, a newline a line.
 pub fn run_end(s: &[u8], at: usize, stop: u8) -> usize
     ensures { result ≡ at + length (up_to stop (drop at s.now)) }
 {
-    let mut i = past_clear(s, at, stop);
-    while i < s.len() {
+    if s.len() < at {
+        return at;
+    }
+    let clear = clear_len(&s[at..], stop);
+    for i in at + clear..s.len() {
         if s[i] == stop {
             return i;
         }
-        i += 1;
     }
-    i
+    s.len()
 }
 
-// What reading a number finds: its value, or that the bytes are no number.
-#[derive(Clone, Copy)]
-pub enum Number {
-    Value(u32),
-    Wrong,
-}
-
-// A byte as a wider number.
-fn wide(b: u8) -> u64
-    ensures { result ≡ b }
+// The number that a decimal digit stands for; of any other byte, None.
+fn digit_value(b: u8) -> Option<u32>
+    ensures { SomeIff result ((48 ≤ b) × (b ≤ 57)) (b - 48) }
 {
-    b as u64
+    match b {
+        b'0'..=b'9' => Some(u32::from(b - b'0')),
+        _ => None,
+    }
+}
+
+// A number with one more digit behind it; None for a byte that is no digit, after a leading zero, and above 4,294,967,295.
+fn with_digit(v: u32, b: u8) -> Option<u32>
+    ensures { SomeIff result ((48 ≤ b) × (b ≤ 57) × (0 < v) × (v * 10 + (b - 48) ≤ 4294967295)) (v * 10 + (b - 48)) }
+{
+    if v == 0 {
+        return None;
+    }
+    v.checked_mul(10)?.checked_add(digit_value(b)?)
 }
 
 // The number that the whole of `s` spells: digits without a leading zero, at most 4,294,967,295.
-pub fn read_number(s: &[u8]) -> Number
+pub fn read_number(s: &[u8]) -> Option<u32>
     ensures { NumberOf s.now result }
 {
-    if s.len() == 0 {
-        return Number::Wrong;
+    let (first, rest) = s.split_first()?;
+    let mut v = digit_value(*first)?;
+    for b in rest {
+        v = with_digit(v, *b)?;
     }
-    let first = s[0];
-    if first < b'0' {
-        return Number::Wrong;
-    }
-    if b'9' < first {
-        return Number::Wrong;
-    }
-    let mut v = wide(first - b'0');
-    let mut i: usize = 1;
-    while i < s.len() {
-        let b = s[i];
-        if b < b'0' {
-            return Number::Wrong;
-        }
-        if b'9' < b {
-            return Number::Wrong;
-        }
-        if v == 0 {
-            return Number::Wrong;
-        }
-        v = v * 10 + wide(b - b'0');
-        if 4294967295 < v {
-            return Number::Wrong;
-        }
-        i += 1;
-    }
-    Number::Value(v as u32)
+    Some(v)
 }
 
-// Whether a byte is a lower-case hex digit.
+// Whether a byte is a lower-case hex digit. Both ranges are looked at: `matches!` on them makes `is_data` slower.
 pub fn is_hex(b: u8) -> bool
     ensures { HexTest b result }
 {
     ((b'0' <= b) & (b <= b'9')) | ((b'a' <= b) & (b <= b'f'))
 }
 
-// Whether the whole of `s` is data: one pair of hex digits or more.
-pub fn is_data(s: &[u8]) -> bool
-    ensures { DataTest s.now result }
+// Whether every byte is a hex digit. Every byte is looked at, so that they can be compared at once: with `all` it is slower.
+fn all_hex(s: &[u8]) -> bool
+    ensures { Test (All HexDigit s.now) result }
 {
-    if s.len() == 0 {
-        return false;
-    }
-    if s.len() % 2 == 1 {
-        return false;
-    }
     let mut ok = true;
-    let mut i: usize = 0;
-    while i < s.len() {
-        ok = ok & is_hex(s[i]);
-        i += 1;
+    for b in s {
+        ok = ok & is_hex(*b);
     }
     ok
 }
 
-// What putting a text into a buffer answers: the offset after the text, or that it does not fit.
-#[derive(Clone, Copy)]
-pub enum Put {
-    End(usize),
-    Short,
-}
-
-// Whether `n` bytes fit at an offset of a buffer of `size` bytes.
-fn has_room(size: usize, at: usize, n: usize) -> bool
-    ensures { result ≡ has_room size at n }
+// Whether the whole of `s` is data: one pair of hex digits or more.
+pub fn is_data(s: &[u8]) -> bool
+    ensures { DataTest s.now result }
 {
-    if size < n {
-        return false;
-    }
-    if size - n < at {
-        return false;
-    }
-    true
+    !s.is_empty() && s.len() % 2 == 0 && all_hex(s)
 }
 
-// A text as it is, into a lent buffer at an offset. Where it does not fit, the buffer is left as it was.
-pub fn put_text(out: &mut [u8], at: usize, text: &[u8]) -> Put
+// Where `n` bytes end that are put at an offset of a buffer of `size` bytes, or None where they do not fit.
+fn end_of(size: usize, at: usize, n: usize) -> Option<usize>
+    ensures { SomeIff result (at + n ≤ size) (at + n) }
+{
+    at.checked_add(n).filter(|end| *end <= size)
+}
+
+// A text as it is, into a lent buffer at an offset; the answer is the offset after it. Where it does not fit, the answer is None
+// and the buffer is left as it was.
+pub fn put_text(out: &mut [u8], at: usize, text: &[u8]) -> Option<usize>
     ensures { PutAt out.old at text.now out.new result }
 {
-    if !has_room(out.len(), at, text.len()) {
-        return Put::Short;
-    }
-    let mut i: usize = 0;
-    while i < text.len() {
-        out[at + i] = text[i];
-        i += 1;
-    }
-    Put::End(at + i)
+    let end = end_of(out.len(), at, text.len())?;
+    out[at..end].copy_from_slice(text);
+    Some(end)
 }
 
 // A number in decimal, the last digit just before an offset of a lent buffer; the answer is where the first digit is. A
@@ -170,21 +130,19 @@ pub fn put_text(out: &mut [u8], at: usize, text: &[u8]) -> Put
 pub fn put_number_before(out: &mut [u8], end: usize, n: u64) -> usize
     ensures { PutBefore out.old end (decimal n) out.new result }
 {
-    if end < 20 {
-        return end;
-    }
-    if out.len() < end {
+    if end < 20 || out.len() < end {
         return end;
     }
     let mut k = end;
     let mut m = n;
+    // The last digit put is the first of the number; one loop for all of them divides once more, and is slower.
     while 10 <= m {
         k -= 1;
         out[k] = b'0' + (m % 10) as u8;
-        m = m / 10;
+        m /= 10;
     }
     k -= 1;
-    out[k] = b'0' + (m % 10) as u8;
+    out[k] = b'0' + m as u8;
     k
 }
 
@@ -196,26 +154,17 @@ fn hex_digit(d: u8) -> u8
     if d < 10 { b'0' + d } else { 87 + d }
 }
 
-// Bytes in hex, two digits a byte, into a lent buffer at an offset. Where they do not fit, the buffer is left as it was.
-pub fn put_hex(out: &mut [u8], at: usize, bytes: &[u8]) -> Put
+// Bytes in hex, two digits a byte, into a lent buffer at an offset; the answer is the offset after them. Where they do not fit,
+// the answer is None and the buffer is left as it was.
+pub fn put_hex(out: &mut [u8], at: usize, bytes: &[u8]) -> Option<usize>
     ensures { PutAt out.old at (hex bytes.now) out.new result }
 {
-    if out.len() / 2 < bytes.len() {
-        return Put::Short;
+    let end = end_of(out.len(), at, 2 * bytes.len())?;
+    for (i, b) in bytes.iter().enumerate() {
+        out[at + 2 * i] = hex_digit(*b / 16);
+        out[at + 2 * i + 1] = hex_digit(*b % 16);
     }
-    if !has_room(out.len(), at, 2 * bytes.len()) {
-        return Put::Short;
-    }
-    let mut i: usize = 0;
-    let mut p = at;
-    while i < bytes.len() {
-        let b = bytes[i];
-        out[p] = hex_digit(b / 16);
-        out[p + 1] = hex_digit(b % 16);
-        p += 2;
-        i += 1;
-    }
-    Put::End(p)
+    Some(end)
 }
 
 // The number that a hex digit stands for; of any other byte, some number below 16.
@@ -225,21 +174,14 @@ fn nibble(b: u8) -> u8
     (b % 16 + 9 * (b / 64)) % 16
 }
 
-// The bytes that digits spell, two digits a byte, into a lent buffer at an offset. Where they do not fit, the buffer is left as it
-// was. Whether they are digits is not looked at: `is_data` does that.
-pub fn put_unhex(out: &mut [u8], at: usize, digits: &[u8]) -> Put
+// The bytes that digits spell, two digits a byte, into a lent buffer at an offset; the answer is the offset after them. Where they
+// do not fit, the answer is None and the buffer is left as it was. Whether they are digits is not looked at: `is_data` does that.
+pub fn put_unhex(out: &mut [u8], at: usize, digits: &[u8]) -> Option<usize>
     ensures { PutAt out.old at (unhex digits.now) out.new result }
 {
-    let n = digits.len() / 2;
-    if !has_room(out.len(), at, n) {
-        return Put::Short;
+    let end = end_of(out.len(), at, digits.len() / 2)?;
+    for (i, pair) in digits.chunks_exact(2).enumerate() {
+        out[at + i] = nibble(pair[0]) * 16 + nibble(pair[1]);
     }
-    let mut i: usize = 0;
-    while i < n {
-        let high = nibble(digits[2 * i]);
-        let low = nibble(digits[2 * i + 1]);
-        out[at + i] = high * 16 + low;
-        i += 1;
-    }
-    Put::End(at + i)
+    Some(end)
 }

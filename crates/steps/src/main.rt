@@ -14,21 +14,14 @@ fn list<R: Read, W: Write>(input: &mut R, output: &mut W) -> Result<(), Fault>
     ensures { Lists (R.remaining input.old) (R.remaining input.new) (W.contents output.old) (W.contents output.new) result }
 {
     let mut journal = [0u8; 65537];
-    match runner::read_input(input, &mut journal) {
-        Ok(n) => match runner::play_whole(&journal[..n], Texts::Written, output) {
-            Ok(_) => Ok(()),
-            Err(why) => Err(Fault::Writing(why)),
-        },
-        Err(why) => Err(Fault::Reading(why)),
-    }
+    let n = runner::read_input(input, &mut journal).map_err(Fault::Reading)?;
+    runner::play_whole(&journal[..n], Texts::Written, output).map_err(Fault::Writing)?;
+    Ok(())
 }
 
 // The status is 0 also where something failed. Where standard error does not take the line, there is nothing left to say it with.
 fn main(rt: HostRuntime) {
-    match list(&mut rt.stdin(), &mut rt.stdout()) {
-        Ok(()) => {}
-        Err(fault) => {
-            let _ = runner::complain(&mut rt.stderr(), b"steps", fault);
-        }
+    if let Err(fault) = list(&mut rt.stdin(), &mut rt.stdout()) {
+        let _ = runner::complain(&mut rt.stderr(), b"steps", fault);
     }
 }

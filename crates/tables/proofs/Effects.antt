@@ -6,7 +6,8 @@ use lib.{Dec.eqb, ListN.length, Seq.set-get_or}
 use borrow.Author.Tests.{lt-ltb, eq-eqb, ne_eqb}
 use Rattle.protocol.specs.{Pick.pick, Fresh.{fresh_core, fresh_cell, fresh_line}}
 use Rattle.protocol.specs.Buffers.{Bytes, part, copy_start, copy_bytes, There, given_fits, moved_private, moved_shared}
-use Rattle.protocol.specs.{Given.{given_as, bytes_given}, Machine.{Machine, core_at, copy_at, line_at, Pieces, core_of, line_of, applied}}
+use Rattle.protocol.specs.{Given.{given_as, bytes_given}, Machine.{Machine, core_at, copy_at, line_at, core_of, line_of, applied}}
+use Rattle.protocol.specs.declared.Pieces.{Pieces}
 use Rattle.protocol.specs.Refusals.{given_refusal, wrong_count, buffers_fit, machine_refusal, call_refusal, state_refusal, refusal, or_else}
 use Rattle.protocol.specs.Step.{refused, meaning, commit_bytes, accepted, step}
 use Rattle.protocol.specs.{declared.{Opening.Opening, Call.Call, Effect.Effect, Answer.TheVariants.Refused, Move.TheVariants.Still}, About.about}
@@ -17,19 +18,11 @@ use Rattle.protocol.proofs.Cases.{Row, asks_load, reads_shared, reads_dirty, rea
 use Rattle.protocol.proofs.Cases.{recalls, renews, shares, grants, gets_share, gets_own, gets_renewal, drops_none, drops_owned, yields, takes}
 use Rattle.protocol.proofs.Cases.{names_victim, pieces_of, effect_case}
 use Rattle.spelling.proofs.OverLaws.{over_part}
-use Rattle.refusals.specs.Input.{input_refusal}
+use Rattle.refusals.{specs.Input.input_refusal, proofs.Laws.or_assoc}
 use Rattle.buffers.specs.Moves.{move_fits}
 use Rattle.tables.specs.Spans.{span_of}
 
 -- ---- step
-
--- of three numbers the first that applies, however they are put together
-or_assoc : (a b d : ℕ) → or_else a (or_else b d) ≡ or_else (or_else a b) d
-or_assoc a b d = by (eqb a 0) refl
-  where
-    by : (t : Bool) → eqb a 0 ≡ t → or_else a (or_else b d) ≡ or_else (or_else a b) d
-    by true e = rw e
-    by false e = rw (e, e)
 
 -- 13 and 1 to 6, then 20 and up
 input_first : (m : Machine) (call : Call) (given : Bytes)

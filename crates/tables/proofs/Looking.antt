@@ -1,18 +1,20 @@
 -- Going through a core's copies finds how many it holds, and its victim. And a call that does not look them over does not depend on how many there
 -- are.
 use Prim.Native.Nat.{ℕ, zero, suc, ◌+◌, ◌≤◌, ◌<◌}
-use mathlib.Core.{Path.{◌≡◌, refl, sym, ◌∙◌, ap}, Bool.{Bool, true, false}, Logic.{◌⊎◌, inl, inr}, List.{[], ◌∷◌}}
+use mathlib.Core.{Path.{◌≡◌, refl, sym, ◌∙◌, ap}, Bool.{Bool, true, false}, Logic.{◌⊎◌, inl, inr}}
 use native.Mathlib.{Numerals.add-one, Omega.arith}
-use lib.Dec.{ltb, leb, eqb}
+use lib.Dec.{leb}
+use Rattle.std.specs.Prelude.{Option, Some, None}
 use borrow.Author.Tests.{ltb-false, le-leb, lt-leb, lt-ltb}
 use Rattle.protocol.specs.{Pick.{pick, both, fails}, About.about, Copies.{is_held, Copies, held_below, rank, rank_of, below, replaces, victim_below}}
-use Rattle.protocol.specs.{Machine.{Pieces, pieces, copy_at, copies_of, victim_of, the_line}, Refusals.{state_rules, state_refusal}}
+use Rattle.protocol.specs.{Machine.{pieces, copy_at, copies_of, victim_of, the_line}, Refusals.{state_rules, state_refusal}}
+use Rattle.protocol.specs.declared.Pieces.{Pieces}
 use Rattle.protocol.specs.Tables.{load_owned, load_table, store_table, fence_table, advance_table, evict_table, same_version, leased_to, serve_load, serve_asked}
 use Rattle.protocol.specs.Tables.{serve_table, receive_renew, receive_grant, receive_table, yield_table, take_table, table_of, effect_of}
 use Rattle.protocol.specs.declared.Grant.{Grant, TheVariants.{Share as GrantShare, Renew as GrantRenew, Own as GrantOwn}}
-use Rattle.protocol.specs.declared.{Copy.{Copy, TheVariants.{None as NoCopy, Shared as CopyShared, Owned as CopyOwned}}, Stamp.Stamp, Held.Held}
+use Rattle.protocol.specs.declared.{Copy.{Copy, TheVariants.{None as NoCopy, Shared as CopyShared, Owned as CopyOwned}}, Stamp.Stamp}
 use Rattle.protocol.specs.declared.{Want.{Want, TheVariants.{Load as WantLoad, Store as WantStore}}, Slot.{Slot, TheVariants.{Empty, Asked, Answered}}}
-use Rattle.protocol.specs.declared.{Core.Core, Manager.{Manager, TheVariants.{Shared, Owned}}, Writeback.{Writeback, TheVariants.{None as NoWriteback, Flight}}}
+use Rattle.protocol.specs.declared.{Core.Core, Manager.{Manager, TheVariants.{Shared, Owned}}, Flight.Flight}
 use Rattle.protocol.specs.declared.{ManagerLine.ManagerLine, Opening.Opening, State.State, Name.Name}
 use Rattle.protocol.specs.declared.Call.{Call, TheVariants.{Load, Store, Fence, Evict, Drop, Writeback as WriteBack, Advance}}
 use Rattle.protocol.specs.declared.Call.TheVariants.{Serve, Receive, Yield, Take, Victim}
@@ -109,23 +111,10 @@ unfolding look_to held_below victim_below
 seen f zero h = record { copies = refl; line = refl; copy = inl (refl, refl) }
 seen f (suc n) h = next f n (omega (arith, h)) (look_to f n) (seen f n (omega (arith, h)))
 
--- what a loop knows that goes through the copies f and has passed j lines: with one line more, and where it ends
+-- what a loop knows that goes through the copies f and has passed j lines, with one line more
 pub look_next : (f : Copies) (j : ℕ) (k r : Look) → k ≡ look_to f j → r ≡ with_copy k j (f j) → r ≡ look_to f (j + 1)
 unfolding look_to
 look_next f j k r e h = h ∙ rw (e, add-one)
-
-pub look_ends : (f : Copies) (j top : ℕ) (k : Look) → j ≤ top → top ≤ j → k ≡ look_to f j → k ≡ look_to f top
-look_ends f j top k h i e = let q : j ≡ top = omega (arith, h, i) in rw q at e
-
--- ranks that differ in the last place alone
-pub last_below : (a b : ℕ) → below (a ∷ []) (b ∷ []) ≡ ltb a b
-unfolding below
-last_below a b = go (ltb a b) (eqb a b)
-  where
-    go : (s t : Bool) → pick s true (both t false) ≡ s
-    go true t = refl
-    go false true = refl
-    go false false = refl
 
 -- ---- of a call
 
@@ -190,7 +179,7 @@ module _ (n : ℕ) (k : Core) (x : Copy) (m : ManagerLine) (i j : ℕ) (o : Open
   lease_same true l w r = refl
   lease_same false l w r = refl
 
-  asked_same : (v : Manager) (a : Want) (c l : ℕ) (t : Stamp) (h : Held) → serve_asked v a c l t h p o ≡ serve_asked v a c l t h q o
+  asked_same : (v : Manager) (a : Want) (c l : ℕ) (t : Stamp) (h : Option Stamp) → serve_asked v a c l t h p o ≡ serve_asked v a c l t h q o
   unfolding serve_asked
   asked_same (Owned b) a c l t h = refl
   asked_same (Shared w r) WantLoad c l t h = lease_same (same_version h w) l w (leased_to r t o.lease)
@@ -214,10 +203,10 @@ module _ (n : ℕ) (k : Core) (x : Copy) (m : ManagerLine) (i j : ℕ) (o : Open
   yield_same (CopyShared w r) = refl
   yield_same (CopyOwned d w r) = refl
 
-  take_same : (v : Writeback) → take_table v p ≡ take_table v q
+  take_same : (v : Option Flight) → take_table v p ≡ take_table v q
   unfolding take_table
-  take_same NoWriteback = refl
-  take_same (Flight w r) = refl
+  take_same None = refl
+  take_same (Some f) = refl
 
   grant_same : (g : Grant) (w r : Stamp) → receive_grant g w r p ≡ receive_grant g w r q
   unfolding receive_grant

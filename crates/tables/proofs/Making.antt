@@ -4,30 +4,22 @@ use Prim.Native.Nat.{ℕ, ◌+◌, ◌≤◌, ◌<◌}
 use mathlib.Core.{Path.{◌≡◌, refl, sym, ◌∙◌, ap₂}, Bool.{Bool, true, false}, Logic.by_cases}
 use lib.ListN.{length}
 use native.Mathlib.{Omega.arith, Decide.ℕ_discrete}
-use borrow.Author.Tests.{le-leb, lt-ltb, ne_eqb}
+use borrow.Author.Tests.{le-leb, lt-ltb}
 use Rattle.protocol.proofs.{Copies.count_missing, Extents.{copy_ends, inside}, Refusals.{or_none, Fit, machine_fit, named, named_inside, call_there}}
-use Rattle.protocol.specs.{Pick.pick, Limits.{most_cores, most_lines}, Buffers.{Bytes, part, copy_start, copy_bytes, There, moved_private, moved_shared}}
-use Rattle.protocol.specs.{About.{about, named_line}, Given.{given_as, bytes_given}}
-use Rattle.protocol.specs.Machine.{Machine, core_at, copy_at, line_at, copies_of, victim_of, pieces, pieces_at, the_core, the_line, core_of, line_of}
+use Rattle.protocol.specs.{Pick.pick, Buffers.{Bytes, part, copy_start, copy_bytes, There, moved_private, moved_shared}}
+use Rattle.protocol.specs.{About.{about}, Given.{given_as, bytes_given}}
+use Rattle.protocol.specs.Machine.{Machine, core_at, copy_at, line_at, copies_of, victim_of, pieces, pieces_at, the_line, core_of, line_of}
 use Rattle.protocol.specs.{Refusals.{given_refusal, machine_refusal, call_refusal}, Tables.{refused_row, effect_of}, Step.{meaning, accepted, step}}
 use Rattle.protocol.specs.declared.{Opening.Opening, Call.Call, Answer.{Answer, TheVariants.{Refused, Done, Commit}}, Effect.Effect, Move.TheVariants.Still}
 use Rattle.protocol.specs.declared.Kind.TheVariants.{Load, Store, Fence}
-use Rattle.refusals.specs.Input.{input_refusal}
+use Rattle.refusals.{specs.Input.{input_refusal, applies}, proofs.Laws.applied}
 use Rattle.buffers.{specs.Moves.{is_there, move_fits, Moves}, proofs.Laws.{from_there, start_there}}
-use Rattle.tables.specs.{declared.copies.Look.Look, Found.{found_at, effect_with}, Look.{look_to, looks_over, top_of}, Spans.span_of}
+use Rattle.tables.specs.{declared.copies.Look.Look, Found.{found_at, effect_with}, Look.looks_over, Seen.{named_seen, core_seen, copies_seen, line_seen, pieces_seen}, Spans.span_of}
 use Rattle.tables.proofs.{Effects.{step_refused, row_refused, step_accepted, Sound, effect_sound, effect_moves}, Looking.{look_copies, look_victim, line_unseen, look_none, effect_unseen}}
 
 -- what is there is found
 pub found_there : (n count most : ℕ) → n < count → count ≤ most → found_at n count most ≡ n
 found_there n count most h k = rw (le-leb _ _ k, lt-ltb _ _ h)
-
--- where a call finds the core and the line that it is about: the line that it names, then the core, then, going through the core's copies where
--- it looks them over, the line
-pub record Finds (m : Machine) (call : Call) (v c : ℕ) (k : Look) (l : ℕ) : Type 0 where
-  pub named : v ≡ found_at (named_line (about call).line) m.state.opening.lines most_lines
-  pub core : c ≡ found_at (the_core (about call).core (line_at m.state v).manager) m.state.opening.cores most_cores
-  pub look : k ≡ look_to (copy_at m.state c) (top_of (about call).line m.state.opening)
-  pub line : l ≡ found_at (the_line (about call).line (core_at m.state c).slot k.line) m.state.opening.lines most_lines
 
 -- a commit's bytes lie in a buffer in which the line's do
 span_inside : (a : Answer) (start width top : ℕ) → start + width ≤ top → (span_of a start width).start + (span_of a start width).count ≤ top
@@ -54,7 +46,7 @@ same_either true h = h
 same_either false h = h
 
 -- n is the first of 13 and 1 to 6 that applies; `given` is what is given to a store
-module _ (m : Machine) (call : Call) (given : Bytes) (n : ℕ) (e : n ≡ input_refusal m call given) (v c : ℕ) (k : Look) (l : ℕ) (f : Finds m call v c k l) where
+module _ (m : Machine) (call : Call) (given : Bytes) (n : ℕ) (e : n ≡ input_refusal m call given) where
   abbrev o : Opening
   o = m.state.opening
 
@@ -62,8 +54,18 @@ module _ (m : Machine) (call : Call) (given : Bytes) (n : ℕ) (e : n ≡ input_
   abbrev bytes : Bytes
   bytes = bytes_given call given
 
+  -- the core and the line where the call looks, and what going through the core's copies found
+  abbrev c : ℕ
+  c = core_seen call m.state
+
+  abbrev l : ℕ
+  l = line_seen call m.state
+
+  abbrev k : Look
+  k = copies_seen call m.state
+
   abbrev pub made : Effect
-  made = effect_with n call (pieces l (core_at m.state c) (copy_at m.state c l) (line_at m.state l) k.copies) o
+  made = effect_with (applies n) call (pieces_seen call m.state) o
 
   -- ---- none of them applies
 
@@ -75,40 +77,43 @@ module _ (m : Machine) (call : Call) (given : Bytes) (n : ℕ) (e : n ≡ input_
     fit = machine_fit m allowed.0
 
     core_is : c ≡ core_of call m.state
+    unfolding core_seen named_seen
     core_is =
         let i = inside o fit.opening in
         let h = named_inside o (about call).line i.some_lines (named call o (length bytes) allowed.1).line in
         let q = call_there fit call (length bytes) allowed.1 in
-        f.core ∙ (rw (f.named ∙ found_there _ _ _ h i.most_lines) (found_there _ _ _ q.core i.most_cores))
+        rw (found_there _ _ _ h i.most_lines) (found_there _ _ _ q.core i.most_cores)
 
     -- the line by the core's victim, whether the call looks for it or not
     victim_is : the_line (about call).line (core_at m.state c).slot k.line ≡ the_line (about call).line (core_at m.state c).slot (victim_of m.state c)
+    unfolding copies_seen
     victim_is = go (looks_over (about call).line o) refl
       where
         go : (b : Bool) → looks_over (about call).line o ≡ b
             → the_line (about call).line (core_at m.state c).slot k.line ≡ the_line (about call).line (core_at m.state c).slot (victim_of m.state c)
-        go true t = rw (f.look, look_victim m.state c (about call).line (inside o fit.opening).most_lines t)
+        go true t = rw (look_victim m.state c (about call).line (inside o fit.opening).most_lines t)
         go false t = line_unseen (about call).line o (core_at m.state c).slot k.line (victim_of m.state c) t
 
     line_is : l ≡ line_of call m.state
+    unfolding line_seen
     line_is =
         let q = call_there fit call (length bytes) allowed.1 in
-        f.line ∙ rw victim_is (rw core_is (found_there _ _ _ q.line (inside o fit.opening).most_lines))
+        rw victim_is (rw core_is (found_there _ _ _ q.line (inside o fit.opening).most_lines))
 
     there : There o c l
     there = rw (core_is, line_is) (call_there fit call (length bytes) allowed.1)
 
     accepted_effect : made ≡ effect_of call (pieces_at m.state c l) o
-    unfolding effect_with
+    unfolding effect_with pieces_seen copies_seen
     accepted_effect = rw z (go (looks_over (about call).line o) refl)
       where
         go : (b : Bool) → looks_over (about call).line o ≡ b
             → effect_of call (pieces l (core_at m.state c) (copy_at m.state c l) (line_at m.state l) k.copies) o ≡ effect_of call (pieces_at m.state c l) o
-        go true t = rw (f.look, look_copies m.state c (about call).line (inside o fit.opening).most_lines t)
+        go true t = rw (look_copies m.state c (about call).line (inside o fit.opening).most_lines t)
         go false t =
             let n = look_none (copy_at m.state c) (about call).line o t in
             effect_unseen l (core_at m.state c) (copy_at m.state c l) (line_at m.state l) k.copies (copies_of m.state c) o
-            (rw (f.look, n) (omega (arith, (inside o fit.opening).some_cap)))
+            (rw n (omega (arith, (inside o fit.opening).some_cap)))
             (λ h e. let j = count_missing (copy_at m.state c) o.lines l there.line e in omega (arith, h, j)) call t
 
     sound : Sound o c l bytes m.private m.shared call made
@@ -117,8 +122,8 @@ module _ (m : Machine) (call : Call) (given : Bytes) (n : ℕ) (e : n ≡ input_
   -- ---- one of them applies
 
   refused_effect : (n ≡ 0 → ⊥) → made ≡ refused_row n (pieces_at m.state c l)
-  unfolding effect_with
-  refused_effect h = rw (ne_eqb n 0 h)
+  unfolding effect_with pieces_seen
+  refused_effect h = rw (applied n h)
 
   -- ---- whatever applies
 

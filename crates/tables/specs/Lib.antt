@@ -1,3 +1,4 @@
 pub mod Found
 pub mod Look
+pub mod Seen
 pub mod Spans

@@ -1,5 +1,4 @@
-// Going through the copies of a core, line by line: how many are held, and which is the victim. The loop is
-// its caller's, who has the copies: to hand an array of them to a function is to copy it.
+// Going through the copies of a core, line by line: how many are held, and which is the victim.
 ghost use Rattle.std.specs.Prelude.{◌≡◌};
 ghost use Rattle.protocol.specs.Copies.{is_held, rts_of, rank_of, below};
 ghost use Rattle.tables.specs.Look.{one_more, nothing_found, with_copy};
@@ -8,7 +7,7 @@ use protocol::{Copy, Opening, Stamp};
 
 // What was found so far: how many copies are held, and the one of them whose rank is the least, with its
 // line; no copy and line 0 where none is held.
-#[derive(Clone, Copy)]
+#[derive(Clone, Copy, PartialEq, Eq, Debug)]
 pub struct Look {
     pub copies: usize,
     pub line: usize,
@@ -19,11 +18,7 @@ pub struct Look {
 pub fn is_held(copy: Copy) -> bool
     ensures { result ≡ is_held copy }
 {
-    match copy {
-        Copy::None => false,
-        Copy::Shared { .. } => true,
-        Copy::Owned { .. } => true,
-    }
+    !matches!(copy, Copy::None)
 }
 
 // The end of a copy's lease.
@@ -32,24 +27,16 @@ fn rts_of(copy: Copy) -> Stamp
 {
     match copy {
         Copy::None => Stamp(0),
-        Copy::Shared { rts, .. } => rts,
-        Copy::Owned { rts, .. } => rts,
+        Copy::Shared { rts, .. } | Copy::Owned { rts, .. } => rts,
     }
 }
 
 // Whether a copy's rank is below that of another line's: by rts, then by line.
+#[tactic(auto, unfolding(protocol::specs::Copies::below))]
 fn ranks_below(copy: Copy, line: usize, found: Copy, at: usize) -> bool
     ensures { result ≡ below (rank_of copy line) (rank_of found at) }
 {
-    let rts = rts_of(copy);
-    let least = rts_of(found);
-    if rts.earlier(least) {
-        return true;
-    }
-    if !rts.same(least) {
-        return false;
-    }
-    line < at
+    (rts_of(copy), line) < (rts_of(found), at)
 }
 
 // One copy more; a core has no more than MOST_LINES.
@@ -57,9 +44,10 @@ fn one_more(copies: usize) -> usize
     ensures { result ≡ one_more copies }
 {
     if copies < Opening::MOST_LINES {
-        return copies + 1;
+        copies + 1
+    } else {
+        copies
     }
-    copies
 }
 
 impl Look {
@@ -75,6 +63,7 @@ impl Look {
     }
 
     // With the copy of one line more.
+    #[tactic(auto, unfolding(crate::specs::Look::with_copy))]
     pub fn with(self, line: usize, copy: Copy) -> Look
         ensures { result ≡ with_copy self line copy }
     {
@@ -82,17 +71,10 @@ impl Look {
             return self;
         }
         let copies = one_more(self.copies);
-        let found = self.copy;
-        if !is_held(found) {
-            return Look { copies, line, copy };
-        }
-        if ranks_below(copy, line, found, self.line) {
-            return Look { copies, line, copy };
-        }
-        Look {
-            copies,
-            line: self.line,
-            copy: found,
+        if !is_held(self.copy) || ranks_below(copy, line, self.copy, self.line) {
+            Look { copies, line, copy }
+        } else {
+            Look { copies, ..self }
         }
     }
 }

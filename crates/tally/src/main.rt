@@ -4,36 +4,17 @@
 // error.
 #![tactic(auto)]
 
-ghost use Rattle.playing.specs.Listing.{Tally};
 ghost use Rattle.tally.specs.Line.{LineOf, Tallies};
 
-use protocol::Counts;
-use runner::{Fault, Texts};
-use spelling::Put;
-use std::io;
+use runner::Fault;
 use std::io::{Read, Write};
-
-// The tally of a journal.
-fn count(journal: &[u8]) -> Counts
-    ensures { Tally journal.now result }
-{
-    match runner::play_whole(journal, Texts::Dropped, &mut io::sink()) {
-        Ok(counts) => counts,
-        // No write fails where the listing is dropped.
-        Err(_) => Counts::NONE,
-    }
-}
 
 // The line of a journal's tally, at the start of a buffer: how many bytes it has.
 fn put_line(journal: &[u8], line: &mut [u8; 256]) -> usize
     ensures { LineOf journal.now line.new result }
 {
-    let counts = count(journal);
-    match listing::put_tally(line, 0, counts) {
-        Put::End(end) => end,
-        // The line has at most 191 bytes.
-        Put::Short => 0,
-    }
+    // The line has at most 191 bytes, so there is room.
+    listing::put_tally(line, 0, whole::tally(journal)).unwrap_or(0)
 }
 
 // Plays the journal of an input and writes its tally to an output.
@@ -42,24 +23,14 @@ fn tally<R: Read, W: Write>(input: &mut R, output: &mut W) -> Result<(), Fault>
 {
     let mut journal = [0u8; 65537];
     let mut line = [0u8; 256];
-    match runner::read_input(input, &mut journal) {
-        Ok(n) => {
-            let end = put_line(&journal[..n], &mut line);
-            match runner::write_all(output, &line[..end]) {
-                Ok(()) => Ok(()),
-                Err(why) => Err(Fault::Writing(why)),
-            }
-        }
-        Err(why) => Err(Fault::Reading(why)),
-    }
+    let n = runner::read_input(input, &mut journal).map_err(Fault::Reading)?;
+    let end = put_line(&journal[..n], &mut line);
+    runner::write_all(output, &line[..end]).map_err(Fault::Writing)
 }
 
 // The status is 0 also where something failed. Where standard error does not take the line, there is nothing left to say it with.
 fn main(rt: HostRuntime) {
-    match tally(&mut rt.stdin(), &mut rt.stdout()) {
-        Ok(()) => {}
-        Err(fault) => {
-            let _ = runner::complain(&mut rt.stderr(), b"tally", fault);
-        }
+    if let Err(fault) = tally(&mut rt.stdin(), &mut rt.stdout()) {
+        let _ = runner::complain(&mut rt.stderr(), b"tally", fault);
     }
 }

@@ -4,7 +4,7 @@
 //
 // Every row takes any pieces and decides the refusals of its step, 21 and up: the number, with the pieces
 // as they are.
-#![tactic(auto)]
+#![tactic(auto, unfolding(protocol::specs::Tables::effect_of, protocol::specs::Tables::table_of, protocol::specs::Tables::evict_table, protocol::specs::Tables::serve_table, protocol::specs::Tables::serve_asked, protocol::specs::Tables::serve_load, protocol::specs::Tables::receive_table, protocol::specs::Tables::receive_grant, protocol::specs::Tables::receive_renew, protocol::specs::Tables::yield_table, protocol::specs::Tables::take_table, protocol::specs::Tables::victim_table, protocol::specs::Refusals::state_refusal, protocol::specs::Refusals::state_rules, protocol::specs::Pick::first))]
 
 mod requests;
 mod writebacks;

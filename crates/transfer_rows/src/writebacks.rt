@@ -1,77 +1,55 @@
 // The rows of evict, drop and writeback, of yield and of take; and of victim, which names the line that a core would give up.
 ghost use Rattle.std.specs.Prelude.{ℕ, ◌≡◌};
-ghost use Rattle.protocol.specs.{Pick.both, Refusals.{has_owner, stands}, Machine.pieces, Tables.{written_back, evict_table, yielded, effect_of}};
+ghost use Rattle.protocol.specs.{Pick.both, Refusals.{has_owner, stands}, Tables.{evict_table, yielded, effect_of}};
 
 use protocol::{
-    Answer, Call, Copy, Core, Effect, Manager, ManagerLine, Move, Name, Opening, Recall, Stamp,
-    Writeback,
+    Answer, Call, Copy, Effect, Flight, Manager, ManagerLine, Move, Name, Opening, Pieces, Recall,
+    Stamp,
 };
-
-// A version on its way back to the manager.
-fn written_back(line: ManagerLine, wts: Stamp, rts: Stamp) -> ManagerLine
-    ensures { result ≡ written_back line wts rts }
-{
-    let manager = line.manager;
-    let recall = line.recall;
-    ManagerLine {
-        manager,
-        recall,
-        writeback: Writeback::Flight { wts, rts },
-    }
-}
+use refusals::refused;
 
 // A copy is given up, and the answer is this name: a shared one goes; an owned one becomes the writeback; 26 where there is none.
-fn give_up(name: Name, core: Core, copy: Copy, line: ManagerLine) -> Effect
-    ensures { (n i : ℕ) → result ≡ evict_table name copy (pieces n core copy line i) }
+fn give_up(name: Name, pieces: Pieces) -> Effect
+    ensures { result ≡ evict_table name pieces.copy pieces }
 {
-    match copy {
-        Copy::None => refusals::refused(26, core, copy, line),
+    match pieces.copy {
+        Copy::None => refused(26, pieces),
         Copy::Shared { .. } => Effect {
-            answer: Answer::Done(name),
-            moves: Move::Still,
-            core,
             copy: Copy::None,
-            line,
+            ..pieces.row(Answer::Done(name), Move::Still)
         },
-        Copy::Owned { wts, rts, .. } => {
-            let back = written_back(line, wts, rts);
-            Effect {
-                answer: Answer::Done(name),
-                moves: Move::Writeback,
-                core,
-                copy: Copy::None,
-                line: back,
-            }
-        }
+        Copy::Owned { wts, rts, .. } => Effect {
+            copy: Copy::None,
+            line: pieces.line.written_back(wts, rts),
+            ..pieces.row(Answer::Done(name), Move::Writeback)
+        },
     }
 }
 
 // evict: whichever fits the copy.
-pub fn evict(core: Core, copy: Copy, line: ManagerLine) -> Effect
-    ensures { (c l n i : ℕ) (o : Opening) → result ≡ effect_of (Call.Evict c l) (pieces n core copy line i) o }
+pub fn evict(pieces: Pieces) -> Effect
+    ensures { (c l : ℕ) (o : Opening) → result ≡ effect_of (Call.Evict c l) pieces o }
 {
-    give_up(Name::Evict, core, copy, line)
+    give_up(Name::Evict, pieces)
 }
 
 // drop: a shared copy goes; 26 where there is none, 30 where it is owned.
-pub fn drop(core: Core, copy: Copy, line: ManagerLine) -> Effect
-    ensures { (c l n i : ℕ) (o : Opening) → result ≡ effect_of (Call.Drop c l) (pieces n core copy line i) o }
+pub fn drop(pieces: Pieces) -> Effect
+    ensures { (c l : ℕ) (o : Opening) → result ≡ effect_of (Call.Drop c l) pieces o }
 {
-    match copy {
-        Copy::None => give_up(Name::Drop, core, copy, line),
-        Copy::Shared { .. } => give_up(Name::Drop, core, copy, line),
-        Copy::Owned { .. } => refusals::refused(30, core, copy, line),
+    match pieces.copy {
+        Copy::Owned { .. } => refused(30, pieces),
+        Copy::None | Copy::Shared { .. } => give_up(Name::Drop, pieces),
     }
 }
 
 // writeback: an owned copy becomes the writeback; 26 where there is none, 30 where it is shared.
-pub fn writeback(core: Core, copy: Copy, line: ManagerLine) -> Effect
-    ensures { (c l n i : ℕ) (o : Opening) → result ≡ effect_of (Call.Writeback c l) (pieces n core copy line i) o }
+pub fn writeback(pieces: Pieces) -> Effect
+    ensures { (c l : ℕ) (o : Opening) → result ≡ effect_of (Call.Writeback c l) pieces o }
 {
-    match copy {
-        Copy::None => give_up(Name::Writeback, core, copy, line),
-        Copy::Shared { .. } => refusals::refused(30, core, copy, line),
-        Copy::Owned { .. } => give_up(Name::Writeback, core, copy, line),
+    match pieces.copy {
+        Copy::Shared { .. } => refused(30, pieces),
+        Copy::None | Copy::Owned { .. } => give_up(Name::Writeback, pieces),
     }
 }
 
@@ -80,9 +58,8 @@ fn yielded_copy(recall: Recall, wts: Stamp, rts: Stamp) -> Copy
     ensures { result ≡ yielded recall wts rts }
 {
     match recall {
-        Recall::None => Copy::None,
         Recall::Downgrade => Copy::Shared { wts, rts },
-        Recall::Flush => Copy::None,
+        _ => Copy::None,
     }
 }
 
@@ -90,76 +67,54 @@ fn yielded_copy(recall: Recall, wts: Stamp, rts: Stamp) -> Copy
 fn is_recalled(line: ManagerLine) -> bool
     ensures { result ≡ both (has_owner line.manager) (stands line.recall) }
 {
-    let manager = line.manager;
-    let recall = line.recall;
-    match manager {
-        Manager::Shared { .. } => false,
-        Manager::Owned { .. } => match recall {
-            Recall::None => false,
-            Recall::Downgrade => true,
-            Recall::Flush => true,
-        },
-    }
+    matches!(line.manager, Manager::Owned { .. })
+        && matches!(line.recall, Recall::Downgrade | Recall::Flush)
 }
 
 // yield: the owner's copy becomes the writeback; 23 without a recall, 24 without an owned copy.
-pub fn yield_line(core: Core, copy: Copy, line: ManagerLine) -> Effect
-    ensures { (l n i : ℕ) (o : Opening) → result ≡ effect_of (Call.Yield l) (pieces n core copy line i) o }
+pub fn yield_line(pieces: Pieces) -> Effect
+    ensures { (l : ℕ) (o : Opening) → result ≡ effect_of (Call.Yield l) pieces o }
 {
+    let line = pieces.line;
     if !is_recalled(line) {
-        return refusals::refused(23, core, copy, line);
+        return refused(23, pieces);
     }
-    let recall = line.recall;
-    match copy {
-        Copy::None => refusals::refused(24, core, copy, line),
-        Copy::Shared { .. } => refusals::refused(24, core, copy, line),
-        Copy::Owned { wts, rts, .. } => {
-            let left = yielded_copy(recall, wts, rts);
-            let back = written_back(line, wts, rts);
-            Effect {
-                answer: Answer::Done(Name::Yield),
-                moves: Move::Writeback,
-                core,
-                copy: left,
-                line: back,
-            }
-        }
+    match pieces.copy {
+        Copy::Owned { wts, rts, .. } => Effect {
+            copy: yielded_copy(line.recall, wts, rts),
+            line: line.written_back(wts, rts),
+            ..pieces.row(Answer::Done(Name::Yield), Move::Writeback)
+        },
+        _ => refused(24, pieces),
     }
 }
 
 // take: the writeback becomes the manager's version, and recall and writeback are settled; 25 without one.
-pub fn take(core: Core, copy: Copy, line: ManagerLine) -> Effect
-    ensures { (l n i : ℕ) (o : Opening) → result ≡ effect_of (Call.Take l) (pieces n core copy line i) o }
+pub fn take(pieces: Pieces) -> Effect
+    ensures { (l : ℕ) (o : Opening) → result ≡ effect_of (Call.Take l) pieces o }
 {
-    let flight = line.writeback;
-    match flight {
-        Writeback::None => refusals::refused(25, core, copy, line),
-        Writeback::Flight { wts, rts } => Effect {
-            answer: Answer::Done(Name::Take),
-            moves: Move::Take,
-            core,
-            copy,
+    match pieces.line.writeback {
+        None => refused(25, pieces),
+        Some(Flight { wts, rts }) => Effect {
             line: ManagerLine {
                 manager: Manager::Shared { wts, rts },
                 recall: Recall::None,
-                writeback: Writeback::None,
+                writeback: None,
             },
+            ..pieces.row(Answer::Done(Name::Take), Move::Take)
         },
     }
 }
 
-// victim: the line of this number, and nothing changes; 26 where the core holds no copy.
-pub fn victim(number: usize, core: Core, copy: Copy, line: ManagerLine, copies: usize) -> Effect
-    ensures { (c : ℕ) (o : Opening) → result ≡ effect_of (Call.Victim c) (pieces number core copy line copies) o }
+// victim: the line of the pieces' number, and nothing changes; 26 where the core holds no copy.
+pub fn victim(pieces: Pieces) -> Effect
+    ensures { (c : ℕ) (o : Opening) → result ≡ effect_of (Call.Victim c) pieces o }
 {
-    if copies == 0 {
-        return refusals::refused(26, core, copy, line);
+    if pieces.copies == 0 {
+        return refused(26, pieces);
     }
-    Effect {
-        answer: Answer::Done(Name::Victim { line: number }),
-        moves: Move::Still,
-        core,
-        copy,
-        line,
-    }
+    let name = Name::Victim {
+        line: pieces.number,
+    };
+    pieces.row(Answer::Done(name), Move::Still)
 }

@@ -5,10 +5,11 @@ use native.Mathlib.Omega.{arith}
 use lib.{Dec.leb, ListN.{length, take, drop, length-append, take-append-drop}, Seq.length-take-le}
 use borrow.Author.Tests.{leb-true, leb-false, le-leb, lt-leb}
 use Rattle.protocol.specs.{Pick.pick, Buffers.Bytes}
-use Rattle.spelling.specs.{Over.over, declared.Put.TheVariants.{End, Short}}
+use Rattle.spelling.specs.Over.{over}
 use Rattle.driver.specs.{Play.Fills, declared.Progress.{Progress, TheVariants.{Finished, More, Short as TooShort, Unfit}}}
 use Rattle.playing.{specs.Calls.joined, proofs.Pieces.joined_append}
 use Rattle.whole.specs.Whole.{fitting, end_of, PutTexts}
+use Rattle.std.specs.Prelude.{Some, None}
 
 -- texts that all have room
 fitting_all : (n : ℕ) (ts : List Bytes) → length (joined ts) ≤ n → fitting n ts ≡ joined ts
@@ -30,7 +31,7 @@ fitting_some n (u ∷ ts) t us h k =
 -- of the texts ts those that have room in n bytes are t, and the progress g tells whether they are all
 pub record Fits (ts : List Bytes) (n : ℕ) (t : Bytes) (g : Progress) : Type 0 where
   pub text : fitting n ts ≡ t
-  pub answer : pick (leb (length (joined ts)) n) (End (length (joined ts))) Short ≡ end_of g (length t)
+  pub answer : pick (leb (length (joined ts)) n) (Some (length (joined ts))) None ≡ end_of g (length t)
 
 pub fits_all : {n : ℕ} {t : Bytes} (ts : List Bytes) → t ≡ joined ts → length t ≤ n → Fits ts n t Finished
 fits_all {n} {t} ts e h =
@@ -41,7 +42,7 @@ fits_all {n} {t} ts e h =
 
 pub fits_some :
     {n : ℕ} {t : Bytes} {g : Progress} (ts : List Bytes) (u : Bytes) (us : List Bytes) → t ≡ joined ts → length t ≤ n → n < length t + length u
-    → end_of g (length t) ≡ Short → Fits (ts ++ (u ∷ us)) n t g
+    → end_of g (length t) ≡ None → Fits (ts ++ (u ∷ us)) n t g
 unfolding joined
 fits_some {n} {t} ts u us e h k s =
     let l = ap length e in
@@ -54,8 +55,8 @@ fits_some {n} {t} ts u us e h k s =
 
 -- with u bytes more in the texts, and u more in the buffer, the answer is for the same progress
 more_answer :
-    (g : Progress) (l n t u : ℕ) (b : Bool) → leb l n ≡ b → pick b (End l) Short ≡ end_of g t
-    → pick (leb (u + l) (u + n)) (End (u + l)) Short ≡ end_of g (u + t)
+    (g : Progress) (l n t u : ℕ) (b : Bool) → leb l n ≡ b → pick b (Some l) None ≡ end_of g t
+    → pick (leb (u + l) (u + n)) (Some (u + l)) None ≡ end_of g (u + t)
 more_answer Finished l n t u true h e = let i : l ≡ t = cc in rw (le-leb (u + l) (u + n) (omega (arith, leb-true l n h)), i)
 more_answer Finished l n t u false h e = absurd (let z : ◌≡◌ {A = ℕ} 0 1 = cc in omega arith)
 more_answer More l n t u true h e = absurd (let z : ◌≡◌ {A = ℕ} 0 1 = cc in omega arith)
@@ -86,6 +87,6 @@ put_texts {old} {new} {w} {ts} {g} f x =
     let whole : new ≡ over old 0 (take w new) =
     sym (take-append-drop w new) ∙ ap (λ (u : Bytes). take w new ++ u) (f.beyond ∙ ap (λ (k : ℕ). drop k old) m) in
     record {
-      answer = subst (λ (k : ℕ). end_of g k ≡ pick (leb (length (joined ts)) (length old)) (End (length (joined ts))) Short) n (sym x.answer);
+      answer = subst (λ (k : ℕ). end_of g k ≡ pick (leb (length (joined ts)) (length old)) (Some (length (joined ts))) None) n (sym x.answer);
       bytes = whole ∙ ap (over old 0) (sym x.text);
     }

@@ -30,7 +30,7 @@ begins_listed :
     → ListedIn j (length text + room) text g
 unfolding joined
 begins_listed (opens x h t u) e = never e
-begins_listed (fails {n = n} x t u) e =
+begins_listed (fails {r = n} x t u) e =
     record { pieces = not_opened n ∷ []; listing = fails_pieces x; fits = fits_all _ (u ∙ sym (joined_one (not_opened n))) (omega arith) }
 begins_listed {j} (no_room {form = f} {o = o} {next = n} x h t u r) e =
     let i = one_reading_theorem j f n (known x).1 in
@@ -39,7 +39,7 @@ begins_listed {j} (no_room {form = f} {o = o} {next = n} x h t u r) e =
       listing = opens_pieces (record { form = f; next = n; first = x; accepted = h; reads = i.holds });
       fits = fits_some [] (record_text (place 0) (open_reply o)) _ u (omega arith) (omega (arith, r)) refl;
     }
-begins_listed (no_room_to_end {n = n} x t u r) e =
+begins_listed (no_room_to_end {r = n} x t u r) e =
     record { pieces = not_opened n ∷ []; listing = fails_pieces x; fits = fits_some [] (not_opened n) [] u (omega arith) (omega (arith, r)) refl }
 
 pub start_lists : {j old new : Bytes} {r : Played} → Starts j old new r → more_to_play r.progress ≡ false → Lists j old new (end_of r.progress r.written)
@@ -99,7 +99,7 @@ module _ {j old mid : Bytes} {r : Played} (x : Starts j old mid r) {p q p' q' pa
   head_length : length (take r.written mid) ≡ r.written
   head_length = length-take-le r.written mid x.fills.within
 
-  pub new_length : length new ≡ length old
+  new_length : length new ≡ length old
   new_length =
       omega (
         arith,
@@ -113,15 +113,9 @@ module _ {j old mid : Bytes} {r : Played} (x : Starts j old mid r) {p q p' q' pa
         x.fills.within,
       )
 
-  -- both texts have room, and what is left tells where they end
-  pub rest_within : s.written ≤ k
+  -- both texts have room
+  rest_within : s.written ≤ k
   rest_within = omega (arith, y.fills.within, part_length)
-
-  pub left_within : k - s.written ≤ length new
-  left_within = omega (arith, new_length, x.fills.size)
-
-  end_is : length new - (k - s.written) ≡ r.written + s.written
-  end_is = omega (arith, new_length, x.fills.size, x.fills.within, rest_within)
 
   text_both : take (r.written + s.written) new ≡ take r.written mid ++ take s.written part
   text_both =
@@ -147,7 +141,7 @@ module _ {j old mid : Bytes} {r : Played} (x : Starts j old mid r) {p q p' q' pa
 
   pub play_lists :
       r.progress ≡ More → resumable (length j) r.checkpoint ≡ true → p ≡ replicate (private_length r.checkpoint.state.opening) 0
-      → q ≡ replicate (shared_length r.checkpoint.state.opening) 0 → Lists j old new (end_of s.progress (length new - (k - s.written)))
+      → q ≡ replicate (shared_length r.checkpoint.state.opening) 0 → Lists j old new (end_of s.progress (r.written + s.written))
   play_lists e h ep eq =
       let b = told_listed y.tells h in
       let w = begins_pieces x.begins e (subst₂ (λ (u v : Bytes). PiecesAt j r.checkpoint u v b.pieces b.counts) ep eq b.at) in
@@ -157,7 +151,6 @@ module _ {j old mid : Bytes} {r : Played} (x : Starts j old mid r) {p q p' q' pa
         texts = take r.written mid ∷ b.pieces;
         listing = w.0;
         put =
-            rw end_is
-            (put_texts fills_both
-            (subst₂ (λ (m : ℕ) (t : Bytes). Fits (take r.written mid ∷ b.pieces) m t s.progress) n (sym text_both) (fits_after (take r.written mid) b.fits)));
+            put_texts fills_both
+            (subst₂ (λ (m : ℕ) (t : Bytes). Fits (take r.written mid ∷ b.pieces) m t s.progress) n (sym text_both) (fits_after (take r.written mid) b.fits));
       }

@@ -1,62 +1,58 @@
 -- `convert::write_steps` meets its contract. The loop's invariant is `Reached`, and the measure is what is left of the journal. A step is one fact, `made`, at the place where its effect is known. Assumes nothing.
 use Prim.Native.Nat.{ℕ, ◌≤◌, ◌<◌}
-use mathlib.Core.Path.{sym, ◌∙◌, subst}
+use mathlib.Core.Path.{sym, ◌∙◌, ap, subst}
 use native.Mathlib.Omega.{arith}
 use lib.ListN.{length}
-use Rattle.journal.specs.Journal.{NextOf}
+use Rattle.std.{specs.Prelude.{is_some, Ok, Err}, proofs.lemmas.Result.err_from_is_err_and}
+use Rattle.protocol.proofs.Tests.{never}
+use Rattle.journal.{specs.Journal.NextOf, proofs.Lines.{item_found, end_found}}
 use Rattle.driver.proofs.Reading.{known}
 use Rattle.convert.specs.Conversion.{form_from}
-use Rattle.convert.proofs.Loop.{reached_start, form_named, later_line_lem, ends_with, passed_over, StepInPlace, unlike_made, skips, step_made}
+use Rattle.convert.specs.Writing.{Writes}
+use Rattle.convert.proofs.Loop.{reached_start, none_found, form_named, later_line_lem, ends_with, passed_over, StepInPlace, unlike_made, skips, step_made}
 use Rattle.convert.proofs.write_steps.Goals as goal
-use Rattle.convert.proofs.write_steps.Goals.{After-effect-d, After-line_of-l, After-step_at}
+use Rattle.convert.proofs.write_steps.Goals.{After-effect-effect, In_ok-item}
 
 -- what is at the offset, in the form that is read
-at_offset : (c : After-step_at)
-    → (NextOf c.args.journal.now c.loop-n.at (form_from c.args.to) c.step_at.result)
+at_offset : (c : In_ok-item) → NextOf c.args.journal.now c.loop-item.at (form_from c.args.to) (Ok c.in_ok-item.field-0)
 at_offset c =
-    subst (λ (f : ℕ). NextOf c.args.journal.now c.loop-n.at f c.step_at.result) c.form_from-form.ensures c.step_at.ensures
+    subst (λ (f : ℕ). NextOf c.args.journal.now c.loop-item.at f (Ok c.in_ok-item.field-0)) c.form_from-form.ensures c.in_ok-item.ensures
 
-pub loop-n-init : goal.loop-n-init
-loop-n-init c =
-    reached_start c.args.to c.args.journal.now c.args.opening c.args.from _ c.args.text.now c.args.first _ c.requires c.fresh-s.ensures c.opening_refusal-refusal.ensures
+pub loop-item-init : goal.loop-item-init
+loop-item-init c =
+    reached_start c.args.to c.args.journal.now c.args.opening c.args.from _ c.args.text.now _ c.requires c.fresh-s.ensures c.opening_refusal-refusal.ensures
 
 pub returns-in-Opening : goal.returns-in-Opening
 returns-in-Opening c =
-    absurd (form_named c.args.to (known (subst (NextOf _ _ _) c.in-Opening.is (at_offset (goal.at.returns-in-Opening c).After-step_at))).0)
+    absurd (form_named c.args.to (known (item_found (at_offset (goal.at.returns-in-Opening c).In_ok-item) c.in-Some.is c.in-Opening.is)).0)
 
-pub returns-in-End : goal.returns-in-End
-returns-in-End c =
-    ends_with c.loop-n.invariant (subst (NextOf _ _ _) c.in-End.is (at_offset (goal.at.returns-in-End c).After-step_at)) c.last_answer.ensures
+pub returns : goal.returns
+returns c =
+    ends_with c.loop-item.invariant (end_found (at_offset (goal.at.returns c).In_ok-item) c.in_default.is) c.last_answer.ensures
 
-pub returns-in-Refused : goal.returns-in-Refused
-returns-in-Refused c =
-    later_line_lem c.loop-n.invariant (subst (NextOf _ _ _) c.in-Refused.is (at_offset (goal.at.returns-in-Refused c).After-step_at))
+pub returns-in_err-item : goal.returns-in_err-item
+returns-in_err-item c =
+    let p = err_from_is_err_and c.from_residual.result c.from_residual.ensures.1 in
+    let a = c.args in
+    let x = subst (λ (f : ℕ). NextOf a.journal.now c.loop-item.at f (Err c.in_err-item.field-0.0)) c.form_from-form.ensures c.in_err-item.ensures in
+    subst (Writes a.to a.journal.now c.loop-item.text.bytes) (sym (p.1 ∙ ap Err p.2)) (later_line_lem c.loop-item.invariant x)
 
-pub loop-n-smaller-then-refusal-ne0 : goal.loop-n-smaller-then-refusal-ne0
-loop-n-smaller-then-refusal-ne0 c =
-    let k = (known (subst (NextOf _ _ _) c.in-Step.is (at_offset (goal.at.loop-n-smaller-then-refusal-ne0 c).After-step_at))).1 in
-    omega (arith, k.forward, k.inside)
-
-pub loop-n-preserved-then-refusal-ne0 : goal.loop-n-preserved-then-refusal-ne0
-loop-n-preserved-then-refusal-ne0 c =
-    passed_over c.loop-n.invariant (subst (NextOf _ _ _) c.in-Step.is (at_offset (goal.at.loop-n-preserved-then-refusal-ne0 c).After-step_at)) c.if-refusal-ne0.true
+pub loop-item-preserved-then-is_some : goal.loop-item-preserved-then-is_some
+loop-item-preserved-then-is_some c =
+    passed_over c.loop-item.invariant (item_found (at_offset (goal.at.loop-item-preserved-then-is_some c).In_ok-item) c.in-Some.is c.in-Step.is)
+    (λ e. never (c.if-is_some.ensures ∙ ap is_some e))
 
 -- its digits start before they end
 pub overflow_sub-end : goal.overflow_sub-end
-overflow_sub-end c = (known (subst (NextOf _ _ _) c.in-Step.is (at_offset (goal.at.overflow_sub-end c).After-step_at))).1.order
+overflow_sub-end c = (known (item_found (at_offset (goal.at.overflow_sub-end c).In_ok-item) c.in-Some.is c.in-Step.is)).1.order
 
--- the indices lie in the arrays
-low : (c : After-line_of-l) → (c.core_of-c.result < 16) × (c.line_of-l.result < 64)
-low c = (c.core_of-c.ensures.low, c.line_of-l.ensures.low)
-
-abbrev made : (c : After-effect-d)
+abbrev made : (c : After-effect-effect)
     → (let a = c.args in StepInPlace a.to a.journal.now a.opening a.from)
 made c =
     record {
       at = _;
       s = _;
-      buffer = _;
-      used = _;
+      out = _;
       n = _;
       call = _;
       start = _;
@@ -64,87 +60,48 @@ made c =
       next = _;
       w = _;
       k = _;
-      v = _;
-      c = _;
-      l = _;
+      y = _;
       d = _;
-      reached = c.loop-n.invariant;
-      none = c.if-refusal-ne0.false;
+      reached = c.loop-item.invariant;
+      none = none_found c.loop-item.refusal c.if-is_some.ensures;
       line =
-          subst (NextOf _ _ _) c.in-Step.is
-          (subst (λ (f : ℕ). NextOf c.args.journal.now c.loop-n.at f c.step_at.result) c.form_from-form.ensures c.step_at.ensures);
-      about = c.about-about.ensures;
+          item_found (subst (λ (f : ℕ). NextOf c.args.journal.now c.loop-item.at f (Ok c.in_ok-item.field-0)) c.form_from-form.ensures c.in_ok-item.ensures)
+          c.in-Some.is c.in-Step.is;
+      about = c.about-which.ensures;
       number = c.call_refusal-number.ensures;
-      named = c.named_line-named.ensures;
-      core = c.core_of-c.ensures;
-      place = c.line_of-l.ensures;
-      effect = c.effect-d.ensures;
+      sees = c.of-seen.ensures;
+      effect = c.effect-effect.ensures;
     }
 
 -- the next line is further on in the journal
-further : (c : After-effect-d)
+further : (c : After-effect-effect)
     → (let m = made c in (m.at < m.next) × (m.next ≤ length c.args.journal.now))
 further c = let k = (known (made c).line).1 in (k.forward, k.inside)
 
-pub loop-n-smaller-then-unlike_step : goal.loop-n-smaller-then-unlike_step
-loop-n-smaller-then-unlike_step c = let f = further (goal.at.loop-n-smaller-then-unlike_step c).After-effect-d in omega arith
+pub loop-item-smaller-then-unlike_step : goal.loop-item-smaller-then-unlike_step
+loop-item-smaller-then-unlike_step c = let f = further (goal.at.loop-item-smaller-then-unlike_step c).After-effect-effect in omega arith
 
-pub loop-n-preserved-then-unlike_step : goal.loop-n-preserved-then-unlike_step
-loop-n-preserved-then-unlike_step c =
-    unlike_made (made (goal.at.loop-n-preserved-then-unlike_step c).After-effect-d) (sym c.unlike_step.ensures ∙ c.if-unlike_step.true)
+pub loop-item-preserved-then-unlike_step : goal.loop-item-preserved-then-unlike_step
+loop-item-preserved-then-unlike_step c =
+    unlike_made (made (goal.at.loop-item-preserved-then-unlike_step c).After-effect-effect) (sym c.unlike_step.ensures ∙ c.if-unlike_step.true)
 
-pub put_line-used-requires : goal.put_line-used-requires
-put_line-used-requires c =
-    rw c.change_of-change.ensures (skips (made (goal.at.put_line-used-requires c).After-effect-d) (sym c.unlike_step.ensures ∙ c.if-unlike_step.false) _ c.owns_with-owns.ensures)
+pub put_line-requires : goal.put_line-requires
+put_line-requires c =
+    rw c.change_of-change.ensures (skips (made (goal.at.put_line-requires c).After-effect-effect) (sym c.unlike_step.ensures ∙ c.if-unlike_step.false) _ c.owns_with-owns.ensures)
 
-pub loop-n-smaller : goal.loop-n-smaller
-loop-n-smaller c = let f = further (goal.at.loop-n-smaller c).After-effect-d in omega arith
+pub loop-item-smaller : goal.loop-item-smaller
+loop-item-smaller c = let f = further (goal.at.loop-item-smaller c).After-effect-effect in omega arith
 
-pub loop-n-preserved : goal.loop-n-preserved
-loop-n-preserved c =
-    step_made (made (goal.at.loop-n-preserved c).After-effect-d) (sym c.unlike_step.ensures ∙ c.if-unlike_step.false) _ c.owns_with-owns.ensures (rw c.change_of-change.ensures at c.put_line-used.ensures)
-
-pub overflow_mul-i : goal.overflow_mul-i
-overflow_mul-i c = let a = low c in omega arith
-
-pub overflow_add-i : goal.overflow_add-i
-overflow_add-i c = let a = low c in omega arith
-
-pub offset_bounds-s-i : goal.offset_bounds-s-i
-offset_bounds-s-i c = let a = low c in omega arith
-
-pub bounds-s-i : goal.bounds-s-i
-bounds-s-i c = let a = low c in omega arith
-
-pub offset_bounds-s-l : goal.offset_bounds-s-l
-offset_bounds-s-l c = let a = low (goal.at.offset_bounds-s-l c).After-line_of-l in omega arith
-
-pub bounds-s-l : goal.bounds-s-l
-bounds-s-l c = let a = low (goal.at.bounds-s-l c).After-line_of-l in omega arith
+pub loop-item-preserved : goal.loop-item-preserved
+loop-item-preserved c =
+    rw c.write_back.ensures
+    (step_made (made (goal.at.loop-item-preserved c).After-effect-effect) (sym c.unlike_step.ensures ∙ c.if-unlike_step.false) _ c.owns_with-owns.ensures (rw c.change_of-change.ensures at c.put_line.ensures))
 
 pub slice_bounds-put_line-count : goal.slice_bounds-put_line-count
-slice_bounds-put_line-count c = let f = further (goal.at.slice_bounds-put_line-count c).After-effect-d in omega arith
+slice_bounds-put_line-count c = let f = further (goal.at.slice_bounds-put_line-count c).After-effect-effect in omega arith
 
 pub slice_bounds-put_line-start : goal.slice_bounds-put_line-start
-slice_bounds-put_line-start c = let f = further (goal.at.slice_bounds-put_line-start c).After-effect-d in omega arith
+slice_bounds-put_line-start c = let f = further (goal.at.slice_bounds-put_line-start c).After-effect-effect in omega arith
 
 pub slice_bounds-put_line-end : goal.slice_bounds-put_line-end
-slice_bounds-put_line-end c = let f = further (goal.at.slice_bounds-put_line-end c).After-effect-d in omega arith
-
-pub offset_bounds-s-c-in-Step : goal.offset_bounds-s-c-in-Step
-offset_bounds-s-c-in-Step c = let a = low (goal.at.offset_bounds-s-c-in-Step c).After-line_of-l in omega arith
-
-pub bounds-s-c-in-Step : goal.bounds-s-c-in-Step
-bounds-s-c-in-Step c = let a = low (goal.at.bounds-s-c-in-Step c).After-line_of-l in omega arith
-
-pub offset_bounds-s-i-in-Step : goal.offset_bounds-s-i-in-Step
-offset_bounds-s-i-in-Step c = let a = low (goal.at.offset_bounds-s-i-in-Step c).After-line_of-l in omega arith
-
-pub bounds-s-i-in-Step : goal.bounds-s-i-in-Step
-bounds-s-i-in-Step c = let a = low (goal.at.bounds-s-i-in-Step c).After-line_of-l in omega arith
-
-pub offset_bounds-s-l-in-Step : goal.offset_bounds-s-l-in-Step
-offset_bounds-s-l-in-Step c = let a = low (goal.at.offset_bounds-s-l-in-Step c).After-line_of-l in omega arith
-
-pub bounds-s-l-in-Step : goal.bounds-s-l-in-Step
-bounds-s-l-in-Step c = let a = low (goal.at.bounds-s-l-in-Step c).After-line_of-l in omega arith
+slice_bounds-put_line-end c = let f = further (goal.at.slice_bounds-put_line-end c).After-effect-effect in omega arith

@@ -4,9 +4,9 @@ use lib.ListN.{length}
 use Rattle.convert.proofs.Loop.{Reached}
 use Rattle.convert.proofs.write_steps.Given as goal
 
-abbrev pub invariant-loop-n : goal.invariant-loop-n
-invariant-loop-n l =
-    Reached l.to l.journal l.opening l.from l.at l.s l.text l.used l.refusal
+abbrev pub invariant-loop-item : goal.invariant-loop-item
+invariant-loop-item l =
+    Reached l.to l.journal l.opening l.from l.at l.s l.text l.refusal
 
-abbrev pub decreases-loop-n : goal.decreases-loop-n
-decreases-loop-n l = length l.journal - l.at
+abbrev pub decreases-loop-item : goal.decreases-loop-item
+decreases-loop-item l = length l.journal - l.at

@@ -1,37 +1,20 @@
--- `grammar::after` meets its contract. The invariant: whether the bytes passed are the text's. Assumes nothing.
-use Prim.Native.Nat.{ℕ, ◌+◌}
-use mathlib.Core.{Path.{◌≡◌, refl, subst}}
-use native.Mathlib.Omega.{arith}
-use lib.ListN.{length, get_or}
-use borrow.Author.Tests.{not-true, not-false}
-use Rattle.spelling.{specs.Bytes.{Test, Below}, proofs.Tests.{test_same, test_more}}
-use Rattle.grammar.specs.Scan.{there, elsewhere}
+-- `grammar::after` meets its contract. Assumes nothing.
+use Prim.Native.Nat.{ℕ, ◌+◌, ◌-◌}
+use mathlib.Core.{Path.{◌≡◌, refl, ap, ◌∙◌}, Bool.{Bool, true}, List.{List, ◌++◌}}
+use lib.{Dec.eqb, ListN.{length, take, drop}, Seq.drop-drop}
+use Rattle.std.specs.List.{starts_with}
+use Rattle.std.proofs.lemmas.{Bool.Decides.Decides-eqb, List.take_rest, Slice.Eq.starts_is}
 use Rattle.grammar.proofs.after.Goals as goal
-use Rattle.grammar.proofs.after.Invariants.{same_at}
-use Rattle.grammar.proofs.after.Goals.{After-loop-k}
 
-pub loop-k-preserved : goal.loop-k-preserved
-loop-k-preserved c =
-    let l = c.loop-k in
-    let a = c.args in
-    (omega arith, test_more (same_at a.line.now a.at a.text.now) l.k l.same _ l.invariant.1 (test_same (get_or a.line.now (a.at + l.k) 0) (get_or a.text.now l.k 0)))
+-- what a test says of whether the text t is in the line s at an offset
+told : (s t : List ℕ) (at : ℕ) (r : Bool) → r ≡ starts_with eqb (take (length s - at) (drop at s)) t
+    → (r ≡ true → drop at s ≡ t ++ drop (at + length t) s) × ((u : List ℕ) → drop at s ≡ t ++ u → r ≡ true)
+told s t at r e =
+    let h = starts_is {E = eqb} Decides-eqb (drop at s) t r (rw (take_rest s at) at e) in
+    (λ x. h.0 x ∙ ap (λ (l : List ℕ). t ++ l) (drop-drop (length t) at s), h.1)
 
--- what was found of the whole text
-found : (c : After-loop-k) → Test (Below (length c.args.text.now) (same_at c.args.line.now c.args.at c.args.text.now)) c.loop-k.same
-found c =
-    let l = c.loop-k in
-    let a = c.args in
-    let e : l.k ≡ length a.text.now = omega arith in
-    subst (λ (n : ℕ). Test (Below n (same_at a.line.now a.at a.text.now)) l.same) e l.invariant.1
+pub returns-then-starts_with : goal.returns-then-starts_with
+returns-then-starts_with c = ((told c.args.line.now c.args.text.now c.args.at _ c.starts_with.ensures.value).0 c.if-starts_with.true, refl)
 
-pub returns-then-not-same : goal.returns-then-not-same
-returns-then-not-same c = elsewhere (λ h. subst (Test _) (not-true c.loop-k.same c.if-not-same.true-raw) (found (goal.at.returns-then-not-same c).After-loop-k) h.1) refl
-
-pub returns-then-line-at : goal.returns-then-line-at
-returns-then-line-at c = elsewhere (λ h. omega (arith, h.0)) refl
-
-pub loop-k-init : goal.loop-k-init
-loop-k-init c = (omega arith, λ k h. absurd (omega arith))
-
-pub returns : goal.returns
-returns c = there (omega arith, subst (Test _) (not-false c.loop-k.same c.if-not-same.false-raw) (found (goal.at.returns c).After-loop-k)) (omega arith)
+pub returns-else-starts_with : goal.returns-else-starts_with
+returns-else-starts_with c = λ u e. let x = (told c.args.line.now c.args.text.now c.args.at _ c.starts_with.ensures.value).1 u e in (cc)

@@ -1,10 +1,6 @@
--- `grammar::fill` meets its contract; `Walk` has the invariant and the laws. Assumes nothing.
-use Rattle.grammar.specs.Scan.{field_parts}
+-- `grammar::fill`: what the keys to come give, the whole gives. Assumes nothing.
 use Rattle.grammar.proofs.{Walk.{State}}
 use Rattle.grammar.proofs.fill.Given as goal
 
-abbrev pub invariant-loop-left : goal.invariant-loop-left
-invariant-loop-left l = State l.line l.head (field_parts l.fields l.keys) l.values l.at l.left l.rest
-
-abbrev pub decreases-loop-left : goal.decreases-loop-left
-decreases-loop-left l = l.left
+abbrev pub invariant-loop-i : goal.invariant-loop-i
+invariant-loop-i l = State l.line l.head l.keys l.values l.at l.i

@@ -1,28 +1,10 @@
 -- `listing::put_commit` meets its contract: for each kind, the text that is put is the record of such a commit. Assumes nothing.
 use Rattle.spelling.specs.Text.{text}
-use Rattle.listing.proofs.{Laws.{put_same, access_text, fence_text}}
+use Rattle.listing.proofs.Laws.{put_same, access_text}
 use Rattle.listing.proofs.put_commit.Goals as goal
 
 pub returns-in-Load : goal.returns-in-Load
-returns-in-Load c =
-    rw c.in-Load.is
-    (put_same (access_text _ _ _ _ (text "load") _) c.put_access.ensures)
+returns-in-Load c = rw c.in-Load.is (put_same (access_text _ _ _ _ (text "load") _) c.put_access.ensures)
 
 pub returns-in-Store : goal.returns-in-Store
-returns-in-Store c =
-    rw c.in-Store.is
-    (put_same (access_text _ _ _ _ (text "store") _) c.put_access-in-Store.ensures)
-
-pub returns-in-Fence : goal.returns-in-Fence
-returns-in-Fence c =
-    rw c.in-Fence.is
-    (put_same (fence_text _ _ _) c.put_three.ensures)
-
-pub shape_of-out-in-Load : goal.shape_of-out-in-Load
-shape_of-out-in-Load c = c.out-1.given
-
-pub shape_of-out-in-Store : goal.shape_of-out-in-Store
-shape_of-out-in-Store c = c.out-in-Store-1.given
-
-pub shape_of-out-in-Fence : goal.shape_of-out-in-Fence
-shape_of-out-in-Fence c = c.out-in-Fence-1.given
+returns-in-Store c = rw c.in-Store.is (put_same (access_text _ _ _ _ (text "store") _) c.put_access-in-Store.ensures)

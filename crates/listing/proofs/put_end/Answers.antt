@@ -1,10 +1,10 @@
--- `listing::put_end` meets its contract: the three numbers are those of the end line. Assumes nothing.
+-- `listing::put_end` meets its contract: the line holds the three fields, from the last to the first. Assumes nothing.
+use mathlib.Core.List.{append_assoc}
 use Rattle.listing.specs.Record.{end_text}
+use Rattle.listing.proofs.Laws.{put_same}
 use Rattle.listing.proofs.put_end.Goals as goal
-
-pub shape_of-out : goal.shape_of-out
-shape_of-out c = c.out-1.given
 
 pub returns : goal.returns
 unfolding end_text
-returns c = c.put_three.ensures
+returns c =
+    put_same (simp (c.line.ensures, c.field-3.ensures.text, c.field-2.ensures.text, c.field.ensures.text, c.text.ensures.text, c.new-line.ensures.text, append_assoc)) c.put_text.ensures

@@ -14,12 +14,3 @@ returns-in-Done c = rw c.in-Done.is c.put_done.ensures
 pub returns-in-Commit : goal.returns-in-Commit
 unfolding record_as meaning
 returns-in-Commit c = rw c.in-Commit.is c.put_commit.ensures
-
-pub shape_of-out-in-Refused : goal.shape_of-out-in-Refused
-shape_of-out-in-Refused c = c.out-1.given
-
-pub shape_of-out-in-Done : goal.shape_of-out-in-Done
-shape_of-out-in-Done c = c.out-in-Done-1.given
-
-pub shape_of-out-in-Commit : goal.shape_of-out-in-Commit
-shape_of-out-in-Commit c = c.out-in-Commit-1.given

@@ -7,7 +7,8 @@ use lib.ListN.{length}
 use Rattle.protocol.specs.{Buffers.{Bytes, There, given_fits}, Machine.{Machine, core_at, copy_at, applied}, Step.{Op, load, store, fence}, Run.Commit}
 use Rattle.protocol.specs.Order.{Stores}
 use Rattle.protocol.specs.declared.{Stamp.Stamp, Clocks.Clocks, Copy.{Copy, TheVariants.{None as NoCopy, Shared as CopyShared, Owned as CopyOwned}}}
-use Rattle.protocol.specs.declared.{Slot.{Slot, TheVariants.{Empty, Asked, Answered}}, Opening.Opening, Effect.Effect, Held.TheVariants.Version}
+use Rattle.std.specs.Prelude.{Some}
+use Rattle.protocol.specs.declared.{Slot.{Slot, TheVariants.{Empty, Asked, Answered}}, Opening.Opening, Effect.Effect}
 use Rattle.protocol.specs.declared.Grant.TheVariants.{Share as GrantShare, Renew as GrantRenew, Own as GrantOwn}
 use Rattle.protocol.proofs.{Moves.{manager_after, writeback_after, copy_after, answer_after}, Refusals.Fit}
 use Rattle.protocol.proofs.Written.{Arrays, core_at_lem, core_off, copy_at_lem, copy_off, arrays_written}
@@ -34,7 +35,7 @@ Passed fence t k = t ≤ k.lts.0
 -- a shared copy of wts w beside a slot that speaks of its line: a request and a renewal are of that version
 abbrev OfVersion : Slot → Stamp → Type 0
 OfVersion Empty w = Unit {0}
-OfVersion (Asked a l t h) w = h ≡ Version w
+OfVersion (Asked a l t h) w = h ≡ Some w
 OfVersion (Answered GrantShare l v r) w = Unit {0}
 OfVersion (Answered GrantRenew l v r) w = v ≡ w
 OfVersion (Answered GrantOwn l v r) w = Unit {0}

@@ -3,12 +3,13 @@ use Prim.Native.Nat.{ℕ, ◌<◌}
 use mathlib.Core.{Path.{◌≡◌, refl, ◌∙◌, ap, ap₂}, Logic.{◌⊎◌, inl, inr}, Bool.{Bool, true, false}}
 use native.Mathlib.Decide.{ℕ_discrete}
 use lib.ListN.{length}
+use Rattle.std.specs.Prelude.{Option, Some, None}
 use Rattle.protocol.specs.Buffers.{Bytes, There, copy_bytes, manager_bytes, writeback_bytes, answer_bytes, given_fits, moved_shared}
 use Rattle.protocol.specs.Machine.{Machine, core_at, copy_at, line_at, applied}
 use Rattle.protocol.specs.declared.{Stamp.Stamp, Copy.{Copy, TheVariants.{None as NoCopy, Shared as CopyShared, Owned as CopyOwned}}}
 use Rattle.protocol.specs.declared.Grant.{Grant, TheVariants.{Share as GrantShare, Renew as GrantRenew, Own as GrantOwn}}
 use Rattle.protocol.specs.declared.{Slot.{Slot, TheVariants.{Empty, Asked, Answered}}, Core.Core, Manager.{Manager, TheVariants.{Shared, Owned}}}
-use Rattle.protocol.specs.declared.{Writeback.{Writeback, TheVariants.{None as NoWriteback, Flight}}, ManagerLine.ManagerLine, Opening.Opening}
+use Rattle.protocol.specs.declared.{Flight.Flight, ManagerLine.ManagerLine, Opening.Opening}
 use Rattle.protocol.specs.declared.Effect.{Effect}
 use Rattle.protocol.proofs.{Refusals.Fit, Written.{Arrays, core_at_lem, core_off, line_at_lem, line_off, copy_at_lem, copy_off}}
 use Rattle.protocol.proofs.Moves.{manager_after, writeback_after, copy_after, answer_after, AnswerStays, manager_after_lem, writeback_after_lem, copy_after_lem}
@@ -42,9 +43,9 @@ abbrev pub view_manager : Manager → Bytes → Content LineCell Value
 view_manager (Shared w r) b = newest all_clean w.0 r.0 (cells b)
 view_manager (Owned c) b = nothing
 
-abbrev pub view_writeback : Writeback → Bytes → Content LineCell Value
-view_writeback NoWriteback b = nothing
-view_writeback (Flight w r) b = newest all_clean w.0 r.0 (cells b)
+abbrev pub view_writeback : Option Flight → Bytes → Content LineCell Value
+view_writeback None b = nothing
+view_writeback (Some f) b = newest all_clean f.wts.0 f.rts.0 (cells b)
 
 abbrev pub view_copy : ℕ → Copy → Bytes → Content LineCell Value
 view_copy c NoCopy b = nothing

@@ -3,11 +3,13 @@ use Prim.Native.Nat.{ℕ, ◌≤◌, ◌<◌}
 use mathlib.Core.{Path.{◌≡◌, refl, sym, ap}, Bool.{Bool, true, false}}
 use native.Mathlib.Omega.{arith}
 use borrow.Author.Tests.{eqb-true}
-use Rattle.protocol.specs.{Stamps.stamp, Machine.Pieces}
+use Rattle.std.specs.Prelude.{Option, Some, None}
+use Rattle.protocol.specs.Stamps.{stamp}
+use Rattle.protocol.specs.declared.Pieces.{Pieces}
 use Rattle.protocol.specs.Tables.{load_owned, load_shared, store_table, evict_table, same_version, leased_to, serve_load, receive_grant, yield_table}
 use Rattle.protocol.specs.declared.{Name.Name, Stamp.Stamp, Copy.{Copy, TheVariants.{None as NoCopy, Shared as CopyShared, Owned as CopyOwned}}}
-use Rattle.protocol.specs.declared.{Held.{Held, TheVariants.{None as NothingHeld, Version}}, Slot.{Slot, TheVariants.{Empty, Asked, Answered}}}
-use Rattle.protocol.specs.declared.{Manager.{Manager, TheVariants.{Shared, Owned}}, Writeback.{Writeback, TheVariants.{None as NoWriteback, Flight}}}
+use Rattle.protocol.specs.declared.Slot.{Slot, TheVariants.{Empty, Asked, Answered}}
+use Rattle.protocol.specs.declared.{Manager.{Manager, TheVariants.{Shared, Owned}}, Flight.Flight}
 use Rattle.protocol.specs.declared.{Answer.{Answer, TheVariants.{Refused, Done, Commit}}, Move.TheVariants.Writeback as MoveWriteback}
 use Rattle.protocol.specs.declared.Grant.TheVariants.{Own as GrantOwn}
 use Rattle.protocol.proofs.Tests.{never}
@@ -35,9 +37,9 @@ abbrev pub manager_rts : Manager → ℕ
 manager_rts (Shared w r) = r.0
 manager_rts (Owned c) = 0
 
-abbrev pub writeback_rts : Writeback → ℕ
-writeback_rts NoWriteback = 0
-writeback_rts (Flight w r) = r.0
+abbrev pub writeback_rts : Option Flight → ℕ
+writeback_rts None = 0
+writeback_rts (Some f) = f.rts.0
 
 -- ---- load
 
@@ -100,9 +102,9 @@ module _ (c l : ℕ) (w r : Stamp) (p : Pieces) where
 -- ---- serve
 
 -- a renewal is of the version that the core holds
-pub same_version_lem : (h : Held) (w : Stamp) → same_version h w ≡ true → h ≡ Version w
-same_version_lem NothingHeld w e = never (sym e)
-same_version_lem (Version v) w e = let q : v.0 ≡ w.0 = omega (arith, eqb-true) in ap (λ (n : ℕ). Version (stamp n)) q
+pub same_version_lem : (h : Option Stamp) (w : Stamp) → same_version h w ≡ true → h ≡ Some w
+same_version_lem None w e = never (sym e)
+same_version_lem (Some v) w e = let q : v.0 ≡ w.0 = omega (arith, eqb-true) in ap (λ (n : ℕ). Some (stamp n)) q
 
 module _ (l : ℕ) (w r : Stamp) (p : Pieces) where
   -- the lease that is handed out is the manager's too

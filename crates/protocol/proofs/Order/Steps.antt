@@ -5,16 +5,18 @@ use native.Mathlib.Omega.{arith}
 use lib.{Dec.eqb, ListN.length}
 use borrow.Author.Tests.{eq-eqb}
 use Rattle.protocol.specs.{Given.bytes_given, Stamps.later, Clock.store_time, Buffers.{Bytes, There, copy_bytes, manager_bytes, writeback_bytes, answer_bytes}}
-use Rattle.protocol.specs.{Machine.{Machine, Pieces, pieces_at, core_at, copy_at, line_at, applied}, Copies.is_owned}
+use Rattle.protocol.specs.{Machine.{Machine, pieces_at, core_at, copy_at, line_at, applied}, Copies.is_owned}
+use Rattle.protocol.specs.declared.Pieces.{Pieces}
 use Rattle.protocol.specs.{Step.{Op, load, store, fence, Reply, refused, done, commit, meaning, Outcome, accepted, step}, Run.{place, Commit}}
 use Rattle.protocol.specs.Order.{TsoKeeps, Loads, Stores}
 use Rattle.protocol.specs.Tables.{row, slotted, held_of, load_owned, earliest, store_table, fence_table, advance_table, evict_table, leased_to, serve_load, serve_asked}
 use Rattle.protocol.specs.Tables.{receive_renew, receive_grant, yielded, yield_table, take_table, victim_table, written_back}
 use Rattle.protocol.specs.declared.{Stamp.Stamp, Clocks.Clocks, Copy.{Copy, TheVariants.{None as NoCopy, Shared as CopyShared, Owned as CopyOwned}}}
-use Rattle.protocol.specs.declared.{Want.{Want, TheVariants.{Load as WantLoad, Store as WantStore}}, Held.{Held, TheVariants.Version}}
+use Rattle.std.specs.Prelude.{Option, Some}
+use Rattle.protocol.specs.declared.Want.{Want, TheVariants.{Load as WantLoad, Store as WantStore}}
 use Rattle.protocol.specs.declared.{Grant.{Grant, TheVariants.{Share as GrantShare, Renew as GrantRenew, Own as GrantOwn}}, Core.Core}
 use Rattle.protocol.specs.declared.{Manager.{Manager, TheVariants.Shared}, Recall.{Recall, TheVariants.{None as NoRecall, Downgrade, Flush}}}
-use Rattle.protocol.specs.declared.{Writeback.{Writeback, TheVariants.Flight}, Opening.Opening, Call.Call}
+use Rattle.protocol.specs.declared.{Flight.Flight, Opening.Opening, Call.Call}
 use Rattle.protocol.specs.declared.{Answer.{Answer, TheVariants.Done}, Effect.Effect}
 use Rattle.protocol.specs.declared.Move.{Move, TheVariants.{Receive as MoveReceive, Writeback as MoveWriteback}}
 use Rattle.protocol.specs.declared.{Slot.TheVariants.{Empty, Asked, Answered}, Name.TheVariants.{Own, Yield as Yielded}}
@@ -53,8 +55,8 @@ ask_beside a l t (CopyShared w r) e = refl
 ask_beside a l t (CopyOwned d w r) e = never e
 
 -- beside a request, its answer may come: a renewal of its version, a share, the line itself
-module _ (a : Want) (l : ℕ) (t : Stamp) (h : Held) (w r : Stamp) where
-  renewal_beside : (v : Copy) → h ≡ Version w → Allowed (Asked a l t h) v → Allowed (Answered GrantRenew l w r) v
+module _ (a : Want) (l : ℕ) (t : Stamp) (h : Option Stamp) (w r : Stamp) where
+  renewal_beside : (v : Copy) → h ≡ Some w → Allowed (Asked a l t h) v → Allowed (Answered GrantRenew l w r) v
   renewal_beside NoCopy e k = tt
   renewal_beside (CopyShared w₁ r₁) e k = cc
   renewal_beside (CopyOwned d w₁ r₁) e k = k
@@ -135,14 +137,14 @@ module _ (z : Value) (p : ℕ) {H : List (Commit Bytes)} (given : Bytes) {m : Ma
   unfolding look
   at_manager_lem v e = rw e at (at at_manager)
 
-  at_writeback_lem : (v : Writeback) → (line_at m.state l).writeback ≡ v → SpotOf z l H g at_writeback (view_writeback v (writeback_bytes o m.shared l))
+  at_writeback_lem : (v : Option Flight) → (line_at m.state l).writeback ≡ v → SpotOf z l H g at_writeback (view_writeback v (writeback_bytes o m.shared l))
   unfolding look
   at_writeback_lem v e = rw e at (at at_writeback)
 
   pair : Beside l k.slot (copy_at m.state c l)
   pair = I.pairs c l q.line
 
-  asked : {a : Want} {t : Stamp} {h : Held} → k.slot ≡ Asked a l t h → Allowed (Asked a l t h) (copy_at m.state c l)
+  asked : {a : Want} {t : Stamp} {h : Option Stamp} → k.slot ≡ Asked a l t h → Allowed (Asked a l t h) (copy_at m.state c l)
   asked e = (rw e at pair) refl
 
   -- an owner's slot does not speak of the line, so any copy may come beside it
@@ -433,10 +435,10 @@ module _ (z : Value) (p : ℕ) {H : List (Commit Bytes)} (given : Bytes) {m : Ma
       go NoRecall = yields_to NoCopy g.leased (omega arith) (omega (arith, ok.lr, v.is_r)) (λ _. tt)
       go Flush = yields_to NoCopy g.leased (omega arith) (omega (arith, ok.lr, v.is_r)) (λ _. tt)
       go Downgrade = yields_to (CopyShared w r) r.0 (omega (arith, ok.lr, v.is_r)) (omega arith) (lease_of z (Writes l) (On l) c (omega arith))
-  row_good (takes {w = w} {r = r} e) fit =
-      let u = (at_writeback_lem (Flight w r) e).0 in
+  row_good (takes {f = f} e) fit =
+      let u = (at_writeback_lem (Some f) e).0 in
       keeps fit (inl (refl, tt)) pair (omega arith)
-      (goes fit u (λ n. n) at_manager r.0 g.leased (omega arith) (omega arith) (omega (arith, ok.lr, u.is_r))
+      (goes fit u (λ n. n) at_manager f.rts.0 g.leased (omega arith) (omega arith) (omega (arith, ok.lr, u.is_r))
       (λ ok' stay. ((here, λ j. tt), tt, stay (at_copy c) refl, stay (at_slot c) refl)))
   row_good names_victim fit =
       keeps fit (inl (refl, tt)) pair (omega arith) (as_was fit (at at_manager, at at_writeback, at (at_copy c), at (at_slot c)))

@@ -1,8 +1,7 @@
 -- Each call that goes on gets further on in the journal; the last one is finished.
-use mathlib.Core.Path.{refl, ◌∙◌}
+use mathlib.Core.Path.{refl, sym, ◌∙◌}
 use native.Mathlib.Omega.{arith}
 use Rattle.std.proofs.lemmas.Result.{err_from_is_err_and}
-use Rattle.protocol.proofs.Tests.{was_true, was_false}
 use Rattle.runner.proofs.Calling.{called_start, call_cut, call_over, call_further, call_more}
 use Rattle.runner.proofs.play_on.Goals as goal
 
@@ -16,11 +15,11 @@ returns-in_err-keep g c =
 
 pub returns-then-not-more_to_play : goal.returns-then-not-more_to_play
 returns-then-not-more_to_play g c =
-    call_over c.loop-there.invariant.3 c.play-played.ensures c.in_ok-keep.ensures (was_false c.more_to_play.ensures c.if-not-more_to_play.true-raw)
+    call_over c.loop-there.invariant.3 c.play-played.ensures c.in_ok-keep.ensures (sym c.more_to_play.ensures ∙ c.if-not-more_to_play.true)
 
 pub loop-there-smaller : goal.loop-there-smaller
 loop-there-smaller g c =
-    let f = call_further c.loop-there.invariant.3 c.play-played.ensures (was_true c.more_to_play.ensures c.if-not-more_to_play.false-raw) in
+    let f = call_further c.loop-there.invariant.3 c.play-played.ensures (sym c.more_to_play.ensures ∙ c.if-not-more_to_play.false) in
     omega (arith, f.0, f.1)
 
 pub loop-there-preserved : goal.loop-there-preserved
@@ -29,5 +28,5 @@ loop-there-preserved g c =
       c.private-1.given ∙ i.0,
       c.shared-1.given ∙ i.1,
       c.out-1.given ∙ i.2,
-      call_more i.3 c.play-played.ensures c.in_ok-keep.ensures (was_true c.more_to_play.ensures c.if-not-more_to_play.false-raw),
+      call_more i.3 c.play-played.ensures c.in_ok-keep.ensures (sym c.more_to_play.ensures ∙ c.if-not-more_to_play.false),
     )

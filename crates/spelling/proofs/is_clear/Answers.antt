@@ -1,24 +1,16 @@
 -- `spelling::is_clear` meets its contract. The invariant: the contract, of the bytes passed. Assumes nothing.
-use Prim.Native.Nat.{ℕ, ◌+◌}
-use mathlib.Core.Path.{◌≡◌, subst}
-use native.Mathlib.Omega.{arith}
-use lib.ListN.{get_or}
-use Rattle.spelling.specs.Bytes.{Test, Below}
-use Rattle.spelling.proofs.{Tests.{test_other, test_more}}
+use Rattle.std.proofs.Common.{◌≡◌, arith, get_or}
+use Rattle.spelling.proofs.Tests.{test_other, test_more, test_all}
 use Rattle.spelling.proofs.is_clear.Goals as goal
 
-pub loop-k-preserved : goal.loop-k-preserved
-loop-k-preserved c =
-    let l = c.loop-k in
+pub loop-b-init : goal.loop-b-init
+loop-b-init c = λ k h. absurd (omega arith)
+
+pub loop-b-preserved : goal.loop-b-preserved
+loop-b-preserved c =
+    let l = c.loop-b in
     let a = c.args in
-    (omega arith, test_more (λ i. get_or a.s.now (a.at + i) 0 ≡ a.stop → ⊥) l.k l.clear _ l.invariant.1 (test_other _ a.stop))
+    test_more (λ k. get_or a.s.now k 0 ≡ a.stop → ⊥) l.b-index l.clear _ l.invariant (test_other _ a.stop)
 
 pub returns : goal.returns
-returns c =
-    let l = c.loop-k in
-    let a = c.args in
-    let e : l.k ≡ 8 = omega arith in
-    subst (λ (n : ℕ). Test (Below n (λ i. get_or a.s.now (a.at + i) 0 ≡ a.stop → ⊥)) l.clear) e l.invariant.1
-
-pub loop-k-init : goal.loop-k-init
-loop-k-init c = (omega arith, λ k h. absurd (omega arith))
+returns c = test_all (λ x. x ≡ c.args.stop → ⊥) _ c.loop-b.b-index _ (omega arith) c.loop-b.invariant

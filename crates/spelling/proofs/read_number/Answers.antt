@@ -1,42 +1,27 @@
 -- `spelling::read_number` meets its contract. The invariant: the bytes passed spell the value so far. Assumes nothing.
-use mathlib.Core.Path.{◌∙◌, ap}
-use native.Mathlib.Omega.{arith}
-use Rattle.spelling.specs.Decimal.{decimal}
-use Rattle.spelling.proofs.{DecimalLaws.{not_empty, not_digit, not_lead, not_over, first_digit, next_digit, whole}}
+use Rattle.std.proofs.Common.{arith, subst, sym, ap, ◌∙◌}
+use Rattle.spelling.specs.Decimal.{decimal, NumberOf}
+use Rattle.spelling.proofs.DecimalLaws.{no_empty, no_first, no_next, first_digit, next_digit, whole}
 use Rattle.spelling.proofs.read_number.Goals as goal
 
-pub loop-i-init : goal.loop-i-init
-loop-i-init c =
-    let d = first_digit c.args.s.now (omega arith) (omega arith, omega arith) in
-    (omega arith, omega arith, omega arith, rw c.wide-v.ensures d)
+pub returns-in_err-first : goal.returns-in_err-first
+returns-in_err-first c = subst (NumberOf _) (sym c.from_residual.ensures) (no_empty _ c.in_err-first.ensures.cases)
 
-pub returns-then-v-eq0 : goal.returns-then-v-eq0
-returns-then-v-eq0 c (n, h, e) = let l = c.loop-i in not_lead _ l.i n h e l.invariant.0 (omega arith) (l.invariant.3 ∙ ap decimal c.if-v-eq0.true)
+pub returns-in_err-v : goal.returns-in_err-v
+returns-in_err-v c = subst (NumberOf _) (sym c.from_residual-in_err-v.ensures) (no_first _ _ _ c.in_ok-first.ensures.cases.0 c.in_err-v.ensures)
 
-pub returns-then-v-gt4294967295 : goal.returns-then-v-gt4294967295
-returns-then-v-gt4294967295 c (n, h, e) = let l = c.loop-i in omega (arith, not_over _ l.i l.v n h e (omega arith) l.invariant.2 l.invariant.3, c.wide.ensures)
+pub loop-b-init : goal.loop-b-init
+loop-b-init c = (omega arith, first_digit _ _ _ c.in_ok-first.ensures.cases.0 c.in_ok-v.ensures.0 ∙ ap decimal (sym c.in_ok-v.ensures.1))
 
-pub loop-i-preserved : goal.loop-i-preserved
-loop-i-preserved c =
-    let l = c.loop-i in
-    let s = c.args.s.now in
-    let d = c.wide.ensures in
-    (omega arith, omega arith, omega arith, rw d (next_digit s l.i l.v (omega arith) (omega arith, omega arith) (omega arith) (omega arith) l.invariant.3))
+pub returns-in_err-v-2 : goal.returns-in_err-v-2
+returns-in_err-v-2 c =
+    let l = c.loop-b in
+    subst (NumberOf _) (sym c.from_residual-in_err-v-2.ensures) (no_next _ _ _ c.in_ok-first.ensures.cases.0 l.b-index l.v (omega arith) l.invariant.1 c.in_err-v-2.ensures)
 
-pub returns-then-s-eq0 : goal.returns-then-s-eq0
-returns-then-s-eq0 c (n, h, e) = not_empty _ n h e (omega arith)
-
-pub returns-then-first-lt48 : goal.returns-then-first-lt48
-returns-then-first-lt48 c (n, h, e) = omega (arith, not_digit _ 0 n h e (omega arith))
-
-pub returns-then-first-gt57 : goal.returns-then-first-gt57
-returns-then-first-gt57 c (n, h, e) = omega (arith, not_digit _ 0 n h e (omega arith))
-
-pub returns-then-b-lt48 : goal.returns-then-b-lt48
-returns-then-b-lt48 c (n, h, e) = omega (arith, not_digit _ c.loop-i.i n h e (omega arith))
-
-pub returns-then-b-gt57 : goal.returns-then-b-gt57
-returns-then-b-gt57 c (n, h, e) = omega (arith, not_digit _ c.loop-i.i n h e (omega arith))
+pub loop-b-preserved : goal.loop-b-preserved
+loop-b-preserved c =
+    let l = c.loop-b in
+    (omega arith, next_digit _ _ _ c.in_ok-first.ensures.cases.0 l.b-index l.v (omega arith) l.invariant.1 c.in_ok-v-2.ensures.0 ∙ ap decimal (sym c.in_ok-v-2.ensures.1))
 
 pub returns : goal.returns
-returns c = (omega arith, whole _ c.loop-i.i _ (omega arith) c.loop-i.invariant.3)
+returns c = (omega arith, whole _ _ _ c.in_ok-first.ensures.cases.0 c.loop-b.b-index c.loop-b.v (omega arith) c.loop-b.invariant.1)

@@ -1,25 +1,32 @@
 -- `driver::one_line::due` meets its contract: what is known of the line there. Assumes nothing.
 use Prim.Native.Nat.{ℕ}
-use mathlib.Core.Path.{sym, ◌∙◌, ap, subst}
+use mathlib.Core.Path.{sym, ◌∙◌, ap}
 use native.Mathlib.Omega.{arith}
-use Rattle.protocol.specs.Refusals.{call_refusal, or_else}
-use Rattle.journal.specs.Journal.{NextOf}
-use Rattle.driver.specs.{Listing.{at_end, at_refusal}, Pieces.{a_step, the_end}, declared.Last.TheVariants.Refused}
+use Rattle.std.specs.{Prelude.{Option, Some, Err}, Option.{option_or}}
+use Rattle.protocol.specs.{Refusals.{call_refusal}, Buffers.Bytes}
+use Rattle.refusals.specs.Input.{applies}
+use Rattle.grammar.specs.declared.Refusal.{Refusal}
+use Rattle.journal.{specs.Journal.NextOf, proofs.Lines.{item_found, end_found}}
+use Rattle.driver.specs.{Listing.{at_end, at_refusal}, Pieces.{DueAt, a_step, the_end}, declared.{Checkpoint.Checkpoint, Due.TheVariants.{Last as AtLast}}}
 use Rattle.driver.proofs.{Reading.known}
 use Rattle.driver.proofs.one_line.due.Goals as goal
 
 pub returns-in-Opening : goal.returns-in-Opening
 returns-in-Opening c =
-    absurd (c.requires (known (subst (NextOf _ _ _) c.in-Opening.is c.step_at.ensures)).0)
+    let o = c.in-Ok-Some in
+    absurd (c.requires (known (item_found o.ensures o.field-0-is c.in-Opening.is)).0)
 
-pub returns-in-Refused : goal.returns-in-Refused
-returns-in-Refused c =
-    let x = subst (NextOf _ _ _) c.in-Refused.is c.step_at.ensures in
-    the_end {w = Refused _} (at_refusal x) (omega (arith, known x))
+-- a refusal ends the journal there
+refused_there : {j : Bytes} {s : Checkpoint} {base : Option ℕ} {r : Refusal} → NextOf j s.at s.form (Err r) → DueAt j s base (AtLast (Some r))
+refused_there {r = r} x = the_end {w = Some r} (at_refusal x)
+
+pub returns-in-Err : goal.returns-in-Err
+returns-in-Err c = refused_there c.in-Err.ensures
 
 pub returns-in-Step : goal.returns-in-Step
 returns-in-Step c =
-    let x = subst (NextOf _ _ _) c.in-Step.is c.step_at.ensures in
+    let o = c.in-Ok-Some in
+    let x = item_found o.ensures o.field-0-is c.in-Step.is in
     let k = (known x).1 in
     let a = c.args in
     a_step
@@ -28,13 +35,15 @@ returns-in-Step c =
       order = k.order;
       ends = k.ends;
       right = k.right;
-      number = c.number_of-number.ensures ∙ ap (λ (n : ℕ). or_else a.base (call_refusal c.in-Step.call a.opening n)) (sym k.count);
+      number = c.or-refusal.ensures ∙ ap (option_or a.base) (c.call_refusal.ensures ∙ ap (λ (n : ℕ). applies (call_refusal c.in-Step.call a.here.now.state.opening n)) (sym k.count));
       forward = k.forward;
       inside = k.inside;
     })
 
-pub overflow_sub-end : goal.overflow_sub-end
-overflow_sub-end c = omega (arith, (known (subst (NextOf _ _ _) c.in-Step.is c.step_at.ensures)).1.order)
+pub overflow_sub-count : goal.overflow_sub-count
+overflow_sub-count c =
+    let o = c.in-Ok-Some in
+    omega (arith, (known (item_found o.ensures o.field-0-is c.in-Step.is)).1.order)
 
-pub returns-in-End : goal.returns-in-End
-returns-in-End c = the_end (at_end (subst (NextOf _ _ _) c.in-End.is c.step_at.ensures)) tt
+pub returns-in-Ok-None : goal.returns-in-Ok-None
+returns-in-Ok-None c = the_end (at_end (end_found c.in-Ok-None.ensures c.in-Ok-None.field-0-is))

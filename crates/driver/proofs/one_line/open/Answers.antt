@@ -2,12 +2,12 @@
 use Rattle.protocol.specs.Step.{meaning}
 use Rattle.driver.proofs.one_line.open.Goals as goal
 
-pub returns-in-End : goal.returns-in-End
+pub returns-in-Some : goal.returns-in-Some
 unfolding meaning
-returns-in-End c =
-    record { put = _; text = c.put_record.ensures; played = rw (c.first.ensures, c.in-End.is) }
+returns-in-Some c =
+    record { put = _; text = c.put_record.ensures; played = rw (c.first.ensures, c.in-Some.is) }
 
-pub returns-in-Short : goal.returns-in-Short
+pub returns-in-None : goal.returns-in-None
 unfolding meaning
-returns-in-Short c =
-    record { put = _; text = c.put_record.ensures; played = rw (c.unopened.ensures, c.in-Short.is) }
+returns-in-None c =
+    record { put = _; text = c.put_record.ensures; played = rw (c.unopened.ensures, c.in-None.is) }

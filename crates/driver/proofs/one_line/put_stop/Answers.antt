@@ -4,17 +4,15 @@ use Rattle.protocol.specs.Step.{meaning}
 use Rattle.driver.proofs.{Putting.{first_fits, second_fits, last_text}}
 use Rattle.driver.proofs.one_line.put_stop.Goals as goal
 
-pub returns-in-Short : goal.returns-in-Short
+pub returns-in_err-line : goal.returns-in_err-line
 unfolding meaning
-returns-in-Short c =
-    absurd (first_fits c.args.counts _ refl c.put_record.ensures c.in-Short.is)
+returns-in_err-line c = absurd (first_fits c.args.counts _ refl c.put_record.ensures c.in_err-line.was)
 
-pub returns-in-Short-put_end : goal.returns-in-Short-put_end
+pub returns-in_err-end : goal.returns-in_err-end
 unfolding meaning
-returns-in-Short-put_end c =
-    absurd (second_fits _ _ refl c.put_record.ensures c.in-End.is c.put_end.ensures c.in-Short-put_end.is)
+returns-in_err-end c = absurd (second_fits _ _ refl c.put_record.ensures c.in_ok-line.was c.put_end.ensures c.in_err-end.was)
 
-pub returns-in-End-put_end : goal.returns-in-End-put_end
+pub returns : goal.returns
 unfolding meaning
-returns-in-End-put_end c =
-    rw (← last_text _ _ refl c.put_record.ensures c.in-End.is c.put_end.ensures c.in-End-put_end.is) c.put_text.ensures
+returns c =
+    rw (← last_text _ _ refl c.put_record.ensures c.in_ok-line.was c.put_end.ensures c.in_ok-end.was c.args.refusal c.number-n.ensures) c.put_text.ensures

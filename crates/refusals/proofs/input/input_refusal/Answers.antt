@@ -1,19 +1,14 @@
 -- 13, then 1 and 2, then 3 to 6.
-use mathlib.Core.Path.{sym, ◌∙◌}
-use borrow.Author.{Tests.ne_eqb}
-use Rattle.protocol.proofs.Digits.{count_given}
+use Rattle.std.proofs.Common.{rules}
+use lib.ListN.{length}
+use Rattle.protocol.{specs.{Refusals.{given_refusal, machine_refusal, call_refusal}, Given.count_as}, proofs.Digits.count_given}
+use Rattle.refusals.{specs.Input.machine_with, proofs.Laws.{chained, or_assoc}}
 use Rattle.refusals.proofs.input.input_refusal.Goals as goal
-
-pub returns-then-wrong-ne0 : goal.returns-then-wrong-ne0
-returns-then-wrong-ne0 c =
-    rw (← c.about-about.ensures, ← c.given-read.ensures, ← c.given_refusal-wrong.ensures, ne_eqb _ 0 c.if-wrong-ne0.true)
-
-pub returns-then-n-ne0 : goal.returns-then-n-ne0
-returns-then-n-ne0 c =
-    rw (← c.about-about.ensures, ← c.given-read.ensures, ← c.given_refusal-wrong.ensures, c.if-wrong-ne0.false, ← c.machine_refusal-n.ensures, ne_eqb _ 0 c.if-n-ne0.true)
 
 pub returns : goal.returns
 returns c =
-    let n = count_given c.given-read.result c.args.given.now ∙ sym c.count.ensures in
-    rw (← c.about-about.ensures, ← c.given-read.ensures, ← c.given_refusal-wrong.ensures, c.if-wrong-ne0.false, ← c.machine_refusal-n.ensures, c.if-n-ne0.false, n)
-    c.call_refusal.ensures
+    let a = c.args in
+    let g = c.given-read.result in
+    let e = chained (given_refusal g a.given.now) (machine_refusal (machine_with a.state.now a.private a.shared)) _ _ c.given_refusal.ensures c.or_else.ensures (λ p. search rules) in
+    let h = chained _ (call_refusal a.call a.state.now.opening (count_as g (length a.given.now))) _ _ e c.or_else-2.ensures (λ p. search rules) in
+    rw (← c.about.ensures, ← c.given-read.ensures, count_given g, or_assoc) h

@@ -1,25 +1,24 @@
 -- The opening, the owners and the slots, one after the other.
-use Rattle.protocol.{specs.Refusals.state_fits, proofs.{Tests.{was_false, was_true}, Extents.inside}}
+use mathlib.Core.Path.{sym, ◌∙◌}
+use Rattle.std.proofs.{Common.arith, lemmas.Grind.common_steps}
+use Rattle.protocol.{specs.Refusals.state_fits, proofs.{Extents.inside, Tests.never}}
 use Rattle.refusals.proofs.input.state_fits.Goals as goal
+use Rattle.refusals.proofs.input.state_fits.Goals.{then-fits, else-fits}
 
-pub returns-then-not-owners_fit : goal.returns-then-not-owners_fit
-unfolding state_fits
-returns-then-not-owners_fit c =
-    rw (was_true c.fits.ensures c.if-not-fits.false-raw, was_false c.owners_fit.ensures c.if-not-owners_fit.true-raw)
+pub owners_fit-requires : goal.owners_fit-requires
+owners_fit-requires c = (inside _ (sym c.fits.ensures ∙ c.if-fits.true)).most_lines
 
 pub slots_fit-requires : goal.slots_fit-requires
 slots_fit-requires c =
-    (inside _ (was_true c.fits.ensures c.if-not-fits.false-raw)).most_cores
+    elim c.if-fits.branch [
+      | then-fits w ↦ (inside _ (sym c.fits.ensures ∙ w.if-fits.true)).most_cores
+      | else-fits w ↦ never (sym c.if-owners_fit.true ∙ w.value-is ∙ w.if-fits.false)
+    ]
 
-pub returns : goal.returns
+pub returns-then-owners_fit : goal.returns-then-owners_fit
 unfolding state_fits
-returns c =
-    rw (was_true c.fits.ensures c.if-not-fits.false-raw, was_true c.owners_fit.ensures c.if-not-owners_fit.false-raw)
-    c.slots_fit.ensures
+returns-then-owners_fit c = grind (arith, common_steps)
 
-pub returns-then-not-fits : goal.returns-then-not-fits
+pub returns-else-owners_fit : goal.returns-else-owners_fit
 unfolding state_fits
-returns-then-not-fits c = rw (was_false c.fits.ensures c.if-not-fits.true-raw)
-
-pub owners_fit-requires : goal.owners_fit-requires
-owners_fit-requires c = (inside _ (was_true c.fits.ensures c.if-not-fits.false-raw)).most_lines
+returns-else-owners_fit c = grind (arith, common_steps)

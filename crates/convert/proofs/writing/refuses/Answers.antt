@@ -1,5 +1,0 @@
--- `convert::writing::refuses` meets its contract. Assumes nothing.
-use Rattle.convert.proofs.writing.refuses.Goals as goal
-
-pub returns-in-Refused : goal.returns-in-Refused
-returns-in-Refused c = rw c.in-Refused.is

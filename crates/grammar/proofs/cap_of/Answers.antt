@@ -1,9 +1,0 @@
--- `grammar::cap_of` meets its contract. Assumes nothing.
-use borrow.Author.Tests.{ne_eqb}
-use Rattle.grammar.proofs.cap_of.Goals as goal
-
-pub returns-then-form-eq1 : goal.returns-then-form-eq1
-returns-then-form-eq1 c = rw c.if-form-eq1.true
-
-pub returns-else-form-eq1 : goal.returns-else-form-eq1
-returns-else-form-eq1 c = rw (ne_eqb _ 1 c.if-form-eq1.false)

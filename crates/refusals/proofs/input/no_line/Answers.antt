@@ -1,5 +1,0 @@
--- By which line the call is about.
-use Rattle.refusals.proofs.input.no_line.Goals as goal
-
-pub returns-in-Named : goal.returns-in-Named
-returns-in-Named c = rw c.in-Named.is
