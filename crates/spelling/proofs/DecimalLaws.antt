@@ -135,15 +135,19 @@ decimal_short n = short_up_to 19 n
 
 -- ---- a number that is read digit by digit
 
-not_digit : (s : List ℕ) (i n : ℕ) → n ≤ greatest → s ≡ decimal n → i < length s → Digit (get_or s i 0)
+-- what keeps bytes from being a number's spelling
+pub not_empty : (s : List ℕ) (n : ℕ) → n ≤ greatest → s ≡ decimal n → length s ≡ 0 → ⊥
+not_empty s n h e z = omega (arith, decimal_nonempty n (omega arith), ap length e)
+
+pub not_digit : (s : List ℕ) (i n : ℕ) → n ≤ greatest → s ≡ decimal n → i < length s → Digit (get_or s i 0)
 not_digit s i n h e hi = rw e (all_at Digit (decimal n) (decimal_digits n h) i (rw e at hi))
 
-not_lead : (s : List ℕ) (i n : ℕ) → n ≤ greatest → s ≡ decimal n → 1 ≤ i → i < length s → take i s ≡ decimal 0 → ⊥
+pub not_lead : (s : List ℕ) (i n : ℕ) → n ≤ greatest → s ≡ decimal n → 1 ≤ i → i < length s → take i s ≡ decimal 0 → ⊥
 not_lead s i n h e h1 hi t =
     let z : n ≡ 0 = (decimal_first n (omega arith)).1 (ap (λ (l : List ℕ). get_or l 0 0) (sym e) ∙ sym (get_or-take i s 0 0 h1) ∙ ap (λ (l : List ℕ). get_or l 0 0) (t ∙ decimal_digit 0 (lit< tt))) in
     omega (arith, ap length (e ∙ ap decimal z ∙ decimal_digit 0 (lit< tt)))
 
-not_over : (s : List ℕ) (i v n : ℕ) → s ≡ decimal n → i < length s → take i s ≡ decimal v → v * 10 + (get_or s i 0 - 48) ≤ n
+pub not_over : (s : List ℕ) (i v n : ℕ) → s ≡ decimal n → i < length s → take i s ≡ decimal v → v * 10 + (get_or s i 0 - 48) ≤ n
 unfolding value
 not_over s i v n e hi t =
     let whole-value : value 0 s ≡ n = ap (value 0) e ∙ value_decimal n in
@@ -156,7 +160,7 @@ abbrev pub Follows : ℕ → ℕ → Type 0
 Follows v b = (48 ≤ b) × (b ≤ 57) × (0 < v) × (v * 10 + (b - 48) ≤ greatest)
 
 pub no_empty : (s : List ℕ) → length s ≡ 0 → NumberOf s None
-no_empty s z (n, h, e) = omega (arith, decimal_nonempty n (omega arith), ap length e)
+no_empty s z (n, h, e) = not_empty s n h e z
 
 -- bytes of which the first is b
 module _ (s : List ℕ) (b : ℕ) (rest : List ℕ) (p : s ≡ b ∷ rest) where

@@ -5,7 +5,7 @@ use native.Mathlib.Omega.{arith}
 use lib.ListN.{length, get_or}
 use borrow.Author.Tests.{lt-ltb, le-ltb}
 use Rattle.spelling.specs.{Bytes.{All, Byte, Test}, Hex.{digit, nibble, hex, unhex, Spells, IsData, DataTest, HexDigit}}
-use Rattle.spelling.proofs.Lists.{le_or_lt, High}
+use Rattle.spelling.proofs.Lists.{le_or_lt, High, all_at}
 
 nibble_below : (b : ℕ) → nibble b < 16
 nibble_below b = omega arith
@@ -91,6 +91,9 @@ hex_length (b ∷ bs) = omega (arith, hex_length bs)
 
 pub spells_length : (v bs : List ℕ) → Spells v bs → (length v ≡ 2 * length bs)
 spells_length v bs s = ap length s.same ∙ hex_length bs
+
+pub spells_at : (v bs : List ℕ) (i : ℕ) → Spells v bs → i < length v → HexDigit (get_or v i 0)
+spells_at v bs i s h = rw s.same (all_at HexDigit (hex bs) (hex_digits bs s.bytes) i (rw s.same at h))
 
 nibble_digit : (d : ℕ) → d < 16 → nibble (digit d) ≡ d
 nibble_digit d h =

@@ -1,16 +1,19 @@
 -- Laws of bytes laid over a part of a buffer. Assumes nothing.
 use Prim.Native.Nat.{ℕ, suc, ◌+◌, ◌*◌, ◌/◌, ◌%◌, ◌≤◌, ◌<◌, ◌-◌}
-use mathlib.Core.{Path.{◌≡◌, sym, ◌∙◌, ap, ap₂, subst}, Bool.{true}, List.{List, [], ◌∷◌, ◌++◌, append_assoc}}
+use mathlib.Core.{Path.{◌≡◌, refl, sym, ◌∙◌, ap, ap₂, subst}, Bool.{Bool, true, false, cond, not}, List.{List, [], ◌∷◌, ◌++◌, append_assoc, append-nil}}
 use native.Mathlib.{Omega.arith, Nat.add-zero, Numerals.add-one}
 use lib.ListN.{length, get_or, take, drop, set, length-append, length-take, length-drop, take-append-drop, get_or-append}
 use Rattle.std.proofs.lemmas.List.{get_or-drop}
-use lib.{Seq.{set_split, take_at, drop_at, take-length, length-take-le, take-append-le, drop-append-le, drop-append_seam, paste, paste-suc, drop-drop}}
-use Rattle.spelling.specs.{Over.{over, twenty_before, PutAt, PutBefore}, Decimal.decimal}
+use lib.{Seq.{set_split, take_at, drop_at, take-length, length-take-le, take-append-le, drop-append-le, drop-append_seam, paste, paste-suc, drop-drop}, Dec.leb}
+use Rattle.spelling.specs.{Over.{has_room, over, twenty_before, PutAt, PutBefore}, Decimal.decimal}
 use Rattle.std.specs.Prelude.{Option, Some, None}
 use Rattle.spelling.specs.Hex.{hex, unhex, digit, nibble}
-use borrow.Author.Tests.{le-leb, lt-leb}
+use borrow.Author.Tests.{le-leb, lt-leb, leb-true, leb-false, not-true, not-false}
 use Rattle.spelling.proofs.DecimalLaws.{widest, decimal_step, decimal_digit, decimal_nonempty, decimal_short}
 use Rattle.spelling.proofs.HexLaws.{unhex_at, unhex_length, hex_at, hex_length}
+
+pub over_none : (old : List ℕ) (at : ℕ) → old ≡ over old at []
+over_none old at = sym (take-append-drop at old) ∙ ap (λ (k : ℕ). take at old ++ drop k old) (sym (add-zero at))
 
 -- ---- a text over a part of a buffer that has room for it
 module _ (old : List ℕ) (at : ℕ) (t : List ℕ) (h : at + length t ≤ length old) where
@@ -107,9 +110,30 @@ put_done old at t new r h e n = record { answer = e ∙ rw (le-leb (at + length 
 pub put_short : (old : List ℕ) (at : ℕ) (t : List ℕ) → length old < at + length t → PutAt old at t old None
 put_short old at t h = record { answer = rw (lt-leb (at + length t) (length old) h); bytes = rw (lt-leb (at + length t) (length old) h) }
 
+-- what the test for room shows
+pub room_yes : (size at n : ℕ) (r : Bool) → r ≡ has_room size at n → not r ≡ false → at + n ≤ size
+room_yes size at n r e f = leb-true (at + n) size (sym e ∙ not-false r f)
+
+pub room_no : (size at n : ℕ) (r : Bool) → r ≡ has_room size at n → not r ≡ true → size < at + n
+room_no size at n r e f = leb-false (at + n) size (sym e ∙ not-true r f)
+
 -- what the test for twenty bytes before an offset shows
 pub twenty_yes : (size end : ℕ) → 20 ≤ end → end ≤ size → twenty_before size end ≡ true
 twenty_yes size end t w = rw (le-leb 20 end t, le-leb end size w)
+
+pub twenty_few : (size end : ℕ) → end < 20 → twenty_before size end ≡ false
+twenty_few size end h = rw (lt-leb 20 end h)
+
+pub twenty_past : (size end : ℕ) → size < end → twenty_before size end ≡ false
+twenty_past size end h = rw (lt-leb end size h) (go (leb 20 end))
+  where
+    go : (b : Bool) → cond b false false ≡ false
+    go true = refl
+    go false = refl
+
+-- a number that was not put
+pub before_not : (old : List ℕ) (end : ℕ) (t : List ℕ) → twenty_before (length old) end ≡ false → PutBefore old end t old end
+before_not old end t e = record { answer = rw e; bytes = rw e }
 
 -- ---- the digits of a number, from the last to the first
 
@@ -130,6 +154,10 @@ pub record Digits (old : List ℕ) (end n : ℕ) (l : List ℕ) (k m : ℕ) : Ty
   pub ends : k + length digits ≡ end
   pub all : decimal n ≡ decimal m ++ digits
   pub laid : l ≡ over old k digits
+
+pub digits_start : (old : List ℕ) (end n : ℕ) → 20 ≤ end → end ≤ length old → n ≤ widest → Digits old end n old end n
+digits_start old end n t w h =
+    record { digits = []; twenty = t; within = w; small = h; ends = omega arith; all = sym (append-nil (decimal n)); laid = over_none old end }
 
 module _ (old : List ℕ) (end n : ℕ) (l : List ℕ) (k m : ℕ) (d : Digits old end n l k m) where
   -- there is room for one digit more
