@@ -75,14 +75,29 @@ module _ {o : Opening} {c l : ℕ} (a : There o c l) where
   pub indices : (c < 16) × (l < 64)
   indices = omega arith
 
+  pub row_most : c * o.lines ≤ 1024
+  row_most = let x = a.core in let y = a.cores in mul-le-mul {n₂ = 16} {m₂ = 64} (omega arith) a.lines
+
+  pub copy_most : copy_start o c l ≤ 131072
+  copy_most = let x = row_most in let y = a.line in let u = a.lines in mul-le-mul {n₂ = 2048} {m₂ = 64} (omega arith) a.width
+
   pub copy_ends : copy_start o c l + o.width ≤ private_length o
   copy_ends = let e = row_le o.lines c o.cores a.core in let h = a.line in row_le o.width _ _ (omega arith)
+
+  pub manager_most : manager_start o l ≤ 4096
+  manager_most = let x = a.line in let y = a.lines in mul-le-mul {n₂ = 64} {m₂ = 64} (omega arith) a.width
 
   pub manager_ends : manager_start o l + o.width ≤ shared_length o
   manager_ends = let x = a.line in row_le o.width l _ (omega arith)
 
+  pub writeback_most : writeback_start o l ≤ 8192
+  writeback_most = let x = a.line in let y = a.lines in mul-le-mul {n₂ = 128} {m₂ = 64} (omega arith) a.width
+
   pub writeback_ends : writeback_start o l + o.width ≤ shared_length o
   writeback_ends = let x = a.line in row_le o.width _ _ (omega arith)
+
+  pub answer_most : answer_start o c ≤ 9216
+  answer_most = let x = a.core in let y = a.cores in let u = a.lines in mul-le-mul {n₂ = 144} {m₂ = 64} (omega arith) a.width
 
   pub answer_ends : answer_start o c + o.width ≤ shared_length o
   answer_ends = let x = a.core in row_le o.width _ _ (omega arith)

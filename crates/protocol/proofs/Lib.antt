@@ -1,5 +1,6 @@
 -- Laws that more than one proof cites, and the order theorem.
 pub mod Tests
+pub mod Stamps
 pub mod Scan
 pub mod Bytes
 pub mod Extents

@@ -6,12 +6,12 @@ use lib.{Dec.eqb, ListN.length}
 use borrow.Author.Tests.{ltb-true, leb-false, eqb-true, eq-eqb}
 use Rattle.protocol.specs.{Pick.{pick, fails, Rule, first, ◌gives◌}, Limits.opening_fits, Fresh.{fresh_core, fresh_line}}
 use Rattle.protocol.specs.{Buffers.{Bytes, private_length, shared_length, There}, About.{about, named_line}, Given.{given_as, bytes_given}}
-use Rattle.protocol.specs.Machine.{Machine, core_at, copy_at, line_at, slot_line, the_core, the_line, core_of, line_of, pieces_at}
+use Rattle.protocol.specs.{Machine.{Machine, core_at, copy_at, line_at, slot_line, the_core, the_line, core_of, line_of, pieces_at}, Tables.refused_row}
 use Rattle.protocol.specs.Refusals.{open_refusal, owner_fits, slot_fits, owners_fit, slots_fit, state_fits, buffers_fit, machine_refusal, no_core, no_line}
 use Rattle.protocol.specs.Refusals.{given_refusal, wrong_count, by_nothing, call_rules, call_refusal, state_refusal, or_else, refusal}
 use Rattle.protocol.specs.declared.{Slot.{Slot, TheVariants.{Empty, Asked, Answered}}, Core.Core, Manager.{Manager, TheVariants.{Shared, Owned}}}
 use Rattle.protocol.specs.declared.{ManagerLine.ManagerLine, Opening.Opening, Call.Call, Who.{Who, TheVariants.{Named as NamedCore, Owner, Nobody}}}
-use Rattle.protocol.specs.declared.{Which.{Which, TheVariants.{Named as NamedLine, Asked as OfAsked, Answered as OfAnswered, Nothing, Victim as OfVictim}}, About.About}
+use Rattle.protocol.specs.declared.{Which.{Which, TheVariants.{Named as NamedLine, Asked as OfAsked, Answered as OfAnswered, Nothing, Victim as OfVictim}}, About.About, Pieces.Pieces, Effect.Effect}
 use Rattle.protocol.specs.declared.{Act.TheVariants.Store as Stores, Given.Given}
 use Rattle.protocol.proofs.{Tests.{never, both_true}, Scan.every_at, Extents.{Inside, inside, there_at}, Copies.victim_inside}
 
@@ -26,6 +26,13 @@ pub passed : (a : Bool) (n : ℕ) (rs : List Rule) → 0 < n → first ((a gives
 unfolding first
 passed true n rs h e = absurd (omega arith)
 passed false n rs h e = (refl, e)
+
+-- the only rule left of a call, as a row decides it: its number with the pieces as they are, or the table's row
+pub ruled :
+    (a : Bool) (n : ℕ) (d : Effect) (p : Pieces) → eqb n 0 ≡ false
+    → pick a (refused_row n p) d ≡ pick (eqb (pick a n 0) 0) d (refused_row (pick a n 0) p)
+ruled true n d p e = rw e
+ruled false n d p e = refl
 
 pub or_none : (a b : ℕ) → or_else a b ≡ 0 → (a ≡ 0) × (b ≡ 0)
 or_none a b e = go (eqb a 0) refl e

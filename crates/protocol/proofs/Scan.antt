@@ -1,11 +1,12 @@
--- A test of each element of a list: in the library's words, at each index of the first n, and after one is replaced; and how many pass it.
+-- A test of each element of a list: in the library's words, met element by element and at each index of the first n, and after one is replaced; and how
+-- many pass it.
 use Prim.Native.Nat.{ℕ, zero, suc, ◌+◌, ◌≤◌, ◌<◌}
-use mathlib.Core.{Path.{◌≡◌, refl, sym}, Bool.{Bool, true, false}, List.{List, [], ◌∷◌}}
-use native.Mathlib.{Omega.arith}
-use lib.{ListN.{length, take, get_or, set, replicate}, Seq.{get_or-take}}
+use mathlib.Core.{Path.{◌≡◌, refl, sym, ◌∙◌}, Bool.{Bool, true, false, not}, List.{List, [], ◌∷◌}}
+use native.Mathlib.{Numerals.add-one, Omega.arith}
+use lib.{ListN.{length, take, drop, get_or, set, drop_of_length-le, replicate}, Seq.{drop-cons, get_or-take, length-take-le}}
 use Rattle.std.specs.{Prelude.◌&&◌, List.list_all}
-use Rattle.protocol.specs.Pick.{pick, every, how_many}
-use Rattle.protocol.proofs.Tests.{both_true}
+use Rattle.protocol.specs.Pick.{pick, both, every, how_many}
+use Rattle.protocol.proofs.Tests.{both_true, was_false, was_true}
 
 -- the library's test of every element is that of the definitions
 pub all_every : {A : Type 0} (f : A → Bool) (xs : List A) → list_all f xs ≡ every f xs
@@ -16,6 +17,36 @@ all_every f (x ∷ xs) = go (f x) (all_every f xs)
     go : (b : Bool) → list_all f xs ≡ every f xs → (b && list_all f xs) ≡ pick b (every f xs) false
     go true e = e
     go false e = refl
+
+-- what a loop knows that asks a test of each element in turn and has passed i of them
+abbrev pub Scanned : {A : Type 0} → (A → Bool) → List A → ℕ → ℕ → Type 0
+Scanned f xs n i = every f (take n xs) ≡ every f (drop i (take n xs))
+
+module _ {A : Type 0} (f : A → Bool) (xs : List A) (n : ℕ) (d : A) (fits : n ≤ length xs) where
+  -- one element more is met
+  pub every_step : (i : ℕ) → i < n → every f (drop i (take n xs)) ≡ both (f (get_or xs i d)) (every f (drop (i + 1) (take n xs)))
+  unfolding every
+  every_step i h =
+      let k : i < length (take n xs) = rw length-take-le h in
+      rw (add-one, drop-cons (take n xs) i d k, get_or-take n xs i d h)
+
+  -- all are met
+  pub every_done : (i : ℕ) → n ≤ i → every f (drop i (take n xs)) ≡ true
+  unfolding every
+  every_done i h =
+      let k : length (take n xs) ≤ i = rw length-take-le h in
+      rw drop_of_length-le
+
+  -- the loop's answer `asked` at the i-th element: it goes on where the element passes, and ends where it fails, or past the last
+  module _ (i : ℕ) (h : i < n) (k : Scanned f xs n i) (asked : Bool) (e : asked ≡ f (get_or xs i d)) where
+    pub scan_on : not asked ≡ false → Scanned f xs n (i + 1)
+    scan_on g = k ∙ every_step i h ∙ rw (was_true e g)
+
+    pub scan_fails : not asked ≡ true → false ≡ every f (take n xs)
+    scan_fails g = sym (k ∙ every_step i h ∙ rw (was_false e g))
+
+  pub scan_ends : (i : ℕ) → n ≤ i → Scanned f xs n i → true ≡ every f (take n xs)
+  scan_ends i h k = sym (k ∙ every_done i h)
 
 -- a test that holds of each element, and of the value past the end, holds at each index
 module _ {A : Type 0} (f : A → Bool) (d : A) (past_end : f d ≡ true) where

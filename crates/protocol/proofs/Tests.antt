@@ -25,6 +25,10 @@ was_false {t} p e = sym p ∙ not-true t e
 pub was_true : {t b : Bool} → t ≡ b → not t ≡ false → b ≡ true
 was_true {t} p e = sym p ∙ not-false t e
 
+-- where the first of two tests was found true, the second decides
+pub both_goes : {t a b x : Bool} → t ≡ a → not t ≡ false → x ≡ b → x ≡ both a b
+both_goes p e h = rw (was_true p e) h
+
 -- a negated answer is a test that fails
 pub not_fails : (b : Bool) → not b ≡ fails b
 not_fails true = refl
