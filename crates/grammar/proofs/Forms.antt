@@ -1,5 +1,5 @@
 -- What is known of the rows of each form of journal: which part of the table they are, their shape, what their lines say, and that a step has
--- data exactly if its call is given digits. A new form is a line in `ranged`, `opening_at`, `digit_at`, `rows_say` and `rows_fed`. Assumes nothing.
+-- data exactly if its call is given digits. A new form is a line in `ranged`, `no_row_lem`, `opening_at`, `digit_at`, `rows_say` and `rows_fed`. Assumes nothing.
 use Prim.Native.Nat.{ℕ, zero, suc, ◌+◌, ◌-◌, ◌≤◌, ◌<◌}
 use mathlib.Core.{Path.{◌≡◌, refl, sym, ◌∙◌, ap, subst}, Bool.{Bool, true, false}, List.{List, [], ◌∷◌}}
 use native.Mathlib.Omega.{arith}
@@ -44,6 +44,13 @@ module _ (form k : ℕ) (h : k < length (rows_of form)) where
 -- a line that has the form of one of them has it as a row of the table
 pub in_table : (form : ℕ) {s : List ℕ} {k : ℕ} {vs : List (List ℕ)} → Matches (rows_of form) s k vs → Has s (form_of ((range_of form).start + k)) vs
 in_table form {s} {k} {vs} f = subst (λ (r : Row). Has s r.form vs) (row_in form k f.listed) f.has
+
+-- no form is known beyond the last
+pub no_row_lem : (form : ℕ) (s : List ℕ) → 3 ≤ form → (k : ℕ) (vs : List (List ℕ)) → Matches (rows_of form) s k vs → ⊥
+no_row_lem zero s h k vs f = absurd (omega arith)
+no_row_lem (suc zero) s h k vs f = absurd (omega arith)
+no_row_lem (suc (suc zero)) s h k vs f = absurd (omega arith)
+no_row_lem (suc (suc (suc form))) s h k vs f = omega (arith, f.listed)
 
 -- ---- the first lines
 

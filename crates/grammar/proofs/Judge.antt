@@ -3,11 +3,11 @@ use Prim.Native.Nat.{ℕ, zero, suc, ◌+◌, ◌≤◌, ◌<◌, ◌-◌}
 use mathlib.Core.{Path.{◌≡◌, refl, ◌∙◌, ap, subst}, List.{List, [], ◌∷◌, ◌++◌}}
 use native.Mathlib.Omega.{arith}
 use lib.{ListN.{length, get_or, drop, replicate, length-replicate}, Seq.{sets, sets-eq, get_or-drop}}
-use Rattle.std.specs.{Prelude.{Some, None, Err}, declared.ops.Range.Range}
+use Rattle.std.specs.{Prelude.{Option, Some, None, Result, Err}, declared.ops.Range.Range}
 use Rattle.spelling.specs.Hex.{hex}
 use Rattle.grammar.specs.{Form.{Part, fixed, value, number, pairs, Has, Given}, Table.{rows_of, row_at, table, row_count, number_count, range_of}}
 use Rattle.grammar.specs.Line.{said, Matches, LineOf, no_form, wrong_number, wrong_data, spelt}
-use Rattle.grammar.specs.{Scan.{RowAt, Reads, form_of, values_in, nothing_read, FoundIn, answer_of}, declared.{Refusal.TheVariants.NoForm, Found.Found}}
+use Rattle.grammar.specs.{Scan.{RowAt, Reads, form_of, values_in, nothing_read, FoundIn, answer_of}, declared.{Line.Line, Refusal.{Refusal, TheVariants.NoForm}, Found.Found}}
 use Rattle.grammar.proofs.{Outcome.{Outcome, bad_number, bad_data, fine, outcome_of, fails_of}, Rows.{line_tag, Entry, entry_at, same_tag}}
 use Rattle.grammar.proofs.Forms.{ranged, row_listed, row_in, in_table}
 
@@ -96,6 +96,19 @@ module _ (form : ℕ) (s : List ℕ) (short : length s ≤ 200) where
 
     pub found_answer : LineOf (rows_of form) s (answer_of f (length s))
     found_answer = by (outcome_of s (form_of f.row) (Some f.values) known.shape x.2)
+
+  -- the answer of what was found
+  abbrev answered : Option Found → Result Line Refusal
+  answered None = Err NoForm
+  answered (Some f) = answer_of f (length s)
+
+  pub answer_line_lem : (r : Option Found) → FoundIn s rows r → LineOf (rows_of form) s (answered r)
+  answer_line_lem None n = none_answer n
+  answer_line_lem (Some f) x = found_answer f x
+
+-- a row that was found is one of the table's
+pub row_found : (s : List ℕ) (rows : Range ℕ) (f : Found) → rows.end ≤ row_count → FoundIn s rows (Some f) → f.row < row_count
+row_found s rows f h x = omega (arith, x.1)
 
 -- ---- which row was found
 

@@ -70,7 +70,7 @@ data_up t _ l (inl z) e (some_data (bs, x)) ended =
     fine [] bs z z (refl, x.some, x.bytes) s refl (omega (arith, simp length-append at (ap length s)))
 data_up t _ l (inl z) e (no_data x) ended = bad_data (first_value t ∷ []) z (rw z) (value_here pairs t [] [] (ends_here _ e)) (tt, tt) (λ y. x y.0)
 
-outcome : {n i : ℕ} {p : List Part} {t : List ℕ} {v : Values} {r : Option Values} → Scans n p t i v r → Shaped p → length t ≤ n → NumberAtMost v → v.start ≡ n → Outcome n t p i v r
+pub outcome : {n i : ℕ} {p : List Part} {t : List ℕ} {v : Values} {r : Option Values} → Scans n p t i v r → Shaped p → length t ≤ n → NumberAtMost v → v.start ≡ n → Outcome n t p i v r
 unfolding Each Given spellings lay hex
 outcome ended h l (inl z) g = fine [] [] z z (refl, refl) refl refl (omega arith)
 outcome ended h l (inr z) g = bad_number [] z (ends_here [] refl) (λ x. z)

@@ -133,3 +133,16 @@ same_tag k s vs h f =
 -- TWO ROWS NEVER HAVE THE SAME LINE: the only row with a tag is the one whose letter the code's table has there
 pub row_by_tag : (tag : ℕ) → RowAt tag (get_or letters tag 0 - 97)
 row_by_tag tag k h e = omega (arith, rw e at (entry_at k h).found)
+
+-- ---- a match on a number
+
+-- a number that is none of the first k
+unfoldable pub Others : ℕ → ℕ → Type 0
+Others n zero = Unit
+Others n (suc k) = Others n k × (n ≡ k → ⊥)
+
+-- it is past them
+pub past : (n k : ℕ) → Others n k → k ≤ n
+unfolding Others
+past n zero o = omega arith
+past n (suc k) o = let p = past n k o.0 in let x = o.1 in omega arith

@@ -1,12 +1,13 @@
 -- How long the texts are at most, so that a caller can lend a buffer in which they fit. Assumes nothing.
 use Prim.Native.Nat.{ℕ, ◌+◌, ◌*◌, ◌≤◌}
-use mathlib.Core.List.{List}
+use mathlib.Core.List.{List, ◌++◌}
 use native.Mathlib.Omega.{arith}
 use lib.ListN.{length, length-append}
 use Rattle.protocol.specs.declared.{Place.Place, Name.{Name, TheVariants.{Open, Ask, Recall, Share, Renew, Own, Drop, Evict, Writeback, Advance, Yield, Take, Victim}}}
 use Rattle.protocol.specs.declared.{Counts.Counts, Answer.{Answer, TheVariants.{Refused, Done, Commit}}, Kind.TheVariants.{Load, Store, Fence}}
 use Rattle.protocol.specs.Step.{meaning}
 use Rattle.spelling.proofs.{DecimalLaws.decimal_short, HexLaws.hex_length}
+use Rattle.spelling.specs.Text.{text}
 use Rattle.listing.specs.{Record.{name_text, record_as, record_text, end_text, tally_text}}
 
 name_length : (d : Name) → length (name_text d) ≤ 32
@@ -23,6 +24,10 @@ name_length Advance = omega arith
 name_length Yield = omega arith
 name_length Take = omega arith
 name_length (Victim l) = omega (arith, decimal_short l)
+
+-- what is behind the place in a record that names what was done
+pub done_length : (d : Name) → length (text " done=" ++ name_text d ++ text "\n") ≤ 39
+done_length d = simp length-append (omega (arith, name_length d))
 
 -- a record has at most 118 bytes beside its data
 pub record_length : (p : Place) (a : Answer) (bytes : List ℕ) → length (record_text p (meaning a bytes)) ≤ 118 + 2 * length bytes
