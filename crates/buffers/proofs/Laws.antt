@@ -1,14 +1,18 @@
--- Laws for the proofs here and for callers: a text as long as the part that it is put into, cores and lines that are there.
-use Prim.Native.Nat.{ℕ, ◌+◌, ◌≤◌}
+-- Laws for the proofs here and for callers: a part by its end, a text as long as the part that it is put into, cores and lines that are there.
+use Prim.Native.Nat.{ℕ, ◌+◌, ◌-◌, ◌≤◌}
 use mathlib.Core.{Path.{◌≡◌, ◌∙◌}, Bool.true, List.{[], append-nil}}
-use native.Mathlib.{Omega.arith}
-use lib.{Dec.ltb, ListN.{length, drop, drop_of_length-le}}
+use native.Mathlib.{Omega.arith, Nat.add-sub_cancel_left}
+use lib.{Dec.ltb, ListN.{length, take, drop, drop_of_length-le}}
 use borrow.Author.Tests.{lt-ltb, ltb-true, le-leb}
 use Rattle.spelling.specs.Over.{PutAt}
-use Rattle.protocol.{specs.{Pick.pick, Limits.opening_fits, Buffers.{Bytes, There}, declared.Opening.Opening}, proofs.Tests.both_true}
+use Rattle.protocol.{specs.{Pick.pick, Limits.opening_fits, Buffers.{Bytes, part, There}, declared.Opening.Opening}, proofs.Tests.both_true}
 use Rattle.protocol.proofs.Extents.{inside, there_at}
 use Rattle.buffers.specs.Moves.{is_there}
 use Rattle.std.specs.Prelude.{Option}
+
+-- a part from a start to an end is the one from the start with the difference as its count
+pub part_to : (xs : Bytes) (a n : ℕ) → take (a + n - a) (drop a xs) ≡ part xs a n
+part_to xs a n = rw add-sub_cancel_left
 
 -- a text as long as what it is put into is what is there then
 pub put_whole : {old t new : Bytes} {r : Option ℕ} → PutAt old 0 t new r → length t ≡ length old → new ≡ t

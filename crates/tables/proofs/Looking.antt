@@ -1,9 +1,9 @@
 -- Going through a core's copies finds how many it holds, and its victim. And a call that does not look them over does not depend on how many there
 -- are.
 use Prim.Native.Nat.{ℕ, zero, suc, ◌+◌, ◌≤◌, ◌<◌}
-use mathlib.Core.{Path.{◌≡◌, refl, sym, ◌∙◌, ap}, Bool.{Bool, true, false}, Logic.{◌⊎◌, inl, inr}}
+use mathlib.Core.{Path.{◌≡◌, refl, sym, ◌∙◌, ap}, Bool.{Bool, true, false}, Logic.{◌⊎◌, inl, inr}, List.{[], ◌∷◌}}
 use native.Mathlib.{Numerals.add-one, Omega.arith}
-use lib.Dec.{leb}
+use lib.Dec.{ltb, leb, eqb}
 use Rattle.std.specs.Prelude.{Option, Some, None}
 use borrow.Author.Tests.{ltb-false, le-leb, lt-leb, lt-ltb}
 use Rattle.protocol.specs.{Pick.{pick, both, fails}, About.about, Copies.{is_held, Copies, held_below, rank, rank_of, below, replaces, victim_below}}
@@ -111,10 +111,23 @@ unfolding look_to held_below victim_below
 seen f zero h = record { copies = refl; line = refl; copy = inl (refl, refl) }
 seen f (suc n) h = next f n (omega (arith, h)) (look_to f n) (seen f n (omega (arith, h)))
 
--- what a loop knows that goes through the copies f and has passed j lines, with one line more
+-- what a loop knows that goes through the copies f and has passed j lines: with one line more, and where it ends
 pub look_next : (f : Copies) (j : ℕ) (k r : Look) → k ≡ look_to f j → r ≡ with_copy k j (f j) → r ≡ look_to f (j + 1)
 unfolding look_to
 look_next f j k r e h = h ∙ rw (e, add-one)
+
+pub look_ends : (f : Copies) (j top : ℕ) (k : Look) → j ≤ top → top ≤ j → k ≡ look_to f j → k ≡ look_to f top
+look_ends f j top k h i e = let q : j ≡ top = omega (arith, h, i) in rw q at e
+
+-- ranks that differ in the last place alone
+pub last_below : (a b : ℕ) → below (a ∷ []) (b ∷ []) ≡ ltb a b
+unfolding below
+last_below a b = go (ltb a b) (eqb a b)
+  where
+    go : (s t : Bool) → pick s true (both t false) ≡ s
+    go true t = refl
+    go false true = refl
+    go false false = refl
 
 -- ---- of a call
 
