@@ -34,6 +34,10 @@ module _ {x : Text} {t : Bytes} (h : Holds x t) where
       go true i = let q : Some (length t) ≡ None = sym (holds_end (leb-true _ _ i)) ∙ f in let z : ◌≡◌ {A = ℕ} 0 1 = cc in absurd (omega arith)
       go false i = leb-false _ _ i
 
+-- nothing is written yet
+pub holds_none : {x : Text} → x.end ≡ Some 0 → Holds x []
+holds_none e = record { end = e; text = λ i. refl }
+
 -- a text that fits, or that does not
 fits : {x : Text} {t : Bytes} {e : ℕ} → x.end ≡ Some e → e ≡ length t → length t ≤ most_bytes → take e x.bytes ≡ t → Holds x t
 fits {x} {t} f e i h =
@@ -85,6 +89,11 @@ digits_alone {old} n {new} {r} size p =
 
 -- ---- behind a text
 
+-- a first text
+pub holds_first : {x y : Text} {t : Bytes} → x.end ≡ Some 0 → Appends x t y → Holds y t
+holds_first e a = a [] (holds_none e)
+
+-- one more
 pub holds_more : {x y : Text} {t u : Bytes} → Holds x t → Appends x u y → Holds y (t ++ u)
 holds_more {t = t} h a = a t h
 

@@ -2,7 +2,7 @@
 use Prim.Native.Nat.{ℕ, ◌+◌, ◌≤◌, ◌<◌}
 use mathlib.Core.{Path.{◌≡◌, refl, sym, ◌∙◌, ap, subst}, Bool.{Bool, true, false, cond}, List.List}
 use native.Mathlib.{Omega.arith, Nat.zero-add}
-use lib.{Dec.ltb, ListN.{length, take}}
+use lib.{Dec.ltb, ListN.{length, take, length-take}}
 use borrow.Author.Tests.{ltb-false, leb-true, leb-false, lt-ltb, le-ltb}
 use Rattle.protocol.specs.{Pick.{pick, fails}, Limits.opening_fits, Buffers.Bytes, Run.Entry, declared.Opening.Opening as Sizes}
 use Rattle.std.specs.{Prelude.{Option, Some, None, Result, Ok, Err}, Option.ok_or}
@@ -97,9 +97,13 @@ length_written {to} {buffer = buffer} {n = n} (reads {o = o} {gs = gs} r t) e =
     record { o = o; gs = gs; reads = r; none = x.0; size = x.1; text = subst (λ (k : ℕ). take k buffer ≡ result_of to o gs) x.1 (t x.0) }
 
 module _ {to : To} {j buffer : Bytes} {n : ℕ} (x : Written to j buffer n) where
-  -- it is no longer than the buffer
-  pub result_within : n ≤ most_bytes
-  result_within = omega (arith, within to x.o x.gs x.none, x.size)
+  -- it lies in the buffer
+  pub result_within : n ≤ length buffer
+  result_within = omega (arith, sym (length-take n buffer) ∙ ap length x.text, x.size)
+
+  -- and is no longer than the longest journal
+  pub result_most : n ≤ most_bytes
+  result_most = omega (arith, within to x.o x.gs x.none, x.size)
 
   module _ {old new : Bytes} {r : Option ℕ} (p : PutAt old 0 (take n buffer) new r) where
     abbrev result : Bytes

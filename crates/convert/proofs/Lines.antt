@@ -209,6 +209,10 @@ pub step_at :
     → StepAt j at form call start end next
 step_at form h x = next_spelt x h
 
+-- the first line of `fabric=1`
+pub opening_cap : {j : Bytes} {o : Sizes} {next : ℕ} → NextOf j 0 0 (Ok (Some (Opening 1 o next))) → o.cap ≡ o.lines
+opening_cap x = next_spelt x refl
+
 -- a line with its newline is a part of the journal; that the part lies inside it is `line_inside`
 pub line_part : {j : Bytes} {at : ℕ} {s : Bytes} {next : ℕ} → LineAt j at s next → take (next - at) (drop at j) ≡ s ++ (10 ∷ [])
 line_part {j} {at} {s} {next} h =

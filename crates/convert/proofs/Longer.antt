@@ -3,7 +3,7 @@ use Prim.Native.Nat.{ℕ, zero, suc, ◌+◌}
 use mathlib.Core.{Path.{◌≡◌, refl, sym, ◌∙◌, ap}, Bool.{Bool, true, false}, List.{List, [], ◌∷◌, ◌++◌, append_assoc}}
 use native.Mathlib.Omega.{arith}
 use lib.{Dec.eqb, ListN.{length, take, replicate, length-replicate}}
-use borrow.Author.Tests.{eq-eqb}
+use borrow.Author.Tests.{eq-eqb, eqb-true}
 use Rattle.protocol.specs.{Pick.{pick, fails, every, first}, Limits.opening_fits, Fresh.{fresh_core, fresh_line}, Buffers.{Bytes, private_length, shared_length}, Machine.{Machine, fresh_machine}}
 use Rattle.protocol.specs.{Refusals.{machine_refusal, state_fits, owner_fits, slot_fits, owners_fit, slots_fit, buffers_fit}, Step.{step}, Run.{Entry, Record, place, run}}
 use Rattle.protocol.{specs.declared.{Core.Core, ManagerLine.ManagerLine, Opening.Opening as Sizes, Call.Call}, proofs.{Tests.never, Refusals.{not-true}}}
@@ -92,6 +92,15 @@ so_far_passed to o gs e =
 pub so_far : (to : To) (o : Sizes) (gs : List Entry) (b : Bool) → opening_fits o ≡ true → unlike to o gs ≡ b → refusal_so_far to o gs ≡ pick b (Some Unlike) None
 unfolding refusal_so_far
 so_far to o gs b e h = rw (e, h) refl
+
+-- where 32 does not apply, cap is lines
+pub like_cap : (o : Sizes) (gs : List Entry) → unlike First o gs ≡ false → o.cap ≡ o.lines
+unfolding unlike
+like_cap o gs h = go (eqb o.cap o.lines) refl (some is_unlike (records o gs)) h
+  where
+    go : (b : Bool) → eqb o.cap o.lines ≡ b → (c : Bool) → pick (fails b) true c ≡ false → o.cap ≡ o.lines
+    go true q c i = eqb-true _ _ q
+    go false q c i = never i
 
 -- of no step
 pub so_far_none : (to : To) (o : Sizes) → opening_refusal to o ≡ refusal_so_far to o []

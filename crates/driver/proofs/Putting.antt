@@ -84,6 +84,9 @@ module _ {old : Bytes} (k : Counts) (n : ℕ) (size : length old ≡ 256) where
     pub second_fits : {new : Bytes} {q : Option ℕ} → PutAt mid e (end_text k) new q → q ≡ None → ⊥
     second_fits v x = let s = put_short v x in omega (arith, s.0, refused_length (place k.steps) n, end_length k, one.end, one.size)
 
+    pub last_within : {new : Bytes} {q : Option ℕ} {f : ℕ} → PutAt mid e (end_text k) new q → q ≡ Some f → f ≤ length new
+    last_within v x = let s = put_written v x in omega (arith, s.room, s.end, s.size)
+
     -- the text up to the offset after both
     pub last_text : {new : Bytes} {q : Option ℕ} {f : ℕ} → PutAt mid e (end_text k) new q → q ≡ Some f → (s : Refusal) → n ≡ number s → take f new ≡ stop_lines k s
     last_text v x s same =

@@ -10,6 +10,7 @@ use Rattle.spelling.{specs.{Decimal.decimal, Hex.{hex, Spells}}, proofs.HexLaws.
 use Rattle.grammar.specs.Form.{Part, fixed, value, number, pairs, lay, Given as Spelled, spellings, spell}
 use Rattle.grammar.specs.Table.{Numbered, Says, opens as says_opening, calls, rows_of, row_at}
 use Rattle.grammar.specs.Line.{said, Spelt, LineOf, too_long, no_form, wrong_number, wrong_data, spelt}
+use Rattle.grammar.specs.Refusal.{number as number_of}
 use Rattle.grammar.{specs.declared.{Line.{Line, TheVariants.{Opening as OpeningLine, Step as StepLine}}, Refusal.Refusal}, proofs.Fit.Shaped}
 use Rattle.grammar.proofs.Forms.{SaysIn, row_says, row_shape, has_data, in_digits, Fed, row_fed}
 use Rattle.std.specs.Prelude.{Some, None, Result, Ok, Err}
@@ -67,7 +68,7 @@ LineKnown form s (StepLine call start end) = (form ≡ 0 → ⊥) × (start ≤ 
 -- the same of a line's answer
 abbrev AnswerKnown : ℕ → Bytes → Result Line Refusal → Type 0
 AnswerKnown form s (Ok a) = LineKnown form s a
-AnswerKnown form s (Err r) = Unit {0}
+AnswerKnown form s (Err r) = number_of r ≤ 14
 
 says_known : (form : ℕ) (p : List Part) (s : Bytes) (w : Says) (bs : Bytes) → SaysIn form w → Fed p w → Ends p s bs
     → LineKnown form s (said w (length s - length (hex bs)) (length s))
@@ -83,10 +84,10 @@ spelt_known form s a x =
     (subst (λ (t : Bytes). Ends r.form t x.bytes) (sym x.same) (ends_in r.form (row_shape form x.k x.listed) x.numbers x.bytes x.given)))
 
 line_known : (form : ℕ) (s : Bytes) {a : Result Line Refusal} → LineOf (rows_of form) s a → AnswerKnown form s a
-line_known form s (too_long l) = tt
-line_known form s (no_form l n) = tt
-line_known form s (wrong_number k vs l f n) = tt
-line_known form s (wrong_data k vs l f n d) = tt
+line_known form s (too_long l) = omega arith
+line_known form s (no_form l n) = omega arith
+line_known form s (wrong_number k vs l f n) = omega arith
+line_known form s (wrong_data k vs l f n d) = omega arith
 line_known form s (spelt {a = a} l x) = spelt_known form s a x
 
 -- ---- an offset of a journal
@@ -105,7 +106,7 @@ abbrev pub Known : Bytes → ℕ → ℕ → Next → Type 0
 Known j at form (Ok (Some (Opening f o next))) = (form ≡ 0) × (f ≡ 0 → ⊥)
 Known j at form (Ok (Some (Step call start end next))) = (form ≡ 0 → ⊥) × StepAt j at call start end next
 Known j at form (Ok None) = form ≡ 0 → ⊥
-Known j at form (Err r) = Unit {0}
+Known j at form (Err r) = number_of r ≤ 14
 
 -- the data of a line that is at an offset are those of the journal there
 pub line_data :
@@ -140,8 +141,8 @@ placed_known j at form l next (Ok (StepLine call start end)) h k =
 placed_known j at form l next (Err r) h k = k
 
 pub known : {j : Bytes} {at form : ℕ} {b : Next} → NextOf j at form b → Known j at form b
-known (too_much l) = tt
-known (empty l h e) = tt
+known (too_much l) = omega arith
+known (empty l h e) = omega arith
 known (ended l h n) = n
-known (unended l h w) = tt
+known (unended l h w) = omega arith
 known {j} {at} {form} (whole_line {a = a} l next s h o) = placed_known j at form l next a h (line_known form l o)

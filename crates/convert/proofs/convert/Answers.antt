@@ -4,7 +4,7 @@ use mathlib.Core.Path.{sym, ◌∙◌, ap, subst}
 use Rattle.grammar.specs.declared.Refusal.{Refusal}
 use Rattle.convert.specs.Conversion.{Converts}
 use Rattle.std.{specs.Prelude.{Result, Err}, proofs.lemmas.Result.err_from_is_err_and}
-use Rattle.convert.proofs.{Copying.{refused_copied, length_written, result_within, copied_or}}
+use Rattle.convert.proofs.{Copying.{refused_copied, length_written, result_most, copied_or}}
 use Rattle.convert.proofs.convert.Goals as goal
 
 pub returns-in_err-n : goal.returns-in_err-n
@@ -17,4 +17,4 @@ pub returns : goal.returns
 returns c = copied_or (length_written c.write.ensures c.in_ok-n.was) c.put_text.ensures c.ok_or.ensures.value
 
 pub shared_ref_as_front-put_text : goal.shared_ref_as_front-put_text
-shared_ref_as_front-put_text c = result_within (length_written c.write.ensures c.in_ok-n.was)
+shared_ref_as_front-put_text c = result_most (length_written c.write.ensures c.in_ok-n.was)
