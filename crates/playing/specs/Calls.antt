@@ -39,3 +39,8 @@ more_to_play Finished = false
 more_to_play More = true
 more_to_play Short = false
 more_to_play Unfit = false
+
+-- calls of `play` lead from a checkpoint with the buffers p and q to the listing's end, where so much was counted
+pub record PlayedOn (journal : Bytes) (from : Checkpoint) (p q : Bytes) (k : Counts) : Type 0 where
+  pub texts : List Bytes
+  pub calls : PlaysOn journal from p q texts k

@@ -6,7 +6,7 @@ use lib.ListN.{length, take, drop, replicate}
 use Rattle.std.specs.Prelude.{Option, Result, Ok, Err}
 use Rattle.std.specs.Io.KnownBytes.{Appends}
 use Rattle.std.proofs.{Common.take-append-drop, KnownBytes.{Appends-nil, Appends-trans, Keeps-refl, Keeps-trans}}
-use Rattle.protocol.{specs.{Limits.opening_fits, Buffers.{Bytes, private_length, shared_length}, declared.Counts.Counts}, proofs.Tests.never}
+use Rattle.protocol.{specs.{Limits.opening_fits, Buffers.{Bytes, private_length, shared_length}, declared.Counts.Counts}, proofs.{Tests.never, Extents.{Inside, inside}}}
 use Rattle.driver.specs.{Play.{run_from, resumable, Plays, Tells, finished, more, unfit, Starts}, declared.Checkpoint.Checkpoint}
 use Rattle.driver.{specs.declared.{Progress.{Progress, TheVariants.{More}}, Played.Played}, proofs.{Resuming.resumes, Starting.start_fits}}
 use Rattle.playing.specs.{Listing.Listing, Calls.{joined, PlaysOn, last, next, over, begun, more_to_play}, Pieces.lines_of}
@@ -206,6 +206,9 @@ module _ {j out new : Bytes} {r : Played} (x : Starts j out new r) where
     -- then the engine that was opened fits
     pub whole_fits : more_to_play r.progress ≡ true → opening_fits r.checkpoint.state.opening ≡ true
     whole_fits e = start_fits x (whole_more e).0
+
+    pub whole_inside : more_to_play r.progress ≡ true → Inside r.checkpoint.state.opening
+    whole_inside e = inside r.checkpoint.state.opening (whole_fits e)
 
     -- the listing begins with what the first call wrote
     begins_in : {g : Progress} → Begun j r.checkpoint g → r.progress ≡ g → (rest : Bytes) × Listing j (take r.written new ++ rest)

@@ -42,6 +42,13 @@ given {old} {new} n r buffer e c t l =
       all = λ h. t'.1 (omega (arith, h, c'.1, l));
     }
 
+-- a text that was not written whole
+pub stopped_at :
+    {T : Type 0} {IsAnswer : Bytes → T → Bytes → Type 0} {old new before after : Option Bytes} {e : _} (journal text : Bytes) (v : T) → Given old new journal
+    → IsAnswer journal v text → GaveSome before after text → Runs IsAnswer old new before after (Err (Writing e))
+stopped_at {IsAnswer = IsAnswer} journal text v x a (n, h, g) =
+    unwritten journal (take n text) (drop n text) v x (subst (IsAnswer journal v) (sym (take-append-drop n text)) a) g
+
 module _ {T : Type 0} {IsAnswer : Bytes → T → Bytes → Type 0} {old new : Option Bytes} where
   -- a read that failed
   pub read_failed :
@@ -56,8 +63,7 @@ module _ {T : Type 0} {IsAnswer : Bytes → T → Bytes → Type 0} {old new : O
   write_stopped :
       {journal : Bytes} {before after : Option Bytes} (text : Bytes) (v : T) → Given old new journal → IsAnswer journal v text → {e : Error}
       → GaveSome before after text → Runs IsAnswer old new before after (Err (Writing e))
-  write_stopped {journal} text v x a (n, h, b) =
-      unwritten journal (take n text) (drop n text) v x (subst (IsAnswer journal v) (sym (take-append-drop n text)) a) b
+  write_stopped {journal} text v x a b = stopped_at journal text v x a b
 
   module _ {journal : Bytes} (text : Bytes) (v : T) {before after : Option Bytes} (x : Given old new journal) (a : IsAnswer journal v text) where
     pub written : {U : Type 0} (r : Result U Error) (u : U) → Named Writing r (Ok u) → Gave before after r text → Runs IsAnswer old new before after (Ok v)

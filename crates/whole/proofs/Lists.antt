@@ -99,7 +99,7 @@ module _ {j old mid : Bytes} {r : Played} (x : Starts j old mid r) {p q p' q' pa
   head_length : length (take r.written mid) ≡ r.written
   head_length = length-take-le r.written mid x.fills.within
 
-  new_length : length new ≡ length old
+  pub new_length : length new ≡ length old
   new_length =
       omega (
         arith,
@@ -113,9 +113,15 @@ module _ {j old mid : Bytes} {r : Played} (x : Starts j old mid r) {p q p' q' pa
         x.fills.within,
       )
 
-  -- both texts have room
-  rest_within : s.written ≤ k
+  -- both texts have room, and what is left tells where they end
+  pub rest_within : s.written ≤ k
   rest_within = omega (arith, y.fills.within, part_length)
+
+  pub left_within : k - s.written ≤ length new
+  left_within = omega (arith, new_length, x.fills.size)
+
+  end_is : length new - (k - s.written) ≡ r.written + s.written
+  end_is = omega (arith, new_length, x.fills.size, x.fills.within, rest_within)
 
   text_both : take (r.written + s.written) new ≡ take r.written mid ++ take s.written part
   text_both =
