@@ -48,7 +48,11 @@ pub data LineOf (rows : List Row) (s : List ℕ) : Result Line Refusal → Type 
   -- no refusal: the line spells the answer
   spelt : {a : Line} → length s ≤ 200 → Spelt rows s a → LineOf rows s (Ok a)
 
--- 01's number of an answer: a refusal's own, and 0 for a line that is read
+-- 01's number of an answer: that of what refuses the line, by the numbers of such refusals, and 0 for a line that is read
+abbrev pub number_by : {R : Type 0} → (R → ℕ) → Result Line R → ℕ
+number_by n (Ok line) = 0
+number_by n (Err refusal) = n refusal
+
+-- the same of the grammar's own answer, whose refusals have 01's numbers
 abbrev pub number_of : Result Line Refusal → ℕ
-number_of (Ok line) = 0
-number_of (Err refusal) = number refusal
+number_of a = number_by number a

@@ -6,9 +6,9 @@
 // of the table. Texts are named where they are compared, as constants: a text that is looked up by its key makes `steps` 3 % slower.
 #![tactic(auto)]
 
-ghost use Rattle.std.specs.Prelude.{◌≡◌, ◌≤◌, ◌<◌, length, drop};
+ghost use Rattle.std.specs.Prelude.{ℕ, ◌≡◌, ◌≤◌, ◌<◌, length, drop};
 ghost use Rattle.grammar.specs.Scan.{tag_of, RowAt, form_of, key_text, field_parts, texted, key_value, After, ValueRead, Reads, FoundIn, answer_of, cap_of, Called};
-ghost use Rattle.grammar.specs.{Table.{rows_of, number_count, step_count, row_count, range_of}, Line.{LineOf, number_of}, Refusal.number};
+ghost use Rattle.grammar.specs.{Table.{rows_of, number_count, step_count, row_count, range_of}, Line.{LineOf, number_by}, Refusal.number};
 
 use protocol::{Call, Given, Opening};
 use std::ops::Range;
@@ -38,6 +38,32 @@ impl Refusal {
         ensures { result ≡ number self }
     {
         self as u8
+    }
+}
+
+// What can stand for a refusal where it is told as a number: a refusal of the grammar's, or a number, which stands for itself.
+pub trait Numbered {
+    // The number of a value.
+    ghost numbered: { Self → ℕ };
+
+    // The number.
+    fn as_number(self) -> u32
+        ensures { result ≡ numbered self };
+}
+
+impl Numbered for Refusal {
+    ghost numbered = { number };
+
+    fn as_number(self) -> u32 {
+        u32::from(self.number())
+    }
+}
+
+impl Numbered for u32 {
+    ghost numbered = { λ n. n };
+
+    fn as_number(self) -> u32 {
+        self
     }
 }
 
@@ -333,12 +359,13 @@ pub fn read_line(line: &[u8], form: u32) -> Result<Line, Refusal>
     }
 }
 
-// The scope's number of an answer: a refusal's own, and 0 for a line that is read. It is what C gets.
-pub fn number_of(line: Result<Line, Refusal>) -> u32
-    ensures { result ≡ number_of line }
+// The scope's number of an answer: that of what refuses the line, and 0 for a line that is read. It is what C gets. It is promised for
+// every number, not only for those of the grammar's own refusals.
+pub fn number_of<R: Numbered>(line: Result<Line, R>) -> u32
+    ensures { result ≡ number_by R.numbered line }
 {
     match line {
         Ok(_) => 0,
-        Err(refusal) => u32::from(refusal.number()),
+        Err(refusal) => refusal.as_number(),
     }
 }
