@@ -60,7 +60,7 @@ pub fn load(c: usize, l: usize, pieces: Pieces) -> Effect
     let before = core.clocks;
     let kind = Kind::Load { line: l };
     match pieces.copy {
-        Copy::Shared { wts, rts } if before.lts <= rts => {
+        Copy::Shared { wts, rts } if before.lts.at_most(rts) => {
             let clocks = before.load(wts);
             Effect {
                 core: core.clocked(clocks),

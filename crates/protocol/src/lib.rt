@@ -60,7 +60,7 @@ impl Stamp {
     pub fn later(self, other: Stamp) -> Stamp
         ensures { result ≡ later self other }
     {
-        self.max(other)
+        if self.earlier(other) { other } else { self }
     }
 
     // The timestamp n later, or None where it passes the greatest (refusal 27).
@@ -85,7 +85,7 @@ impl Key {
     pub fn precedes(self, other: Key) -> bool
         ensures { result ≡ precedes self other }
     {
-        self < other
+        self.0.earlier(other.0) || self.0.same(other.0) && self.1.made_earlier(other.1)
     }
 }
 

@@ -36,7 +36,9 @@ fn rts_of(copy: Copy) -> Stamp
 fn ranks_below(copy: Copy, line: usize, found: Copy, at: usize) -> bool
     ensures { result ≡ below (rank_of copy line) (rank_of found at) }
 {
-    (rts_of(copy), line) < (rts_of(found), at)
+    let rts = rts_of(copy);
+    let least = rts_of(found);
+    rts.earlier(least) || rts.same(least) && line < at
 }
 
 // One copy more; a core has no more than MOST_LINES.

@@ -23,7 +23,7 @@ fn recall_after(want: Want, recall: Recall) -> Recall
 fn same_version(held: Option<Stamp>, wts: Stamp) -> bool
     ensures { result ≡ same_version held wts }
 {
-    held == Some(wts)
+    matches!(held, Some(version) if version.same(wts))
 }
 
 // A load served on a shared line, whose lease now ends at rts: renew where the version is the same,
