@@ -71,14 +71,14 @@ fn line_by(line: Which, slot: Slot, victim: usize) -> usize
 }
 
 // The line that a call names.
-fn named_line(about: About, opening: Opening) -> usize
+pub fn named_line(about: About, opening: Opening) -> usize
     ensures { Found (named_line about.line) opening.lines most_lines result }
 {
     found(named(about.line), opening.lines, Opening::MOST_LINES)
 }
 
 // The core that a call is about, by who has the line that it names.
-fn core_of(about: About, manager: Manager, opening: Opening) -> usize
+pub fn core_of(about: About, manager: Manager, opening: Opening) -> usize
     ensures { Found (the_core about.core manager) opening.cores most_cores result }
 {
     found(
@@ -89,7 +89,7 @@ fn core_of(about: About, manager: Manager, opening: Opening) -> usize
 }
 
 // How many lines a call goes through to look over its core's copies, from line 0 on: all of the opening's, or none.
-fn looked_over(about: About, opening: Opening) -> usize
+pub fn looked_over(about: About, opening: Opening) -> usize
     ensures { Top about.line opening result }
 {
     let lines = opening.lines;
@@ -101,7 +101,7 @@ fn looked_over(about: About, opening: Opening) -> usize
 }
 
 // The line that a call is about, by its core's slot and victim.
-fn line_of(about: About, slot: Slot, victim: usize, opening: Opening) -> usize
+pub fn line_of(about: About, slot: Slot, victim: usize, opening: Opening) -> usize
     ensures { Found (the_line about.line slot victim) opening.lines most_lines result }
 {
     found(

@@ -16,6 +16,7 @@ ghost use Rattle.std.specs.Prelude.{◌≡◌};
 ghost use Rattle.protocol.specs.Tables.{effect_of};
 ghost use Rattle.tables.specs.{Found.effect_with, Spans.span_of};
 
+pub use about::{core_of, line_of, looked_over, named_line};
 pub use copies::{Look, is_held};
 use protocol::{Answer, Call, Effect, Kind, Opening, Pieces};
 pub use seen::Seen;
