@@ -11,22 +11,23 @@ use Rattle.protocol.specs.{Refusals.{machine_refusal, call_rules, call_refusal},
 use Rattle.protocol.specs.declared.{Opening.Opening as Sizes, State.State, About.About, Effect.Effect}
 use Rattle.protocol.specs.declared.Answer.{Answer, TheVariants.{Refused as RefusedWith, Done, Commit}}
 use Rattle.protocol.specs.declared.Call.{Call, TheVariants.{Load, Store, Fence, Evict, Drop, Writeback, Advance, Serve, Receive, Yield, Take, Victim}}
+use Rattle.protocol.specs.declared.Which.{Which, TheVariants.{Named as NamedLine, Asked, Answered, Nothing, Victim as OfVictim}}
 use Rattle.protocol.proofs.{Tests.never, Keep.still, Extents.inside}
 use Rattle.refusals.specs.Input.{input_refusal, applies}
-use Rattle.tables.{specs.{declared.seen.Seen.Seen, Found.{effect_with}, Seen.{core_seen, line_seen, pieces_seen, Sees}}, proofs.Making.{found_there, is_step}}
+use Rattle.tables.{specs.{declared.seen.Seen.Seen, Found.{effect_with}, Look.looks_over, Seen.{core_seen, line_seen, pieces_seen, Sees}}, proofs.Making.{found_there, is_step}}
 use Rattle.spelling.specs.Text.{text}
 use Rattle.grammar.specs.Form.{lay, spellings}
-use Rattle.std.specs.Prelude.{Option, Some, None, is_some, Result, Ok, Err}
+use Rattle.std.specs.{Prelude.{Option, Some, None, is_some, Result, Ok, Err}, Option.option_or}
 use Rattle.grammar.specs.declared.Refusal.{Refusal, TheVariants.{TooMuch, Unlike}}
 use Rattle.journal.specs.{Journal.{NextOf}, declared.Item.TheVariants.{Opening, Step}}
 use Rattle.driver.{specs.Listing.{Between, no_line, a_line, at_end, at_refusal}, proofs.{Reading.known, Running.{steps_append}}}
 use Rattle.convert.specs.{Spelling.{step_line, step_lines}, Forms.{owns_copy, in_form, converted}}
 use Rattle.convert.specs.Conversion.{form_from, Reads, later_line, is_victim, answers, is_unlike, unlike, result_of, most_bytes, refusal_of, answer_by}
-use Rattle.convert.specs.Writing.{Holds, Appends, change_of_evict, change_of, changed, skip_of, owns_with, refuses, unlike_step, opening_refusal, FirstWritten, Writes, malformed, reads, last_answer}
+use Rattle.convert.specs.Writing.{Holds, Appends, change_of_evict, change_of, changed, skip_of, owns_with, refuses, victim_refusal, unlike_answer, opening_refusal, FirstWritten, Writes, malformed, reads, last_answer}
 use Rattle.convert.specs.declared.{text.Text.Text, To.{To, TheVariants.{First, Second}}, Change.TheVariants.{FromDrop, FromWriteback}}
 use Rattle.convert.proofs.Appending.{holds_end, holds_past, holds_more, holds_same}
 use Rattle.convert.proofs.Lines.{StepAt, step_at, line_part}
-use Rattle.convert.proofs.Longer.{after, more, after_more, newest, result_more, refusal_so_far, Passed, so_far_passed, so_far, so_far_none, unlike_now, like_still, so_far_still, fresh_fits}
+use Rattle.convert.proofs.Longer.{after, more, after_more, newest, result_more, refusal_so_far, passed, Passed, so_far_passed, so_far, so_far_none, unlike_now, like_still, so_far_still, fresh_fits}
 
 -- the form of the journal that is converted is one
 pub form_named : (to : To) → form_from to ≡ 0 → ⊥
@@ -37,6 +38,15 @@ form_named Second e = omega arith
 pub none_found : (n : Option Refusal) → false ≡ is_some n → n ≡ None
 none_found None e = refl
 none_found (Some r) e = never (sym e)
+
+-- where none was found so far, nor by the line
+pub none_before : (n v : Option Refusal) {k : Option Refusal} → k ≡ option_or n v → false ≡ is_some k → n ≡ None
+none_before None v e h = refl
+none_before (Some r) v e h = never (sym (h ∙ ap is_some e))
+
+pub none_of_line : (n v : Option Refusal) {k : Option Refusal} → k ≡ option_or n v → false ≡ is_some k → v ≡ None
+none_of_line None v e h = none_found v (h ∙ ap is_some e)
+none_of_line (Some r) v e h = never (sym (h ∙ ap is_some e))
 
 -- ---- what holds at the loop's head
 
@@ -155,6 +165,46 @@ module _ {to : To} {j : Bytes} {o : Sizes} {from at : ℕ} {s : State} {out : Te
           number = g.number ∙ so_far_still o g.gs call digits to (λ z. h (g.number ∙ z));
           good = λ z. absurd (h z);
         }
+
+    -- it is a victim step, which form 1 can't have
+    victim_made : n ≡ None → to ≡ First → is_victim (about call).line ≡ true → Reached to j o from next s out (Some Unlike)
+    victim_made z i v =
+        let more_steps = more g.gs call digits in
+        let now = ap (λ (t : To). unlike t o more_steps) i ∙ unlike_now o g.gs call digits (rw v refl) in
+        record {
+          first = g.first;
+          gs = more_steps;
+          steps = steps_more;
+          number = sym (so_far to o more_steps true (passes z).fits now);
+          good = λ y. absurd (let q : ◌≡◌ {A = ℕ} 0 1 = cc in omega arith);
+        }
+
+    -- it is only read, where 7 or 32 applies so far, or 32 by its line alone
+    pub refused_by_line :
+        {w : About} {k : Option Refusal} → w ≡ about call → k ≡ option_or n (victim_refusal to w.line) → (k ≡ None → ⊥) → Reached to j o from next s out k
+    refused_by_line {w} {k} ew e h = go n refl to refl
+      where
+        by_victim : (b : Bool) → is_victim w.line ≡ b → n ≡ None → to ≡ First → Reached to j o from next s out k
+        by_victim true v z i =
+            subst (Reached to j o from next s out) (sym (e ∙ rw (z, i, v) refl)) (victim_made z i (ap (λ (y : About). is_victim y.line) (sym ew) ∙ v))
+        by_victim false v z i = absurd (h (e ∙ rw (z, i, v) refl))
+
+        go : (m : Option Refusal) → n ≡ m → (t : To) → to ≡ t → Reached to j o from next s out k
+        go (Some r) z t i =
+            subst (Reached to j o from next s out) (z ∙ sym (e ∙ ap (λ (m : Option Refusal). option_or m (victim_refusal to w.line)) z))
+            (passed_over (λ y. let q : ◌≡◌ {A = ℕ} 0 1 = cc in omega arith))
+        go None z Second i = absurd (h (e ∙ rw (z, i) refl))
+        go None z First i = by_victim (is_victim w.line) refl z i
+
+-- ---- a core's copies
+
+-- a call that is not about a victim does not look over its core's copies, where cap is lines
+pub not_over : (w : Which) (o : Sizes) → o.cap ≡ o.lines → is_victim w ≡ false → looks_over w o ≡ false
+not_over (NamedLine l) o e h = refl
+not_over Asked o e h = refl
+not_over Answered o e h = rw e (le-ltb o.lines o.lines (omega arith))
+not_over Nothing o e h = refl
+not_over OfVictim o e h = never h
 
 -- ---- a line in the other form
 
@@ -336,6 +386,7 @@ pub record StepInPlace (to : To) (j : Bytes) (o : Sizes) (from : ℕ) : Type 0 w
   pub d : Effect
   pub reached : Reached to j o from at s out n
   pub none : n ≡ None
+  pub plain : victim_refusal to w.line ≡ None
   pub line : NextOf j at (form_from to) (Ok (Some (Step call start end next)))
   pub about : w ≡ about call
   pub number : k ≡ applies (call_refusal call o ((end - start) / 2))
@@ -385,12 +436,20 @@ module _ {to : To} {j : Bytes} {o : Sizes} {from : ℕ} (x : StepInPlace to j o 
 
   -- ---- 32
 
+  -- it is not about a victim: 32 would apply to it, or its form has no such step
+  no_victim : is_victim x.w.line ≡ false
+  no_victim = go to refl
+    where
+      go : (t : To) → to ≡ t → is_victim x.w.line ≡ false
+      go Second e = rw x.about (spelt.spelt.plain (ap form_from e))
+      go First e = (passed (is_victim x.w.line) Unlike None (subst (λ (t : To). victim_refusal t x.w.line ≡ None) e x.plain)).0
+
   -- the records say what the step's answer says
-  unlike_is : is_victim x.w.line ≡ false → is_unlike (newest o gs x.call given) ≡ refuses 30 x.d.answer
-  unlike_is h = rw (← x.about, h) answer_is
+  unlike_is : is_unlike (newest o gs x.call given) ≡ refuses 30 x.d.answer
+  unlike_is = rw (← x.about, no_victim) answer_is
 
   -- the step is one that form 1 can't have
-  pub unlike_made : unlike_step to x.w.line x.d.answer ≡ true → Reached to j o from x.next x.s x.out (Some Unlike)
+  pub unlike_made : unlike_answer to x.d.answer ≡ true → Reached to j o from x.next x.s x.out (Some Unlike)
   unlike_made h =
       record {
         first = x.reached.first;
@@ -400,39 +459,21 @@ module _ {to : To} {j : Bytes} {o : Sizes} {from : ℕ} (x : StepInPlace to j o 
         good = λ z. absurd (let q : ◌≡◌ {A = ℕ} 0 1 = cc in omega arith);
       }
     where
-      -- it is a victim step, or answers 30
-      by : (b : Bool) → is_victim x.w.line ≡ b → pick b true (refuses 30 x.d.answer) ≡ true → is_unlike (newest o gs x.call given) ≡ true
-      by true v i = rw (← x.about, v) refl
-      by false v i = unlike_is v ∙ i
-
-      now : (t : To) → to ≡ t → unlike_step t x.w.line x.d.answer ≡ true → unlike to o (more gs x.call given) ≡ true
+      now : (t : To) → to ≡ t → unlike_answer t x.d.answer ≡ true → unlike to o (more gs x.call given) ≡ true
       now Second e i = never (sym i)
-      now First e i =
-          ap (λ (t : To). unlike t o (more gs x.call given)) e ∙ unlike_now o gs x.call given (by (is_victim x.w.line) refl i)
+      now First e i = ap (λ (t : To). unlike t o (more gs x.call given)) e ∙ unlike_now o gs x.call given (unlike_is ∙ i)
 
   -- ---- the step is made
 
-  module _ (h : unlike_step to x.w.line x.d.answer ≡ false) where
-    -- it is not about a victim, and does not answer 30 where form 1 can't have that
-    plain : (t : To) → to ≡ t → is_victim x.w.line ≡ false
-    plain Second e = rw x.about (spelt.spelt.plain (ap form_from e))
-    plain First e = go (is_victim x.w.line) refl (subst (λ (t : To). unlike_step t x.w.line x.d.answer ≡ false) e h)
-      where
-        go : (b : Bool) → is_victim x.w.line ≡ b → pick b true (refuses 30 x.d.answer) ≡ false → is_victim x.w.line ≡ false
-        go true v i = never i
-        go false v i = v
-
-    abbrev no_victim_lem : is_victim x.w.line ≡ false
-    no_victim_lem = plain to refl
-
+  module _ (h : unlike_answer to x.d.answer ≡ false) where
+    -- it does not answer 30 where form 1 can't have that
     still_like : (t : To) → to ≡ t → unlike to o (more gs x.call given) ≡ false
     unfolding unlike
     still_like Second e = ap (λ (t : To). unlike t o (more gs x.call given)) e
     still_like First e =
         let q = subst (λ (t : To). unlike t o gs ≡ false) e passes_so_far.like in
-        let i : unlike_step First x.w.line x.d.answer ≡ false = subst (λ (t : To). unlike_step t x.w.line x.d.answer ≡ false) e h in
-        let r : refuses 30 x.d.answer ≡ false = rw no_victim_lem at i in
-        ap (λ (t : To). unlike t o (more gs x.call given)) e ∙ like_still o gs x.call given (unlike_is no_victim_lem ∙ r) ∙ q
+        let i : refuses 30 x.d.answer ≡ false = subst (λ (t : To). unlike_answer t x.d.answer ≡ false) e h in
+        ap (λ (t : To). unlike t o (more gs x.call given)) e ∙ like_still o gs x.call given (unlike_is ∙ i) ∙ q
 
     -- its line, as it is in the journal
     line_is : part j x.at (x.next - x.at) ≡ ended_line x.call given
@@ -448,17 +489,17 @@ module _ {to : To} {j : Bytes} {o : Sizes} {from : ℕ} (x : StepInPlace to j o 
           rw eb (owns_right o x.s good.opening passes_so_far.fits x.call _ x.number x.sees)
 
       pub step_made :
-          {new : Text} → Appends x.out (changed (change_of to x.call b) (part j x.at (x.next - x.at))) new
-          → Reached to j o from x.next (written x.s x.y.core x.y.pieces.number x.d) new x.n
-      step_made {new} a =
+          {new : Text} {k : Option Refusal} → Appends x.out (changed (change_of to x.call b) (part j x.at (x.next - x.at))) new → k ≡ None
+          → Reached to j o from x.next (written x.s x.y.core x.y.pieces.number x.d) new k
+      step_made {new} a z =
           let e : changed (change_of to x.call b) (part j x.at (x.next - x.at)) ≡ ended_line (in_form to m.state x.call) given =
           rw (line_is, good.state) (line_changed to x.s x.call given b owns_is) in
           record {
             first = x.reached.first;
             gs = more gs x.call given;
             steps = steps_more x.reached x.line;
-            number = x.none ∙ sym (so_far to o (more gs x.call given) false passes_so_far.fits (still_like to refl));
-            good = λ z. record {
+            number = z ∙ sym (so_far to o (more gs x.call given) false passes_so_far.fits (still_like to refl));
+            good = λ y. record {
               state = ap (λ (y : Machine). y.state) (after_more o gs x.call given) ∙ state_is;
               opening = good.opening;
               fit = rw (after_more o gs x.call given) (sym (still m x.call given) ∙ good.fit);

@@ -101,10 +101,15 @@ refuses n (RefusedWith k) = eqb k n
 refuses n (Done d) = false
 refuses n (Commit c t k) = false
 
--- 32 of a step, from 2 to 1
-abbrev pub unlike_step : To → Which → Answer → Bool
-unlike_step First w a = pick (is_victim w) true (refuses 30 a)
-unlike_step Second w a = false
+-- 32 of a step by its line alone, from 2 to 1
+abbrev pub victim_refusal : To → Which → Option Refusal
+victim_refusal First w = pick (is_victim w) (Some Unlike) None
+victim_refusal Second w = None
+
+-- 32 of a step by what it answers, from 2 to 1
+abbrev pub unlike_answer : To → Answer → Bool
+unlike_answer First a = refuses 30 a
+unlike_answer Second a = false
 
 -- 7 and 32 of an opening
 abbrev pub other_cap : To → Sizes → Bool

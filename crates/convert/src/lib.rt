@@ -93,16 +93,18 @@ fn write_steps(
                 end,
                 next,
             } => {
+                // What is 32 by its line alone comes first, so no core's copies are gone through.
+                let which = call.about().line;
+                refusal = refusal.or(writing::victim_refusal(to, which));
                 if refusal.is_some() {
                     at = next;
                     continue;
                 }
                 // The effect of the step on what it sees, as in the driver.
-                let which = call.about().line;
                 let number = refusals::call_refusal(call, opening, (end - start) / 2);
                 let seen = Seen::of(call, &s);
                 let effect = tables::effect(number, call, seen.pieces, opening);
-                if writing::unlike_step(to, which, effect.answer) {
+                if writing::unlike_answer(to, effect.answer) {
                     refusal = Some(Refusal::Unlike);
                     at = next;
                     continue;

@@ -2,7 +2,7 @@
 ghost use mathlib.Core.Path.{◌≡◌};
 ghost use Rattle.protocol.specs.Copies.{is_owned};
 ghost use Rattle.convert.specs.Conversion.{is_victim};
-ghost use Rattle.convert.specs.Writing.{change_to_first, change_of_evict, change_to_second, change_of, owns_with, refuses, unlike_step, other_cap, opening_refusal, last_answer};
+ghost use Rattle.convert.specs.Writing.{change_to_first, change_of_evict, change_to_second, change_of, owns_with, refuses, victim_refusal, unlike_answer, other_cap, opening_refusal, last_answer};
 
 use super::{Change, To};
 use grammar::Refusal;
@@ -82,11 +82,21 @@ fn refuses(number: u8, answer: Answer) -> bool
     matches!(answer, Answer::Refused(n) if n == number)
 }
 
-// 32 of a step: `fabric=1` has no victim, and no step that answers 30.
-pub(crate) fn unlike_step(to: To, line: Which, answer: Answer) -> bool
-    ensures { result ≡ unlike_step to line answer }
+// 32 of a step by its line: `fabric=1` has no victim.
+pub(crate) fn victim_refusal(to: To, line: Which) -> Option<Refusal>
+    ensures { result ≡ victim_refusal to line }
 {
-    matches!(to, To::First) && (is_victim(line) || refuses(30, answer))
+    if matches!(to, To::First) && is_victim(line) {
+        return Some(Refusal::Unlike);
+    }
+    None
+}
+
+// 32 of a step by what it answers: `fabric=1` has no step that answers 30.
+pub(crate) fn unlike_answer(to: To, answer: Answer) -> bool
+    ensures { result ≡ unlike_answer to answer }
+{
+    matches!(to, To::First) && refuses(30, answer)
 }
 
 // 32 of an opening: in `fabric=1` the capacity is the number of lines.

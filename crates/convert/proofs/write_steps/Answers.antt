@@ -3,13 +3,13 @@ use Prim.Native.Nat.{ℕ, ◌≤◌, ◌<◌}
 use mathlib.Core.Path.{sym, ◌∙◌, ap, subst}
 use native.Mathlib.Omega.{arith}
 use lib.ListN.{length}
-use Rattle.std.{specs.Prelude.{is_some, Ok, Err}, proofs.lemmas.Result.err_from_is_err_and}
+use Rattle.std.{specs.{Prelude.{is_some, Ok, Err}, Option.option_or}, proofs.lemmas.Result.err_from_is_err_and}
 use Rattle.protocol.proofs.Tests.{never}
 use Rattle.journal.{specs.Journal.NextOf, proofs.Lines.{item_found, end_found}}
 use Rattle.driver.proofs.Reading.{known}
 use Rattle.convert.specs.Conversion.{form_from}
 use Rattle.convert.specs.Writing.{Writes}
-use Rattle.convert.proofs.Loop.{reached_start, none_found, form_named, later_line_lem, ends_with, passed_over, StepInPlace, unlike_made, skips, step_made}
+use Rattle.convert.proofs.Loop.{reached_start, none_found, form_named, later_line_lem, ends_with, refused_by_line, none_before, none_of_line, StepInPlace, unlike_made, skips, step_made}
 use Rattle.convert.proofs.write_steps.Goals as goal
 use Rattle.convert.proofs.write_steps.Goals.{After-effect-effect, In_ok-item}
 
@@ -39,8 +39,8 @@ returns-in_err-item c =
 
 pub loop-item-preserved-then-is_some : goal.loop-item-preserved-then-is_some
 loop-item-preserved-then-is_some c =
-    passed_over c.loop-item.invariant (item_found (at_offset (goal.at.loop-item-preserved-then-is_some c).In_ok-item) c.in-Some.is c.in-Step.is)
-    (λ e. never (c.if-is_some.ensures ∙ ap is_some e))
+    refused_by_line c.loop-item.invariant (item_found (at_offset (goal.at.loop-item-preserved-then-is_some c).In_ok-item) c.in-Some.is c.in-Step.is)
+    c.about-which.ensures (c.or-refusal.ensures ∙ ap (option_or c.loop-item.refusal) c.victim_refusal.ensures) (λ e. never (c.if-is_some.ensures ∙ ap is_some e))
 
 -- its digits start before they end
 pub overflow_sub-end : goal.overflow_sub-end
@@ -63,7 +63,8 @@ made c =
       y = _;
       d = _;
       reached = c.loop-item.invariant;
-      none = none_found c.loop-item.refusal c.if-is_some.ensures;
+      none = none_before c.loop-item.refusal _ c.or-refusal.ensures c.if-is_some.ensures;
+      plain = sym c.victim_refusal.ensures ∙ none_of_line c.loop-item.refusal _ c.or-refusal.ensures c.if-is_some.ensures;
       line =
           item_found (subst (λ (f : ℕ). NextOf c.args.journal.now c.loop-item.at f (Ok c.in_ok-item.field-0)) c.form_from-form.ensures c.in_ok-item.ensures)
           c.in-Some.is c.in-Step.is;
@@ -78,16 +79,16 @@ further : (c : After-effect-effect)
     → (let m = made c in (m.at < m.next) × (m.next ≤ length c.args.journal.now))
 further c = let k = (known (made c).line).1 in (k.forward, k.inside)
 
-pub loop-item-smaller-then-unlike_step : goal.loop-item-smaller-then-unlike_step
-loop-item-smaller-then-unlike_step c = let f = further (goal.at.loop-item-smaller-then-unlike_step c).After-effect-effect in omega arith
+pub loop-item-smaller-then-unlike_answer : goal.loop-item-smaller-then-unlike_answer
+loop-item-smaller-then-unlike_answer c = let f = further (goal.at.loop-item-smaller-then-unlike_answer c).After-effect-effect in omega arith
 
-pub loop-item-preserved-then-unlike_step : goal.loop-item-preserved-then-unlike_step
-loop-item-preserved-then-unlike_step c =
-    unlike_made (made (goal.at.loop-item-preserved-then-unlike_step c).After-effect-effect) (sym c.unlike_step.ensures ∙ c.if-unlike_step.true)
+pub loop-item-preserved-then-unlike_answer : goal.loop-item-preserved-then-unlike_answer
+loop-item-preserved-then-unlike_answer c =
+    unlike_made (made (goal.at.loop-item-preserved-then-unlike_answer c).After-effect-effect) (sym c.unlike_answer.ensures ∙ c.if-unlike_answer.true)
 
 pub put_line-requires : goal.put_line-requires
 put_line-requires c =
-    rw c.change_of-change.ensures (skips (made (goal.at.put_line-requires c).After-effect-effect) (sym c.unlike_step.ensures ∙ c.if-unlike_step.false) _ c.owns_with-owns.ensures)
+    rw c.change_of-change.ensures (skips (made (goal.at.put_line-requires c).After-effect-effect) (sym c.unlike_answer.ensures ∙ c.if-unlike_answer.false) _ c.owns_with-owns.ensures)
 
 pub loop-item-smaller : goal.loop-item-smaller
 loop-item-smaller c = let f = further (goal.at.loop-item-smaller c).After-effect-effect in omega arith
@@ -95,7 +96,8 @@ loop-item-smaller c = let f = further (goal.at.loop-item-smaller c).After-effect
 pub loop-item-preserved : goal.loop-item-preserved
 loop-item-preserved c =
     rw c.write_back.ensures
-    (step_made (made (goal.at.loop-item-preserved c).After-effect-effect) (sym c.unlike_step.ensures ∙ c.if-unlike_step.false) _ c.owns_with-owns.ensures (rw c.change_of-change.ensures at c.put_line.ensures))
+    (step_made (made (goal.at.loop-item-preserved c).After-effect-effect) (sym c.unlike_answer.ensures ∙ c.if-unlike_answer.false) _ c.owns_with-owns.ensures (rw c.change_of-change.ensures at c.put_line.ensures)
+    (none_found _ c.if-is_some.ensures))
 
 pub slice_bounds-put_line-count : goal.slice_bounds-put_line-count
 slice_bounds-put_line-count c = let f = further (goal.at.slice_bounds-put_line-count c).After-effect-effect in omega arith
