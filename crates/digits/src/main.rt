@@ -90,18 +90,16 @@ impl Engine {
         &self.shared[..6 * self.width.bytes]
     }
 
-    // Makes a call of a kind.
-    fn make(self, kind: u8, core: usize, line: usize, digits: &[u8]) -> Engine {
-        let Engine {
-            width,
-            mut private,
-            mut shared,
-            last,
-        } = self;
-        let mut state = last.state;
-        let p = &mut private[..4 * width.bytes];
-        let q = &mut shared[..6 * width.bytes];
-        let last = match kind {
+    // Makes a call of a kind. The engine is changed in place, since by value it would be copied at every call; the buffers, which are small, are
+    // lent as copies that are put back.
+    fn make(&mut self, kind: u8, core: usize, line: usize, digits: &[u8]) {
+        let width = self.width.bytes;
+        let mut private = self.private;
+        let mut shared = self.shared;
+        let mut state = self.last.state;
+        let p = &mut private[..4 * width];
+        let q = &mut shared[..6 * width];
+        self.last = match kind {
             b'S' => engine::store_digits(state, p, q, core, line, digits),
             b'T' => engine::store_digits(state, &mut p[1..], q, core, line, digits),
             b'B' => {
@@ -112,12 +110,8 @@ impl Engine {
             }
             _ => engine::step(state, p, q, call_of(kind, core, line), b""),
         };
-        Engine {
-            width,
-            private,
-            shared,
-            last,
-        }
+        self.private = private;
+        self.shared = shared;
     }
 }
 
@@ -167,53 +161,50 @@ fn spell(n: usize) -> [u8; MOST_DIGITS]
 }
 
 // Plays the list, and prints each answer.
-fn play(rt: &impl Print, fresh: Engine) -> Engine {
-    let width = fresh.width;
-    let mut engine = fresh;
+fn play(rt: &impl Print, engine: &mut Engine) {
+    let width = engine.width;
     for (i, &[kind, core, line, which, _]) in LIST.as_chunks::<5>().0.iter().enumerate() {
         let mut digits = spell(width.bytes + i);
         if which == b'x' {
             digits[0] = b'g';
         }
-        engine = engine.make(
+        engine.make(
             kind,
             usize::from(core % 16),
             usize::from(line % 16),
             &digits[..width.digits(which)],
         );
-        print_record(rt, i as u64 + 1, &engine);
+        print_record(rt, i as u64 + 1, engine);
     }
-    engine
 }
 
 // Stores with one wrong digit, at each position of a line's in turn, and prints how many were refused with 13.
-fn one_wrong(rt: &impl Print, played: Engine) -> Engine {
-    let width = played.width;
-    let mut engine = played;
+fn one_wrong(rt: &impl Print, engine: &mut Engine) {
+    let width = engine.width;
     let count = 2 * width.bytes;
     let mut digits = spell(width.bytes + CALLS);
     let mut refused: usize = 0;
     for i in 0..count {
         let right = digits[i];
         digits[i] = b'g';
-        engine = engine.make(b'S', 1, 1, &digits[..count]);
+        engine.make(b'S', 1, 1, &digits[..count]);
         digits[i] = right;
         if matches!(engine.last.answer, Answer::Refused(13)) {
             refused += 1;
         }
     }
     let _ = println!(rt; "one wrong digit, refused=13: {refused}");
-    engine
 }
 
 // All of it at one width.
 fn at_width(rt: &impl Print, width: Width) {
     let bytes = width.bytes;
     let _ = println!(rt; "width={bytes}");
-    let played = play(rt, Engine::open(width));
-    let shown = engine::show(played.last.state, played.private(), played.shared(), 1, 1);
+    let mut engine = Engine::open(width);
+    play(rt, &mut engine);
+    let shown = engine::show(engine.last.state, engine.private(), engine.shared(), 1, 1);
     print_bytes(rt, b"shown data=", shown);
-    let engine = one_wrong(rt, played);
+    one_wrong(rt, &mut engine);
     print_bytes(rt, b"private data=", engine.private());
     print_bytes(rt, b"shared data=", engine.shared());
 }

@@ -1,7 +1,7 @@
 -- The parts of a line of text that is built back to front. Assumes nothing.
 use Rattle.std.specs.Prelude.{ℕ, ◌*◌, List, [], ◌++◌}
 use Rattle.spelling.specs.{Text.text, Decimal.decimal}
-use Rattle.protocol.specs.declared.{Name.{Name, TheVariants.Victim}, Given.{Given, TheVariants.{Bytes, Digits}}}
+use Rattle.protocol.specs.declared.Given.{Given, TheVariants.{Bytes, Digits}}
 
 -- how many digits data have: two a byte
 abbrev pub digit_count : Given → ℕ → ℕ
@@ -13,8 +13,3 @@ abbrev pub access : ℕ → List ℕ → ℕ → ℕ → ℕ → List ℕ → Li
 access n commit core line ts digits =
     text "n=" ++ decimal n ++ commit ++ decimal core ++ text " line=" ++ decimal line ++ text " ts=" ++ decimal ts ++ text " data=" ++ digits
     ++ text "\n"
-
--- the number behind the name of what was done: a victim's line
-abbrev pub victim_text : Name → List ℕ
-victim_text (Victim l) = decimal l
-victim_text _ = []

@@ -11,7 +11,7 @@ ghost use Rattle.protocol.specs.Step.{valued, meaning, fence};
 ghost use Rattle.protocol.specs.declared.Given.TheVariants.{Bytes};
 ghost use Rattle.spelling.specs.{Text.text, Over.PutAt};
 ghost use Rattle.listing.specs.Record.{name_text, done_text, refused_text, text_as, commit_text, record_as, end_text, tally_text};
-ghost use Rattle.listing.specs.Back.{digit_count, access, victim_text};
+ghost use Rattle.listing.specs.Back.{digit_count, access};
 
 mod back;
 
@@ -60,36 +60,29 @@ pub fn put_with_data(
     spelling::put_text(out, end, b"\n")
 }
 
-// The name of what was done, but for the number of a victim's line.
-fn word(name: Name) -> &'static [u8]
-    ensures text { name_text name ≡ result.now ++ victim_text name }
-    ensures short { length result.now ≤ 12 }
+// What was done, behind which the line ends: ` done=ask`. Each name's text is put as one constant, for speed.
+fn done(line: &mut Back<128>, name: Name)
+    requires { 50 ≤ line.old.start }
+    ensures text { drop line.new.start line.new.bytes ≡ text " done=" ++ name_text name ++ text "\n" ++ drop line.old.start line.old.bytes }
+    ensures start { line.old.start ≤ line.new.start + 40 }
 {
     match name {
-        Name::Open => b"open",
-        Name::Ask => b"ask",
-        Name::Recall => b"recall",
-        Name::Share => b"share",
-        Name::Renew => b"renew",
-        Name::Own => b"own",
-        Name::Drop => b"drop",
-        Name::Evict => b"evict",
-        Name::Advance => b"advance",
-        Name::Yield => b"yield",
-        Name::Take => b"take",
-        Name::Writeback => b"writeback",
-        Name::Victim { .. } => b"victim line=",
-    }
-}
-
-// The number of a victim's line, in front of a line.
-fn victim(line: &mut Back<128>, name: Name)
-    requires { 20 ≤ line.old.start }
-    ensures text { drop line.new.start line.new.bytes ≡ victim_text name ++ drop line.old.start line.old.bytes }
-    ensures start { line.old.start ≤ line.new.start + 20 }
-{
-    if let Name::Victim { line: number } = name {
-        line.number(number as u64);
+        Name::Open => line.text(b" done=open\n"),
+        Name::Ask => line.text(b" done=ask\n"),
+        Name::Recall => line.text(b" done=recall\n"),
+        Name::Share => line.text(b" done=share\n"),
+        Name::Renew => line.text(b" done=renew\n"),
+        Name::Own => line.text(b" done=own\n"),
+        Name::Drop => line.text(b" done=drop\n"),
+        Name::Evict => line.text(b" done=evict\n"),
+        Name::Advance => line.text(b" done=advance\n"),
+        Name::Yield => line.text(b" done=yield\n"),
+        Name::Take => line.text(b" done=take\n"),
+        Name::Writeback => line.text(b" done=writeback\n"),
+        Name::Victim { line: number } => {
+            line.text(b"\n");
+            line.field(b" done=victim line=", number as u64);
+        }
     }
 }
 
@@ -98,10 +91,7 @@ fn put_done(out: &mut [u8], at: usize, place: u64, name: Name) -> Option<usize>
     ensures { PutAt out.old at (done_text place name) out.new result }
 {
     let mut line: Back<128> = Back::new();
-    line.text(b"\n");
-    victim(&mut line, name);
-    line.text(word(name));
-    line.text(b" done=");
+    done(&mut line, name);
     line.field(b"n=", place);
     spelling::put_text(out, at, line.line())
 }
