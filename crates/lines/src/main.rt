@@ -47,7 +47,10 @@ fn read_journal<R: Read>(input: &mut R, journal: &mut [u8; 65537]) -> usize
     ensures { result ≤ length journal.new }
 {
     let mut done = 0;
-    while let Ok(n @ 1..) = input.read(&mut journal[done..]) {
+    while done < journal.len() {
+        let Ok(n @ 1..) = input.read(&mut journal[done..]) else {
+            break;
+        };
         done += n;
     }
     done
