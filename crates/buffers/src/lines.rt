@@ -44,7 +44,7 @@ pub(crate) fn move_line(dst: &mut [u8], at: usize, src: &[u8], from: usize, n: u
     put_line(dst, at, &src[from..from + n]);
 }
 
-// Copies the n bytes of buf from `from` over those from `to`, by way of a line of its own: the library has no `copy_within`.
+// Copies the n bytes of buf from `from` over those from `to`, by way of a line of its own.
 pub(crate) fn shift_line(buf: &mut [u8], to: usize, from: usize, n: usize)
     requires { (n ≤ most_width) × (from + n ≤ length buf.old) × (to + n ≤ length buf.old) }
     ensures { buf.new ≡ over buf.old to (part buf.old from n) }
