@@ -26,8 +26,8 @@ use Rattle.convert.specs.Conversion.{form_from, Reads, later_line, is_victim, an
 use Rattle.convert.specs.Writing.{Holds, Appends, change_of_evict, change_of, changed, skip_of, owns_with, refuses, victim_refusal, unlike_answer, opening_refusal, FirstWritten, Writes, malformed, reads, last_answer}
 use Rattle.convert.specs.declared.{text.Text.Text, To.{To, TheVariants.{First, Second}}, Change.TheVariants.{FromDrop, FromWriteback}}
 use Rattle.convert.proofs.Appending.{holds_end, holds_past, holds_more, holds_same}
-use Rattle.convert.proofs.Lines.{StepAt, step_at, line_part}
-use Rattle.convert.proofs.Longer.{after, more, after_more, newest, result_more, refusal_so_far, passed, Passed, so_far_passed, so_far, so_far_none, unlike_now, like_still, so_far_still, fresh_fits}
+use Rattle.convert.proofs.Lines.{StepAt, step_at, opening_cap, line_part}
+use Rattle.convert.proofs.Longer.{after, more, after_more, newest, result_more, refusal_so_far, passed, Passed, so_far_passed, so_far, so_far_none, unlike_now, like_still, so_far_still, fresh_fits, like_cap}
 
 -- the form of the journal that is converted is one
 pub form_named : (to : To) → form_from to ≡ 0 → ⊥
@@ -47,6 +47,16 @@ none_before (Some r) v e h = never (sym (h ∙ ap is_some e))
 pub none_of_line : (n v : Option Refusal) {k : Option Refusal} → k ≡ option_or n v → false ≡ is_some k → v ≡ None
 none_of_line None v e h = none_found v (h ∙ ap is_some e)
 none_of_line (Some r) v e h = never (sym (h ∙ ap is_some e))
+
+-- ---- a core's copies
+
+-- a call that is not about a victim does not look over its core's copies, where cap is lines
+pub not_over : (w : Which) (o : Sizes) → o.cap ≡ o.lines → is_victim w ≡ false → looks_over w o ≡ false
+not_over (NamedLine l) o e h = refl
+not_over Asked o e h = refl
+not_over Answered o e h = rw e (le-ltb o.lines o.lines (omega arith))
+not_over Nothing o e h = refl
+not_over OfVictim o e h = never h
 
 -- ---- what holds at the loop's head
 
@@ -196,15 +206,22 @@ module _ {to : To} {j : Bytes} {o : Sizes} {from at : ℕ} {s : State} {out : Te
         go None z Second i = absurd (h (e ∙ rw (z, i) refl))
         go None z First i = by_victim (is_victim w.line) refl z i
 
--- ---- a core's copies
+    -- it is not about a victim, where 32 does not apply by its line: form 1 has no such step
+    not_victim : {w : About} → w ≡ about call → victim_refusal to w.line ≡ None → is_victim w.line ≡ false
+    not_victim {w} ew v = go to refl
+      where
+        go : (t : To) → to ≡ t → is_victim w.line ≡ false
+        go Second e = rw ew ((step_at (form_from to) (form_named to) x).spelt.plain (ap form_from e))
+        go First e = (passed (is_victim w.line) Unlike None (subst (λ (t : To). victim_refusal t w.line ≡ None) e v)).0
 
--- a call that is not about a victim does not look over its core's copies, where cap is lines
-pub not_over : (w : Which) (o : Sizes) → o.cap ≡ o.lines → is_victim w ≡ false → looks_over w o ≡ false
-not_over (NamedLine l) o e h = refl
-not_over Asked o e h = refl
-not_over Answered o e h = rw e (le-ltb o.lines o.lines (omega arith))
-not_over Nothing o e h = refl
-not_over OfVictim o e h = never h
+    -- cap is lines, where 32 does not apply so far: a first line of form 1 has no other
+    lines_cap : n ≡ None → (t : To) → to ≡ t → o.cap ≡ o.lines
+    lines_cap z Second e = opening_cap (subst (λ (t : To). NextOf j 0 0 (Ok (Some (Opening (form_from t) o from)))) e g.first)
+    lines_cap z First e = like_cap o g.gs (subst (λ (t : To). unlike t o g.gs ≡ false) e (passes z).like)
+
+    -- so its call looks no copies over
+    pub unseen : {w : About} → w ≡ about call → n ≡ None → victim_refusal to w.line ≡ None → looks_over (about call).line s.opening ≡ false
+    unseen {w} ew z v = rw ((g.good z).opening, ← ew) (not_over w.line o (lines_cap z to refl) (not_victim ew v))
 
 -- ---- a line in the other form
 
@@ -436,13 +453,8 @@ module _ {to : To} {j : Bytes} {o : Sizes} {from : ℕ} (x : StepInPlace to j o 
 
   -- ---- 32
 
-  -- it is not about a victim: 32 would apply to it, or its form has no such step
   no_victim : is_victim x.w.line ≡ false
-  no_victim = go to refl
-    where
-      go : (t : To) → to ≡ t → is_victim x.w.line ≡ false
-      go Second e = rw x.about (spelt.spelt.plain (ap form_from e))
-      go First e = (passed (is_victim x.w.line) Unlike None (subst (λ (t : To). victim_refusal t x.w.line ≡ None) e x.plain)).0
+  no_victim = not_victim x.reached x.line x.about x.plain
 
   -- the records say what the step's answer says
   unlike_is : is_unlike (newest o gs x.call given) ≡ refuses 30 x.d.answer

@@ -1,7 +1,7 @@
 -- How a result is written, line by line, into a buffer of its greatest length: what the private functions promise. The public promises rest on
 -- `Conversion` alone.
 use Rattle.std.specs.{Prelude.{ℕ, ◌≤◌, Option, Some, None, Result, Ok, Err}, Option.ok_or}
-use mathlib.Core.{Path.◌≡◌, Bool.{Bool, true, false}, List.{List, [], ◌∷◌, ◌++◌}}
+use mathlib.Core.{Path.◌≡◌, Bool.{Bool, false}, List.{List, [], ◌∷◌, ◌++◌}}
 use lib.{Dec.{leb, eqb}, ListN.{length, take, drop}}
 use Rattle.protocol.specs.{Pick.{pick, fails}, Limits.opening_fits, Buffers.Bytes, Copies.is_owned}
 use Rattle.protocol.specs.declared.{Opening.Opening as Sizes, Copy.Copy, Which.Which, Answer.{Answer, TheVariants.{Refused as RefusedWith, Done, Commit}}}

@@ -10,14 +10,16 @@
 mod text;
 mod writing;
 
-ghost use Rattle.std.specs.Prelude.{◌≡◌, ◌+◌, []};
+ghost use Rattle.std.specs.Prelude.{◌≡◌, ◌+◌, [], false};
+ghost use Rattle.protocol.specs.About.{about};
+ghost use Rattle.tables.specs.{Look.{looks_over}, Seen.{Sees}};
 ghost use Rattle.journal.specs.Journal.{NextOf};
 ghost use Rattle.convert.specs.Conversion.{form_from, Malformed, Converts};
 ghost use Rattle.convert.specs.Writing.{Holds, FirstWritten, Writes};
 
 use grammar::Refusal;
 use journal::Item;
-use protocol::{Opening, State};
+use protocol::{Call, Opening, State};
 use tables::Seen;
 use text::Text;
 
@@ -64,6 +66,14 @@ fn digit_from(to: To) -> u8
     }
 }
 
+// What a step sees of a state. Its call looks no copies over, so none are gone through.
+fn seen_of(call: Call, state: &State) -> Seen
+    requires { looks_over (about call).line state.now.opening ≡ false }
+    ensures { Sees call state.now result }
+{
+    Seen::of(call, state)
+}
+
 // The journal from the line after the first on: its steps are made from the fresh state, and their lines are written in
 // the other form behind the first line. Where 7 or 32 applies, the lines that are left are only read, since one of them
 // may be malformed, which comes first.
@@ -102,7 +112,7 @@ fn write_steps(
                 }
                 // The effect of the step on what it sees, as in the driver.
                 let number = refusals::call_refusal(call, opening, (end - start) / 2);
-                let seen = Seen::of(call, &s);
+                let seen = seen_of(call, &s);
                 let effect = tables::effect(number, call, seen.pieces, opening);
                 if writing::unlike_answer(to, effect.answer) {
                     refusal = Some(Refusal::Unlike);

@@ -1,5 +1,5 @@
 -- The parts of a line of text that is built back to front. Assumes nothing.
-use Rattle.std.specs.Prelude.{ℕ, ◌*◌, List, [], ◌++◌}
+use Rattle.std.specs.Prelude.{ℕ, ◌*◌, List, ◌++◌}
 use Rattle.spelling.specs.{Text.text, Decimal.decimal}
 use Rattle.protocol.specs.declared.Given.{Given, TheVariants.{Bytes, Digits}}
 

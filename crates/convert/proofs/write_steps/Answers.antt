@@ -9,7 +9,7 @@ use Rattle.journal.{specs.Journal.NextOf, proofs.Lines.{item_found, end_found}}
 use Rattle.driver.proofs.Reading.{known}
 use Rattle.convert.specs.Conversion.{form_from}
 use Rattle.convert.specs.Writing.{Writes}
-use Rattle.convert.proofs.Loop.{reached_start, none_found, form_named, later_line_lem, ends_with, refused_by_line, none_before, none_of_line, StepInPlace, unlike_made, skips, step_made}
+use Rattle.convert.proofs.Loop.{reached_start, none_found, form_named, later_line_lem, ends_with, refused_by_line, none_before, none_of_line, unseen, StepInPlace, unlike_made, skips, step_made}
 use Rattle.convert.proofs.write_steps.Goals as goal
 use Rattle.convert.proofs.write_steps.Goals.{After-effect-effect, In_ok-item}
 
@@ -70,9 +70,15 @@ made c =
           c.in-Some.is c.in-Step.is;
       about = c.about-which.ensures;
       number = c.call_refusal-number.ensures;
-      sees = c.of-seen.ensures;
+      sees = c.seen_of-seen.ensures;
       effect = c.effect-effect.ensures;
     }
+
+pub seen_of-seen-requires : goal.seen_of-seen-requires
+seen_of-seen-requires c =
+    unseen c.loop-item.invariant (item_found (at_offset (goal.at.seen_of-seen-requires c).In_ok-item) c.in-Some.is c.in-Step.is) c.about-which.ensures
+    (none_before c.loop-item.refusal _ c.or-refusal.ensures c.if-is_some.ensures)
+    (sym c.victim_refusal.ensures ∙ none_of_line c.loop-item.refusal _ c.or-refusal.ensures c.if-is_some.ensures)
 
 -- the next line is further on in the journal
 further : (c : After-effect-effect)
